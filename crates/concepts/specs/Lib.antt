@@ -1,0 +1,8 @@
+-- The vocabulary: tests, lists, roles, concepts, sets of rows. Definitions apart from their laws.
+pub mod Tests
+pub mod Lists
+pub mod ListLaws
+pub mod Role
+pub mod Concept
+pub mod RowSet
+pub mod RowSetLaws

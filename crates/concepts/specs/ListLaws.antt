@@ -1,0 +1,153 @@
+-- Laws of Lists.
+--
+-- In order: `range`, `select`, `any`, `every`, `answers`, `first`; what stands in each, by membership.
+-- Not here: laws of `length`, `getD`, `_++_` (`lib.ListN`, `lib.Seq`).
+-- Assumes nothing.
+use mathlib.Core.Path.{_≡_, refl, sym, ap, _∙_, subst}
+use mathlib.Core.Bool.{Bool, true, false, not, _&&_, _||_}
+use mathlib.Core.List.{List, [], _∷_, List·Memᴰ, List·Memᴰ·head, List·Memᴰ·tail, List·Memᴰ·cases-cons, List·Memᴰ·not-nil}
+use mathlib.Core.Logic.{_⊎_, inl, inr}
+use mathlib.Core.Option.{Option, none, some}
+use Prim.Native.Nat.{ℕ, zero, suc, _+_, _≤_, _<_}
+use native.Mathlib.Nat.{not-suc-le-zero, le-of-suc-le-suc}
+use native.Mathlib.Decide.{ℕ-discrete}
+use native.Mathlib.Omega.{arith}
+use lib.Dec.{T, T-not, not-T}
+use lib.ListN.{length, getD}
+use Rattle.concepts.specs.Lists.{range, select, any, every, consAnswer, answers, first}
+use Rattle.concepts.specs.Tests.{or-cases, or-left, or-right, and-both, and-make, by-test, decide, as-true}
+
+-- ---- range
+
+pub length-range : (i n : ℕ) → length (range i n) ≡ n
+unfolding range
+length-range i zero = refl
+length-range i (suc n) = ap suc (length-range (suc i) n)
+
+pub getD-range : (i n k d : ℕ) → k < n → getD (range i n) k d ≡ i + k
+unfolding range
+getD-range i zero k d h = absurd (not-suc-le-zero h)
+getD-range i (suc n) zero d h = omega arith
+getD-range i (suc n) (suc k) d h = getD-range (suc i) n k d (le-of-suc-le-suc h) ∙ omega arith
+
+pub mem-range : (i n k : ℕ) → i ≤ k → k < i + n → List·Memᴰ k (range i n)
+unfolding range
+mem-range i zero k h l = absurd (omega arith)
+mem-range i (suc n) k h l = elim (ℕ-discrete k i) [
+  | yes e ↦ List·Memᴰ·head e
+  | no d ↦ List·Memᴰ·tail (mem-range (suc i) n k (omega arith) (omega arith))
+]
+
+pub range-mem : (i n k : ℕ) → List·Memᴰ k (range i n) → (i ≤ k) × (k < i + n)
+unfolding range
+range-mem i zero k m = absurd (List·Memᴰ·not-nil m)
+range-mem i (suc n) k m = elim (List·Memᴰ·cases-cons m) [
+  | inl e ↦ (omega arith, omega arith)
+  | inr u ↦ let (a, b) = range-mem (suc i) n k u in (omega arith, omega arith)
+]
+
+module _ {A : Type 0} where
+  -- ---- select
+
+  pub select-mem : (f : A → Bool) (xs : List A) (x : A) → List·Memᴰ x (select f xs) → List·Memᴰ x xs × T (f x)
+  unfolding select
+  select-mem f [] x m = absurd (List·Memᴰ·not-nil m)
+  select-mem f (y ∷ ys) x m =
+      by-test (λ (zs : List A). List·Memᴰ x zs → List·Memᴰ x (y ∷ ys) × T (f x)) (f y) (y ∷ select f ys) (select f ys)
+      (λ b u. elim (List·Memᴰ·cases-cons u) [
+        | inl e ↦ (List·Memᴰ·head e, rw e b)
+        | inr v ↦ let (p, q) = select-mem f ys x v in (List·Memᴰ·tail p, q)
+      ])
+      (λ b u. let (p, q) = select-mem f ys x u in (List·Memᴰ·tail p, q)) m
+
+  pub mem-select : (f : A → Bool) (xs : List A) (x : A) → List·Memᴰ x xs → T (f x) → List·Memᴰ x (select f xs)
+  unfolding select
+  mem-select f [] x m t = absurd (List·Memᴰ·not-nil m)
+  mem-select f (y ∷ ys) x m t =
+      by-test (λ (zs : List A). List·Memᴰ x zs) (f y) (y ∷ select f ys) (select f ys)
+      (λ b. elim (List·Memᴰ·cases-cons m) [
+        | inl e ↦ List·Memᴰ·head e
+        | inr v ↦ List·Memᴰ·tail (mem-select f ys x v t)
+      ])
+      (λ b. elim (List·Memᴰ·cases-cons m) [
+        | inl e ↦ absurd (T-not (f y) b (rw e at t))
+        | inr v ↦ mem-select f ys x v t
+      ])
+
+  -- ---- any, every
+
+  pub any-mem : (f : A → Bool) (xs : List A) (x : A) → List·Memᴰ x xs → T (f x) → T (any f xs)
+  unfolding any
+  any-mem f [] x m t = absurd (List·Memᴰ·not-nil m)
+  any-mem f (y ∷ ys) x m t = elim (List·Memᴰ·cases-cons m) [
+    | inl e ↦ or-left (f y) (any f ys) (rw e at t)
+    | inr v ↦ or-right (f y) (any f ys) (any-mem f ys x v t)
+  ]
+
+  pub mem-any : (f : A → Bool) (xs : List A) → T (any f xs) → (x : A) × List·Memᴰ x xs × T (f x)
+  unfolding any
+  mem-any f [] t = absurd t
+  mem-any f (y ∷ ys) t = elim (or-cases (f y) (any f ys) t) [
+    | inl p ↦ (y, List·Memᴰ·head refl, p)
+    | inr q ↦ let (x, m, u) = mem-any f ys q in (x, List·Memᴰ·tail m, u)
+  ]
+
+  pub not-any : (f : A → Bool) (xs : List A) (x : A) → T (not (any f xs)) → List·Memᴰ x xs → T (not (f x))
+  not-any f xs x n m = not-T (f x) (λ t. T-not (any f xs) n (any-mem f xs x m t))
+
+  pub every-mem : (f : A → Bool) (xs : List A) (x : A) → T (every f xs) → List·Memᴰ x xs → T (f x)
+  unfolding every
+  every-mem f [] x t m = absurd (List·Memᴰ·not-nil m)
+  every-mem f (y ∷ ys) x t m =
+      let (p, q) = and-both (f y) (every f ys) t in
+      elim (List·Memᴰ·cases-cons m) [ inl e ↦ rw e p | inr v ↦ every-mem f ys x q v ]
+
+module _ {A B : Type 0} where
+  -- ---- answers
+
+  pub mem-answers : (f : A → Option B) (xs : List A) (x : A) (y : B) → List·Memᴰ x xs → f x ≡ some y → List·Memᴰ y (answers f xs)
+  unfolding answers consAnswer
+  mem-answers f [] x y m e = absurd (List·Memᴰ·not-nil m)
+  mem-answers f (z ∷ zs) x y m e = elim (List·Memᴰ·cases-cons m) [
+    | inl p ↦ subst (λ (o : Option B). List·Memᴰ y (consAnswer o (answers f zs))) (sym e ∙ ap f p) (List·Memᴰ·head refl)
+    | inr v ↦ more (f z) (mem-answers f zs x y v e)
+  ]
+    where
+      more : (o : Option B) → List·Memᴰ y (answers f zs) → List·Memᴰ y (consAnswer o (answers f zs))
+      more none m = m
+      more (some w) m = List·Memᴰ·tail m
+
+  pub answers-mem : (f : A → Option B) (xs : List A) (y : B) → List·Memᴰ y (answers f xs) → (x : A) × List·Memᴰ x xs × (f x ≡ some y)
+  unfolding answers consAnswer
+  answers-mem f [] y m = absurd (List·Memᴰ·not-nil m)
+  answers-mem f (z ∷ zs) y m = from (f z) refl (answers-mem f zs y) m
+    where
+      from : (o : Option B) → f z ≡ o → (List·Memᴰ y (answers f zs) → (x : A) × List·Memᴰ x zs × (f x ≡ some y))
+          → List·Memᴰ y (consAnswer o (answers f zs)) → (x : A) × List·Memᴰ x (z ∷ zs) × (f x ≡ some y)
+      from none e ih m = let (x, u, q) = ih m in (x, List·Memᴰ·tail u, q)
+      from (some w) e ih m = elim (List·Memᴰ·cases-cons m) [
+        | inl p ↦ (z, List·Memᴰ·head refl, e ∙ ap some (sym p))
+        | inr v ↦ let (x, u, q) = ih v in (x, List·Memᴰ·tail u, q)
+      ]
+
+  -- ---- first
+
+  pub first-some : (f : A → Option B) (xs : List A) (y : B) → first f xs ≡ some y → (x : A) × List·Memᴰ x xs × (f x ≡ some y)
+  unfolding first
+  first-some f [] y e = let z : _≡_ {A = ℕ} 0 1 = cc in absurd (omega arith)
+  first-some f (z ∷ zs) y e = from (f z) refl (first-some f zs y) e
+    where
+      from : (o : Option B) → f z ≡ o → (first f zs ≡ some y → (x : A) × List·Memᴰ x zs × (f x ≡ some y))
+          → elim o [ none ↦ first f zs | some w ↦ some w ] ≡ some y → (x : A) × List·Memᴰ x (z ∷ zs) × (f x ≡ some y)
+      from none e ih q = let (x, u, p) = ih q in (x, List·Memᴰ·tail u, p)
+      from (some w) e ih q = (z, List·Memᴰ·head refl, e ∙ q)
+
+  pub first-none : (f : A → Option B) (xs : List A) (x : A) → first f xs ≡ none → List·Memᴰ x xs → f x ≡ none
+  unfolding first
+  first-none f [] x e m = absurd (List·Memᴰ·not-nil m)
+  first-none f (z ∷ zs) x e m = from (f z) refl (first-none f zs x) e
+    where
+      from : (o : Option B) → f z ≡ o → (first f zs ≡ none → List·Memᴰ x zs → f x ≡ none)
+          → _≡_ {A = Option B} (elim o [ none ↦ first f zs | some w ↦ some w ]) none → f x ≡ none
+      from none p ih q = elim (List·Memᴰ·cases-cons m) [ inl u ↦ ap f u ∙ p | inr v ↦ ih q v ]
+      from (some w) p ih q = let z : _≡_ {A = ℕ} 0 1 = cc in absurd (omega arith)

@@ -1,0 +1,138 @@
+-- Laws of RowSet, for any width.
+--
+-- In order: membership in each set (`mem-empty`, `mem-union`, `mem-single`, `mem-insert`, `mem-fromList`), `members`, `missing`.
+-- Assumes nothing.
+use mathlib.Core.Path.{_≡_, refl, sym, ap, _∙_, subst}
+use mathlib.Core.Bool.{Bool, true, false, not, _||_, cond}
+use mathlib.Core.List.{List, [], _∷_, List·Memᴰ, List·Memᴰ·head, List·Memᴰ·tail, List·Memᴰ·cases-cons, List·Memᴰ·not-nil}
+use mathlib.Core.Logic.{_⊎_, inl, inr}
+use Prim.Native.Nat.{ℕ, zero, suc, _+_, _/_, _%_, _^_, _≤_, _<_}
+use native.Mathlib.Nat.{not-suc-le-zero, zero-div, mod-lt}
+use native.Mathlib.Decide.{ℕ-discrete}
+use native.Mathlib.Omega.{arith}
+use lib.Dec.{T, eqb, eqb→eq, eqb-refl, lit<, eqb·zero-suc, eqb·suc-zero, eqb·suc-suc}
+use lib.Bits.{bitOr, or-shr, or-mod}
+use lib.Pow.{shr-shr}
+use Rattle.concepts.specs.Tests.{or-cases, or-left, or-right}
+use Rattle.concepts.specs.Lists.{range, select}
+use Rattle.concepts.specs.ListLaws.{mem-range, range-mem, select-mem, mem-select}
+use Rattle.concepts.specs.RowSet.{RowSet, mem, empty, single, union, insert, fromList, members, missing, Subset}
+
+-- ---- membership
+
+pub mem-empty : (k : ℕ) → mem k empty ≡ false
+unfolding mem
+mem-empty k = ap (λ (x : ℕ). eqb (x % 2) 1) (zero-div (2 ^ k))
+
+or-bit : (u v : ℕ) → u < 2 → v < 2 → eqb (bitOr u v) 1 ≡ (eqb u 1 || eqb v 1)
+or-bit zero zero hu hv = refl
+or-bit zero (suc zero) hu hv = refl
+or-bit (suc zero) zero hu hv = refl
+or-bit (suc zero) (suc zero) hu hv = refl
+or-bit zero (suc (suc v)) hu hv = absurd (omega arith)
+or-bit (suc zero) (suc (suc v)) hu hv = absurd (omega arith)
+or-bit (suc (suc u)) zero hu hv = absurd (omega arith)
+or-bit (suc (suc u)) (suc v) hu hv = absurd (omega arith)
+
+pub mem-union : (k : ℕ) (a b : RowSet) → mem k (union a b) ≡ (mem k a || mem k b)
+unfolding mem union
+mem-union k a b =
+    ap (λ (x : ℕ). eqb (x % 2) 1) (or-shr a b k) ∙ ap (λ (x : ℕ). eqb x 1) (or-mod (a / 2 ^ k) (b / 2 ^ k) 1)
+    ∙ or-bit (a / 2 ^ k % 2) (b / 2 ^ k % 2) (mod-lt (a / 2 ^ k) (lit< tt)) (mod-lt (b / 2 ^ k) (lit< tt))
+
+mem-suc : (k s : ℕ) → mem (suc k) s ≡ mem k (s / 2)
+unfolding mem
+mem-suc k s = ap (λ (x : ℕ). eqb (x % 2) 1) (sym (shr-shr s 1 k ∙ ap (λ (x : ℕ). s / 2 ^ x) (omega arith)))
+
+pub mem-single : (k j : ℕ) → mem k (single j) ≡ eqb k j
+unfolding mem single
+mem-single zero zero = refl
+mem-single zero (suc j) =
+    let e : 2 ^ suc j / 1 % 2 ≡ 0 = omega arith in
+    ap (λ (x : ℕ). eqb x 1) e ∙ sym (eqb·zero-suc j)
+mem-single (suc k) zero = mem-suc k 1 ∙ mem-empty k ∙ sym (eqb·suc-zero k)
+mem-single (suc k) (suc j) = mem-suc k (2 ^ suc j) ∙ ap (mem k) (omega arith) ∙ mem-single k j ∙ sym (eqb·suc-suc k j)
+
+pub mem-insert : (k j : ℕ) (s : RowSet) → mem k (insert j s) ≡ (eqb k j || mem k s)
+mem-insert k j s = mem-union k (single j) s ∙ ap (λ x. x || mem k s) (mem-single k j)
+
+pub insert-self : (k : ℕ) (s : RowSet) → T (mem k (insert k s))
+insert-self k s = rw (mem-insert k k s) (or-left (eqb k k) (mem k s) (eqb-refl k))
+
+pub insert-more : (j : ℕ) (s : RowSet) → Subset s (insert j s)
+insert-more j s k h = rw (mem-insert k j s) (or-right (eqb k j) (mem k s) h)
+
+pub insert-cases : (k j : ℕ) (s : RowSet) → T (mem k (insert j s)) → (k ≡ j) ⊎ T (mem k s)
+insert-cases k j s h = elim (or-cases (eqb k j) (mem k s) (rw (mem-insert k j s) at h)) [ inl e ↦ inl (eqb→eq k j e) | inr m ↦ inr m ]
+
+pub union-left : (a b : RowSet) → Subset a (union a b)
+union-left a b k h = rw (mem-union k a b) (or-left (mem k a) (mem k b) h)
+
+pub union-right : (a b : RowSet) → Subset b (union a b)
+union-right a b k h = rw (mem-union k a b) (or-right (mem k a) (mem k b) h)
+
+pub union-cases : (k : ℕ) (a b : RowSet) → T (mem k (union a b)) → T (mem k a) ⊎ T (mem k b)
+union-cases k a b h = or-cases (mem k a) (mem k b) (rw (mem-union k a b) at h)
+
+-- ---- the set of a list
+
+pub mem-fromList : (k : ℕ) (ks : List ℕ) → List·Memᴰ k ks → T (mem k (fromList ks))
+unfolding fromList
+mem-fromList k [] m = absurd (List·Memᴰ·not-nil m)
+mem-fromList k (j ∷ js) m = elim (List·Memᴰ·cases-cons m) [
+  | inl e ↦ rw (mem-insert k j (fromList js)) (or-left (eqb k j) (mem k (fromList js)) (rw e (eqb-refl j)))
+  | inr v ↦ insert-more j (fromList js) k (mem-fromList k js v)
+]
+
+pub fromList-mem : (k : ℕ) (ks : List ℕ) → T (mem k (fromList ks)) → List·Memᴰ k ks
+unfolding fromList
+fromList-mem k [] h = absurd (rw (mem-empty k) at h)
+fromList-mem k (j ∷ js) h = elim (insert-cases k j (fromList js) h) [
+  | inl e ↦ List·Memᴰ·head e
+  | inr v ↦ List·Memᴰ·tail (fromList-mem k js v)
+]
+
+-- ---- the members of a set, rising
+
+pub mem-members : (n k : ℕ) (s : RowSet) → k < n → T (mem k s) → List·Memᴰ k (members n s)
+unfolding members
+mem-members n k s h m = mem-select (λ j. mem j s) (range 0 n) k (mem-range 0 n k (omega arith) (omega arith)) m
+
+pub members-mem : (n k : ℕ) (s : RowSet) → List·Memᴰ k (members n s) → (k < n) × T (mem k s)
+unfolding members
+members-mem n k s m = let (p, q) = select-mem (λ j. mem j s) (range 0 n) k m in let (a, b) = range-mem 0 n k p in (omega arith, q)
+
+-- ---- fewer rows are missing from a larger set
+
+bit-le : (x y : Bool) → (T x → T y) → cond {A = ℕ} y 0 1 ≤ cond x 0 1
+bit-le true true f = omega arith
+bit-le true false f = absurd (f tt)
+bit-le false true f = omega arith
+bit-le false false f = omega arith
+
+bit-lt : (x y : Bool) → T (not x) → T y → cond {A = ℕ} y 0 1 < cond x 0 1
+bit-lt false true n t = omega arith
+bit-lt false false n t = absurd t
+bit-lt true y n t = absurd n
+
+pub missing-le : (n : ℕ) (a b : RowSet) → Subset a b → missing n b ≤ missing n a
+unfolding missing
+missing-le zero a b h = omega arith
+missing-le (suc n) a b h = omega (arith, missing-le n a b h, bit-le (mem n a) (mem n b) (h n))
+
+pub missing-lt : (n : ℕ) (a b : RowSet) (j : ℕ) → Subset a b → j < n → T (not (mem j a)) → T (mem j b) → missing n b < missing n a
+unfolding missing
+missing-lt zero a b j h l na ib = absurd (not-suc-le-zero l)
+missing-lt (suc n) a b j h l na ib =
+    elim (ℕ-discrete j n) [
+      | yes e ↦
+          let p : T (not (mem n a)) = rw e at na in
+          let q : T (mem n b) = rw e at ib in
+          omega (arith, missing-le n a b h, bit-lt (mem n a) (mem n b) p q)
+      | no d ↦ omega (arith, missing-lt n a b j h (omega arith) na ib, bit-le (mem n a) (mem n b) (h n))
+    ]
+
+pub missing-all : (n : ℕ) (s : RowSet) → missing n s ≤ n
+unfolding missing
+missing-all zero s = omega arith
+missing-all (suc n) s = omega (arith, missing-all n s, bit-le false (mem n s) (λ (x : ⊥). absurd x))

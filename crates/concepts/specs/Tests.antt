@@ -1,0 +1,59 @@
+-- Boolean tests as facts.
+--
+-- In order: disjunction, conjunction, a test or its negation, and a choice by a test (`by-test`).
+-- Not here: tests on numbers (`lib.Dec`, `borrow.Author.Tests`).
+-- Assumes nothing.
+use mathlib.Core.Path.{_≡_, refl}
+use mathlib.Core.Bool.{Bool, true, false, not, _&&_, _||_}
+use mathlib.Core.Logic.{_⊎_, inl, inr}
+use lib.Dec.{T}
+
+-- ---- one of two
+
+pub or-cases : (a b : Bool) → T (a || b) → T a ⊎ T b
+or-cases true b t = inl tt
+or-cases false b t = inr t
+
+pub or-left : (a b : Bool) → T a → T (a || b)
+or-left true b t = tt
+or-left false b t = absurd t
+
+pub or-right : (a b : Bool) → T b → T (a || b)
+or-right true b t = tt
+or-right false b t = t
+
+-- ---- both of two
+
+pub and-both : (a b : Bool) → T (a && b) → T a × T b
+and-both true b t = (tt, t)
+and-both false b t = absurd t
+
+pub and-make : (a b : Bool) → T a → T b → T (a && b)
+and-make true b t u = u
+and-make false b t u = absurd t
+
+-- ---- a test passes or its negation does
+
+pub decide : (b : Bool) → T b ⊎ T (not b)
+decide true = inl tt
+decide false = inr tt
+
+pub as-true : (b : Bool) → T b → b ≡ true
+as-true true t = refl
+as-true false t = absurd t
+
+pub as-false : (b : Bool) → T (not b) → b ≡ false
+as-false true t = absurd t
+as-false false t = refl
+
+pub from-true : (b : Bool) → b ≡ true → T b
+from-true b e = rw e tt
+
+pub from-false : (b : Bool) → b ≡ false → T (not b)
+from-false b e = rw e tt
+
+-- ---- a choice by a test
+
+pub by-test {ℓ κ} : {A : Type ℓ} (P : A → Type κ) (b : Bool) (x y : A) → (T b → P x) → (T (not b) → P y) → P (elim b [ true ↦ x | false ↦ y ])
+by-test P true x y f g = f tt
+by-test P false x y f g = g tt

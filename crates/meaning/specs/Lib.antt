@@ -1,0 +1,3 @@
+-- What a row means, in any interpretation. Nothing here knows of the procedure.
+pub mod Meaning
+pub mod MeaningLaws

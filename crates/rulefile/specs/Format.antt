@@ -1,0 +1,157 @@
+-- The rule file (01, The rule file; Refusals, in checking order).
+--
+-- In order: where the parts of a file stand; a row's bytes and its concept; the checks 1 to 9; what a file holds; reading.
+-- A file is a list of bytes, numbers below 256. Places past its end read as 0.
+-- Assumes nothing.
+use mathlib.Core.Bool.{Bool, true, false, not, _&&_, _||_, cond}
+use mathlib.Core.List.{List, [], _∷_, map}
+use mathlib.Core.Option.{Option, none, some}
+use Prim.Native.Nat.{ℕ, _+_, _-_, _*_}
+use lib.Dec.{eqb, ltb, leb}
+use lib.ListN.{length, getD, take}
+use Rattle.concepts.specs.Lists.{range, any, first}
+use Rattle.concepts.specs.Concept.{Concept, atomic, negated, conj, disj, univ, exist, Table, arguments}
+
+abbrev pub Bytes : Type 0
+Bytes = List ℕ
+
+-- ---- "text, rows, rule list, trailer"
+
+-- byte i of the trailer, "the last 8 bytes"
+abbrev pub trailerByte : Bytes → ℕ → ℕ
+trailerByte b i = getD b (length b - 8 + i) 0
+
+-- "place of the first row (2 bytes, low byte first), number of rows, number of rules, number of the wanted row"
+abbrev pub firstRow : Bytes → ℕ
+firstRow b = trailerByte b 0 + 256 * trailerByte b 1
+
+abbrev pub rowCount : Bytes → ℕ
+rowCount b = trailerByte b 2
+
+abbrev pub ruleCount : Bytes → ℕ
+ruleCount b = trailerByte b 3
+
+abbrev pub wantedRow : Bytes → ℕ
+wantedRow b = trailerByte b 4
+
+-- "A row is four bytes: kind, role, left, right"
+abbrev pub rowByte : Bytes → ℕ → ℕ → ℕ
+rowByte b k i = getD b (firstRow b + 4 * k + i) 0
+
+-- "each rule is one byte, a row number"
+abbrev pub rule : Bytes → ℕ → ℕ
+rule b i = getD b (firstRow b + 4 * rowCount b + i) 0
+
+-- ---- a row, by its kind
+
+-- a kind outside 1 to 6, a non-zero unused byte, a role above 31 or a name above 63
+unfoldable pub malformed : ℕ → ℕ → ℕ → ℕ → Bool
+malformed kind role left right =
+    cond (eqb kind 1 || eqb kind 2) (not (eqb role 0) || (not (eqb right 0) || ltb 63 left))
+    (cond (eqb kind 3 || eqb kind 4) (not (eqb role 0))
+    (cond (eqb kind 5 || eqb kind 6) (not (eqb right 0) || ltb 31 role)
+    true))
+
+unfoldable pub conceptOf : ℕ → ℕ → ℕ → ℕ → Concept
+conceptOf kind role left right =
+    cond (eqb kind 1) (atomic left)
+    (cond (eqb kind 2) (negated left)
+    (cond (eqb kind 3) (conj left right)
+    (cond (eqb kind 4) (disj left right)
+    (cond (eqb kind 5) (univ role left)
+    (exist role left)))))
+
+abbrev pub conceptIn : Bytes → ℕ → Concept
+conceptIn b k = conceptOf (rowByte b k 0) (rowByte b k 1) (rowByte b k 2) (rowByte b k 3)
+
+-- ---- the checks, each over all rows
+
+-- some row fails a test
+abbrev pub someRow : Bytes → (ℕ → Bool) → Bool
+someRow b test = any test (range 0 (rowCount b))
+
+unfoldable pub badLength : Bytes → Bool
+badLength b = ltb (length b) 8 || ltb 4096 (length b)
+
+unfoldable pub badMark : Bytes → Bool
+badMark b = not (eqb (trailerByte b 5) 0x46) || (not (eqb (trailerByte b 6) 0x49) || not (eqb (trailerByte b 7) 0x54))
+
+unfoldable pub badCounts : Bytes → Bool
+badCounts b = eqb (rowCount b) 0 || (ltb 64 (rowCount b) || ltb 64 (ruleCount b))
+
+unfoldable pub badPlace : Bytes → Bool
+badPlace b = not (eqb (firstRow b + 4 * rowCount b + ruleCount b + 8) (length b))
+
+unfoldable pub badRow : Bytes → ℕ → Bool
+badRow b k = malformed (rowByte b k 0) (rowByte b k 1) (rowByte b k 2) (rowByte b k 3)
+
+-- "A row names an argument row that isn't lower than itself"
+unfoldable pub badArgument : Bytes → ℕ → Bool
+badArgument b k = any (λ l. leb k l) (arguments (conceptIn b k))
+
+unfoldable pub sameRow : Bytes → ℕ → ℕ → Bool
+sameRow b j k =
+    eqb (rowByte b j 0) (rowByte b k 0)
+    && (eqb (rowByte b j 1) (rowByte b k 1) && (eqb (rowByte b j 2) (rowByte b k 2) && eqb (rowByte b j 3) (rowByte b k 3)))
+
+-- "Two rows have the same four bytes"
+unfoldable pub repeated : Bytes → ℕ → Bool
+repeated b k = any (sameRow b k) (range 0 k)
+
+unfoldable pub badRule : Bytes → Bool
+badRule b = any (λ i. leb (rowCount b) (rule b i)) (range 0 (ruleCount b)) || leb (rowCount b) (wantedRow b)
+
+unfoldable pub isName : Bytes → ℕ → Bool
+isName b k = eqb (rowByte b k 0) 1 || eqb (rowByte b k 0) 2
+
+pub record Check : Type 0 where
+  pub number : ℕ
+  pub refuses : Bytes → Bool
+
+-- in checking order
+unfoldable pub checks : List Check
+checks =
+    record { number = 1; refuses = badLength }
+    ∷ record { number = 2; refuses = badMark }
+    ∷ record { number = 3; refuses = badCounts }
+    ∷ record { number = 4; refuses = badPlace }
+    ∷ record { number = 5; refuses = λ b. someRow b (badRow b) }
+    ∷ record { number = 6; refuses = λ b. someRow b (badArgument b) }
+    ∷ record { number = 7; refuses = λ b. someRow b (repeated b) }
+    ∷ record { number = 8; refuses = badRule }
+    ∷ record { number = 9; refuses = λ b. not (someRow b (isName b)) }
+    ∷ []
+
+-- the number of the first check that refuses the file
+unfoldable pub refusal : Bytes → Option ℕ
+refusal b = first (λ c. elim (c .refuses b) [ true ↦ some (c .number) | false ↦ none ]) checks
+
+-- ---- what a file holds
+
+pub record RuleFile : Type 0 where
+  pub text : Bytes  -- "The text before the rows"
+  pub table : Table  -- the rows
+  pub tbox : List ℕ  -- the rules: row numbers, repeats allowed
+  pub wanted : List ℕ  -- the wanted rows: of a file, one
+
+abbrev pub contents : Bytes → RuleFile
+contents b = record {
+  text = take (firstRow b) b;
+  table = map (conceptIn b) (range 0 (rowCount b));
+  tbox = map (rule b) (range 0 (ruleCount b));
+  wanted = wantedRow b ∷ [];
+}
+
+-- ---- reading
+
+pub data Reading : Type 0 where
+  refused : ℕ → Reading
+  accepted : RuleFile → Reading
+
+-- "A file is accepted if no file check refuses it"
+unfoldable pub reading : Bytes → Reading
+reading b = elim (refusal b) [ some n ↦ refused n | none ↦ accepted (contents b) ]
+
+-- "handed back as that part of the file .. of a refused file 1 to 9, the empty part at its start"
+unfoldable pub textOf : Bytes → Bytes
+textOf b = elim (reading b) [ refused n ↦ [] | accepted f ↦ f .text ]

@@ -1,0 +1,2 @@
+-- The rule file: its format and checks, and what the reader answers.
+pub mod Format

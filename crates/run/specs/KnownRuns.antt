@@ -1,0 +1,70 @@
+-- The starred runs of document 01 (01, Known runs): one table, one theorem, by computation.
+-- Assumes nothing.
+use mathlib.Core.Path.{_≡_, refl}
+use mathlib.Core.List.{List, [], _∷_, _++_, map, flatten}
+use Prim.Native.Nat.{ℕ, _*_}
+use lib.ListN.{length}
+use Rattle.concepts.specs.Lists.{range, select, any, every, consAnswer, answers, first}
+use Rattle.concepts.specs.Role.{inverse}
+use Rattle.concepts.specs.RowSet.{RowSet, mem, single, union, fromList, members}
+use Rattle.rulefile.specs.Format.{Bytes, malformed, conceptOf, badLength, badMark, badCounts, badPlace, badRow, badArgument, sameRow, repeated, badRule, isName, checks, refusal, reading}
+use Rattle.procedure.specs.Status.{branchTable, stateTable, entry, foldStatus}
+use Rattle.procedure.specs.SetTests.{clash, lowestConj, lowestDisj, unfinished, box, lacking, existentials}
+use Rattle.procedure.specs.Graph.{nodeArea, edgeArea, alternativeArea, _>>=_, forEach, addNode, addEdge, hasAlternative, addAlternative, children, parents, alternativesOf, lowest, findState, lowestUnset, setStatus, setLink}
+use Rattle.procedure.specs.Tableau.{foldChildren, putAlternatives, judgeLinked, judgeBy, judge, joinAlternatives, linkTo, linkFound, putSpecial, putNode, putBy, putWithin, put, updateParents, updateWithin, update, successor, putSuccessors, putKit, expandState, expandDisj, expandConj, expand, loopWithin, run}
+use Rattle.procedure.specs.Example as X
+use Rattle.procedure.specs.Example.{RoleLink, firstChild, liveChild, descendBy, descendWithin, descend, position, meet, walkRows, rowsOf, walkWithin, walk, example}
+use Rattle.run.specs.Run.{Lengths, Used, Answer, refusedFile, short, cannot, can, fits, answerCan, answerRoot, answerResult, answerReading, answer}
+
+pub record KnownRun : Type 0 where
+  pub file : Bytes
+  pub lent : Lengths
+  pub expected : Answer
+
+-- ---- how the table is written
+
+-- a file with no text: "Rows are written as kind role left right"
+unfoldable pub written : List Bytes → List ℕ → ℕ → Bytes
+written rows rules wanted = flatten rows ++ rules ++ (0 ∷ 0 ∷ length rows ∷ length rules ∷ wanted ∷ 0x46 ∷ 0x49 ∷ 0x54 ∷ [])
+
+abbrev row : ℕ → ℕ → ℕ → ℕ → Bytes
+row kind role left right = kind ∷ role ∷ left ∷ right ∷ []
+
+-- so many nodes, edges and alternatives, and the program's example areas
+abbrev lend : ℕ → ℕ → ℕ → Lengths
+lend n e a = record { nodes = n * 64; edges = e * 16; alternatives = a * 16; elements = 8192; links = 49152 }
+
+abbrev program : Lengths
+program = lend 1024 4096 4096
+
+abbrev counts : ℕ → ℕ → ℕ → Used
+counts n e a = record { nodes = n; edges = e; alternatives = a }
+
+abbrev showing : List RowSet → List RoleLink → X.Example
+showing elements links = record { elements = elements; links = links }
+
+abbrev link : ℕ → ℕ → ℕ → RoleLink
+link d ρ e = record { from = d; role = ρ; to = e }
+
+abbrev eightNodes : Bytes
+eightNodes = written (row 1 0 0 0 ∷ row 5 1 0 0 ∷ row 6 0 1 0 ∷ []) [] 2
+
+-- ---- the table
+
+unfoldable pub knownRuns : List KnownRun
+knownRuns =
+    record { file = written (row 1 0 0 0 ∷ []) [] 0; lent = program; expected = can (counts 3 2 0) (showing (1 ∷ []) []) }
+    ∷ record { file = written (row 1 0 0 0 ∷ row 2 0 0 0 ∷ row 3 0 0 1 ∷ []) [] 2; lent = program; expected = cannot (counts 3 2 0) }
+    ∷ record { file = written (row 1 0 0 0 ∷ row 6 0 0 0 ∷ []) (1 ∷ []) 0; lent = program; expected = can (counts 4 4 0) (showing (3 ∷ []) (link 0 0 0 ∷ [])) }
+    ∷ record { file = written (row 1 0 0 0 ∷ row 2 0 0 0 ∷ row 5 1 0 0 ∷ row 6 0 2 0 ∷ row 3 0 1 3 ∷ []) [] 4; lent = program; expected = cannot (counts 6 5 1) }
+    ∷ record { file = eightNodes; lent = program; expected = can (counts 8 7 1) (showing (5 ∷ 2 ∷ []) (link 0 0 1 ∷ [])) }
+    ∷ record { file = eightNodes; lent = lend 7 4096 4096; expected = short nodeArea }
+    ∷ record { file = eightNodes; lent = lend 1024 6 4096; expected = short edgeArea }
+    ∷ record { file = eightNodes; lent = lend 1024 4096 0; expected = short alternativeArea }
+    ∷ record { file = []; lent = program; expected = refusedFile 1 }
+    ∷ record { file = written (row 1 0 0 0 ∷ row 6 32 0 0 ∷ []) [] 0; lent = program; expected = refusedFile 5 }
+    ∷ []
+
+pub known-runs : map (λ (k : KnownRun). answer (k .file) (k .lent)) knownRuns ≡ map (λ (k : KnownRun). k .expected) knownRuns
+unfolding knownRuns written flatten range select any every consAnswer answers first inverse mem single union fromList members malformed conceptOf badLength badMark badCounts badPlace badRow badArgument sameRow repeated badRule isName checks refusal reading branchTable stateTable entry foldStatus clash lowestConj lowestDisj unfinished box lacking existentials _>>=_ forEach addNode addEdge hasAlternative addAlternative children parents alternativesOf lowest findState lowestUnset setStatus setLink foldChildren putAlternatives judgeLinked judgeBy judge joinAlternatives linkTo linkFound putSpecial putNode putBy putWithin put updateParents updateWithin update successor putSuccessors putKit expandState expandDisj expandConj expand loopWithin run X._>>=_ firstChild liveChild descendBy descendWithin descend position meet walkRows rowsOf walkWithin walk example fits answerCan answerRoot answerResult answerReading answer mathlib.Core.List.zip mathlib.Core.List.zipWith
+known-runs = refl

@@ -1,0 +1,3 @@
+-- The whole run of document 01, and its known runs.
+pub mod Run
+pub mod KnownRuns

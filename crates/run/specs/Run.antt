@@ -1,0 +1,169 @@
+-- The whole run: from the bytes of a file and the five areas to the answer and the areas afterwards (01, Refusals; Areas).
+--
+-- In order: what is lent; the answer; its numbers; the bytes of an example; the areas afterwards.
+-- Assumes nothing.
+use mathlib.Core.Bool.{Bool, true, false, _&&_}
+use mathlib.Core.List.{List, [], _∷_, _++_, map}
+use mathlib.Core.Option.{Option, none, some}
+use Prim.Native.Nat.{ℕ, zero, suc, _*_, _/_, _%_, min}
+use lib.Dec.{leb}
+use lib.ListN.{length, drop, replicate}
+use Rattle.concepts.specs.Concept.{Table}
+use Rattle.concepts.specs.RowSet.{RowSet}
+use Rattle.rulefile.specs.Format.{Bytes, RuleFile, Reading, refused, accepted, reading}
+use Rattle.procedure.specs.Status.{Status, unset, «open», sat, unsat, toosmall}
+use Rattle.procedure.specs.Graph.{Graph, Capacity, Area, Result, reached, noPlace, outOfFuel, nodeAt}
+use Rattle.procedure.specs.Tableau as Tableau
+use Rattle.procedure.specs.Example.{RoleLink, Example, example}
+
+-- ---- what is lent
+
+-- the five areas: three work areas and two example areas, "lent byte slices of any length and content"
+pub record Areas : Type 0 where
+  pub nodes : Bytes
+  pub edges : Bytes
+  pub alternatives : Bytes
+  pub elements : Bytes
+  pub links : Bytes
+
+-- their lengths in bytes
+pub record Lengths : Type 0 where
+  pub nodes : ℕ
+  pub edges : ℕ
+  pub alternatives : ℕ
+  pub elements : ℕ
+  pub links : ℕ
+
+abbrev pub lengths : Areas → Lengths
+lengths a = record {
+  nodes = length (a .nodes);
+  edges = length (a .edges);
+  alternatives = length (a .alternatives);
+  elements = length (a .elements);
+  links = length (a .links);
+}
+
+-- "nodes (64 bytes each), graph edges (16) and alternatives (16); whole records count, and at most 4,096 of each"
+abbrev pub capacity : Lengths → Capacity
+capacity l = record {
+  nodeRoom = min 4096 (l .nodes / 64);
+  edgeRoom = min 4096 (l .edges / 16);
+  alternativeRoom = min 4096 (l .alternatives / 16);
+}
+
+-- ---- the answer
+
+-- how many records a run used
+pub record Used : Type 0 where
+  pub nodes : ℕ
+  pub edges : ℕ
+  pub alternatives : ℕ
+
+abbrev pub used : Graph → Used
+used g = record { nodes = length (g .nodes); edges = length (g .edges); alternatives = length (g .alternatives) }
+
+pub data Answer : Type 0 where
+  refusedFile : ℕ → Answer  -- a file check refuses the file: 1 to 9
+  short : Area → Answer  -- refusal 10: a record has no place in this area
+  cannot : Used → Answer
+  can : Used → Example → Answer
+  tooLong : Example → Answer  -- refusal 11: "can", and an example area is too short
+  undefined : Answer  -- a bound in the definitions was too small: never happens (docs/DECISIONS.md, Fuel)
+
+-- "elements (8 bytes ..) and links (6 bytes ..)"
+unfoldable pub fits : Lengths → Example → Bool
+fits l x = leb (8 * length (x .elements)) (l .elements) && leb (6 * length (x .links)) (l .links)
+
+unfoldable pub answerCan : Lengths → Used → Option Example → Answer
+answerCan l u (some x) = elim (fits l x) [ true ↦ can u x | false ↦ tooLong x ]
+answerCan l u none = undefined
+
+-- "Root yes or open means "can"; never or small means "cannot""
+unfoldable pub answerRoot : Status → Lengths → Table → Graph → Answer
+answerRoot sat l t g = answerCan l (used g) (example t g)
+answerRoot «open» l t g = answerCan l (used g) (example t g)
+answerRoot unsat l t g = cannot (used g)
+answerRoot toosmall l t g = cannot (used g)
+answerRoot unset l t g = undefined
+
+unfoldable pub answerResult : Lengths → Table → Result → Answer
+answerResult l t (reached g) = answerRoot (nodeAt g 0 .status) l t g
+answerResult l t (noPlace a) = short a
+answerResult l t outOfFuel = undefined
+
+unfoldable pub answerReading : Lengths → Reading → Answer
+answerReading l (refused n) = refusedFile n
+answerReading l (accepted f) = answerResult l (f .table) (Tableau.run (f .table) (capacity l) (f .tbox) (f .wanted))
+
+-- the answer to a file, given the lengths of the areas: what the areas hold has no say in it
+unfoldable pub answer : Bytes → Lengths → Answer
+answer b l = answerReading l (reading b)
+
+-- ---- the answer's numbers
+
+pub record Numbers : Type 0 where
+  pub verdict : ℕ  -- 1 for "can", 2 for "cannot", 0 with a refusal
+  pub refusal : ℕ  -- 0 with a verdict
+  pub nodes : ℕ  -- used
+  pub edges : ℕ
+  pub alternatives : ℕ
+  pub elements : ℕ  -- of the example
+  pub links : ℕ
+
+-- "Each gives its number and zeros elsewhere"
+abbrev pub refusedWith : ℕ → Numbers
+refusedWith n = record { verdict = 0; refusal = n; nodes = 0; edges = 0; alternatives = 0; elements = 0; links = 0 }
+
+unfoldable pub numbers : Answer → Numbers
+numbers (refusedFile n) = refusedWith n
+numbers (short a) = refusedWith 10
+numbers (cannot u) = record { verdict = 2; refusal = 0; nodes = u .nodes; edges = u .edges; alternatives = u .alternatives; elements = 0; links = 0 }
+numbers (can u x) = record { verdict = 1; refusal = 0; nodes = u .nodes; edges = u .edges; alternatives = u .alternatives; elements = length (x .elements); links = length (x .links) }
+numbers (tooLong x) = record { verdict = 0; refusal = 11; nodes = 0; edges = 0; alternatives = 0; elements = length (x .elements); links = length (x .links) }
+numbers undefined = refusedWith 0
+
+-- ---- the bytes of an example
+
+-- the n low bytes of v, low byte first
+unfoldable pub littleEndian : ℕ → ℕ → Bytes
+littleEndian zero v = []
+littleEndian (suc n) v = v % 256 ∷ littleEndian n (v / 256)
+
+unfoldable pub elementBytes : List RowSet → Bytes
+elementBytes [] = []
+elementBytes (s ∷ ss) = littleEndian 8 s ++ elementBytes ss
+
+unfoldable pub linkBytes : List RoleLink → Bytes
+linkBytes [] = []
+linkBytes (l ∷ ls) = littleEndian 2 (l .from) ++ littleEndian 2 (l .role) ++ littleEndian 2 (l .to) ++ linkBytes ls
+
+-- ---- the areas afterwards
+
+-- an area whose first bytes are written over
+abbrev pub overwrite : Bytes → Bytes → Bytes
+overwrite new area = new ++ drop (length new) area
+
+-- "After a verdict, 10 or 11 every byte of all three is zero"
+abbrev pub zeros : Bytes → Bytes
+zeros area = replicate (length area) 0
+
+abbrev pub workCleared : Areas → Areas
+workCleared a = record { nodes = zeros (a .nodes); edges = zeros (a .edges); alternatives = zeros (a .alternatives); elements = a .elements; links = a .links }
+
+-- "They change only with "can", and only in the bytes that the example fills"
+abbrev pub exampleWritten : Example → Areas → Areas
+exampleWritten x a = record {
+  nodes = a .nodes;
+  edges = a .edges;
+  alternatives = a .alternatives;
+  elements = overwrite (elementBytes (x .elements)) (a .elements);
+  links = overwrite (linkBytes (x .links)) (a .links);
+}
+
+unfoldable pub areasAfter : Answer → Areas → Areas
+areasAfter (refusedFile n) a = a
+areasAfter (short r) a = workCleared a
+areasAfter (cannot u) a = workCleared a
+areasAfter (can u x) a = exampleWritten x (workCleared a)
+areasAfter (tooLong x) a = workCleared a
+areasAfter undefined a = a
