@@ -1,0 +1,2 @@
+pub mod Structure
+pub mod Finished
