@@ -3,9 +3,9 @@
 -- In order: `range`, `select`, `any`, `every`, `answers`, `first`; what stands in each, by membership.
 -- Not here: laws of `length`, `getD`, `_++_` (`lib.ListN`, `lib.Seq`).
 -- Assumes nothing.
-use mathlib.Core.Path.{_≡_, refl, sym, ap, _∙_, subst}
+use mathlib.Core.Path.{_≡_, refl, sym, ap, ap₂, _∙_, subst}
 use mathlib.Core.Bool.{Bool, true, false, not, _&&_, _||_}
-use mathlib.Core.List.{List, [], _∷_, List·Memᴰ, List·Memᴰ·head, List·Memᴰ·tail, List·Memᴰ·cases-cons, List·Memᴰ·not-nil}
+use mathlib.Core.List.{List, [], _∷_, _++_, map, List·Memᴰ, List·Memᴰ·head, List·Memᴰ·tail, List·Memᴰ·cases-cons, List·Memᴰ·not-nil}
 use mathlib.Core.Logic.{_⊎_, inl, inr}
 use mathlib.Core.Option.{Option, none, some}
 use Prim.Native.Nat.{ℕ, zero, suc, _+_, _≤_, _<_}
@@ -74,6 +74,25 @@ module _ {A : Type 0} where
         | inr v ↦ mem-select f ys x v t
       ])
 
+  pub select-append : (f : A → Bool) (xs ys : List A) → select f (xs ++ ys) ≡ select f xs ++ select f ys
+  unfolding select
+  select-append f [] ys = refl
+  select-append f (x ∷ xs) ys = go (f x) (select-append f xs ys)
+    where
+      go : (b : Bool) → select f (xs ++ ys) ≡ select f xs ++ select f ys
+          → elim b as (λ _. List A) [ true ↦ x ∷ select f (xs ++ ys) | false ↦ select f (xs ++ ys) ]
+          ≡ elim b as (λ _. List A) [ true ↦ x ∷ select f xs | false ↦ select f xs ] ++ select f ys
+      go true p = ap (λ (l : List A). x ∷ l) p
+      go false p = p
+
+  pub select-pass : (f : A → Bool) (x : A) → T (f x) → select f (x ∷ []) ≡ x ∷ []
+  unfolding select
+  select-pass f x t = by-test (λ (l : List A). l ≡ x ∷ []) (f x) (x ∷ []) [] (λ _. refl) (λ n. absurd (T-not (f x) n t))
+
+  pub select-fail : (f : A → Bool) (x : A) → T (not (f x)) → select f (x ∷ []) ≡ []
+  unfolding select
+  select-fail f x t = by-test (λ (l : List A). l ≡ []) (f x) (x ∷ []) [] (λ p. absurd (T-not (f x) t p)) (λ _. refl)
+
   -- ---- any, every
 
   pub any-mem : (f : A → Bool) (xs : List A) (x : A) → List·Memᴰ x xs → T (f x) → T (any f xs)
@@ -103,6 +122,27 @@ module _ {A : Type 0} where
       elim (List·Memᴰ·cases-cons m) [ inl e ↦ rw e p | inr v ↦ every-mem f ys x q v ]
 
 module _ {A B : Type 0} where
+  -- ---- map
+
+  pub map-append : (f : A → B) (xs ys : List A) → map f (xs ++ ys) ≡ map f xs ++ map f ys
+  map-append f [] ys = refl
+  map-append f (x ∷ xs) ys = ap (λ (l : List B). f x ∷ l) (map-append f xs ys)
+
+  pub mem-map : (f : A → B) (xs : List A) (x : A) → List·Memᴰ x xs → List·Memᴰ (f x) (map f xs)
+  mem-map f [] x m = absurd (List·Memᴰ·not-nil m)
+  mem-map f (y ∷ ys) x m = elim (List·Memᴰ·cases-cons m) [ inl e ↦ List·Memᴰ·head (ap f e) | inr v ↦ List·Memᴰ·tail (mem-map f ys x v) ]
+
+  pub map-mem : (f : A → B) (xs : List A) (y : B) → List·Memᴰ y (map f xs) → (x : A) × List·Memᴰ x xs × (y ≡ f x)
+  map-mem f [] y m = absurd (List·Memᴰ·not-nil m)
+  map-mem f (x ∷ xs) y m = elim (List·Memᴰ·cases-cons m) [
+    | inl e ↦ (x, List·Memᴰ·head refl, e)
+    | inr v ↦ let (z, u, q) = map-mem f xs y v in (z, List·Memᴰ·tail u, q)
+  ]
+
+  pub map-same : (f g : A → B) (xs : List A) → ((x : A) → List·Memᴰ x xs → f x ≡ g x) → map f xs ≡ map g xs
+  map-same f g [] h = refl
+  map-same f g (x ∷ xs) h = ap₂ (λ (y : B) (l : List B). y ∷ l) (h x (List·Memᴰ·head refl)) (map-same f g xs (λ y m. h y (List·Memᴰ·tail m)))
+
   -- ---- answers
 
   pub mem-answers : (f : A → Option B) (xs : List A) (x : A) (y : B) → List·Memᴰ x xs → f x ≡ some y → List·Memᴰ y (answers f xs)

@@ -2,7 +2,7 @@
 -- Assumes nothing.
 use mathlib.Core.Path.{_≡_, refl, ap, _∙_}
 use mathlib.Core.Bool.{Bool, true, false}
-use Prim.Native.Nat.{ℕ, zero, suc, _+_, _-_, _%_, _<_}
+use Prim.Native.Nat.{ℕ, zero, suc, _+_, _-_, _%_, _≤_, _<_}
 use native.Mathlib.Omega.{arith}
 use lib.Dec.{eqb}
 use borrow.Author.Tests.{eq-eqb, ne-eqb}
@@ -28,4 +28,13 @@ inverse-inverse ρ = go (ρ % 2) refl (omega arith)
     go : (b : ℕ) → ρ % 2 ≡ b → b < 2 → inverse (inverse ρ) ≡ ρ
     go zero e h = ap inverse (inverse-even ρ e) ∙ inverse-odd (ρ + 1) (omega arith) ∙ omega arith
     go (suc zero) e h = ap inverse (inverse-odd ρ e) ∙ inverse-even (ρ - 1) (omega arith) ∙ omega arith
+    go (suc (suc b)) e h = absurd (omega arith)
+
+-- codes from 32 on, which no row has, stay among themselves
+pub inverse-high : (ρ : ℕ) → 32 ≤ ρ → 32 ≤ inverse ρ
+inverse-high ρ l = go (ρ % 2) refl (omega arith)
+  where
+    go : (b : ℕ) → ρ % 2 ≡ b → b < 2 → 32 ≤ inverse ρ
+    go zero e h = rw (inverse-even ρ e) (omega arith)
+    go (suc zero) e h = rw (inverse-odd ρ e) (omega arith)
     go (suc (suc b)) e h = absurd (omega arith)

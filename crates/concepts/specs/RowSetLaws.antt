@@ -1,19 +1,20 @@
 -- Laws of RowSet, for any width.
 --
--- In order: membership in each set (`mem-empty`, `mem-union`, `mem-single`, `mem-insert`, `mem-fromList`), `members`, `missing`.
+-- In order: membership in each set (`mem-empty`, `mem-union`, `mem-single`, `mem-insert`, `mem-fromList`), `members`,
+-- `missing`, sets of rows below n (`fromList-lt`, `mem-lt`).
 -- Assumes nothing.
 use mathlib.Core.Path.{_≡_, refl, sym, ap, _∙_, subst}
 use mathlib.Core.Bool.{Bool, true, false, not, _||_, cond}
 use mathlib.Core.List.{List, [], _∷_, List·Memᴰ, List·Memᴰ·head, List·Memᴰ·tail, List·Memᴰ·cases-cons, List·Memᴰ·not-nil}
 use mathlib.Core.Logic.{_⊎_, inl, inr}
 use Prim.Native.Nat.{ℕ, zero, suc, _+_, _/_, _%_, _^_, _≤_, _<_}
-use native.Mathlib.Nat.{not-suc-le-zero, zero-div, mod-lt}
+use native.Mathlib.Nat.{not-suc-le-zero, zero-div, mod-lt, div-eq-of-lt, lt-of-lt-of-le}
 use native.Mathlib.Decide.{ℕ-discrete}
 use native.Mathlib.Omega.{arith}
-use lib.Dec.{T, eqb, eqb→eq, eqb-refl, lit<, eqb·zero-suc, eqb·suc-zero, eqb·suc-suc}
-use lib.Bits.{bitOr, or-shr, or-mod}
-use lib.Pow.{shr-shr}
-use Rattle.concepts.specs.Tests.{or-cases, or-left, or-right}
+use lib.Dec.{T, T-not, eqb, eqb→eq, eqb-refl, lit<, ltb, ltb→lt, nltb→le, eqb·zero-suc, eqb·suc-zero, eqb·suc-suc}
+use lib.Bits.{bitOr, or-shr, or-mod, or-lt}
+use lib.Pow.{shr-shr, pow-pos, pow-lt, pow-mono}
+use Rattle.concepts.specs.Tests.{or-cases, or-left, or-right, decide}
 use Rattle.concepts.specs.Lists.{range, select}
 use Rattle.concepts.specs.ListLaws.{mem-range, range-mem, select-mem, mem-select}
 use Rattle.concepts.specs.RowSet.{RowSet, mem, empty, single, union, insert, fromList, members, missing, Subset}
@@ -92,6 +93,16 @@ fromList-mem k (j ∷ js) h = elim (insert-cases k j (fromList js) h) [
   | inr v ↦ List·Memᴰ·tail (fromList-mem k js v)
 ]
 
+pub fromList-none : (ks : List ℕ) → ((k : ℕ) → List·Memᴰ k ks → ⊥) → fromList ks ≡ empty
+unfolding fromList
+fromList-none [] h = refl
+fromList-none (j ∷ js) h = absurd (h j (List·Memᴰ·head refl))
+
+pub fromList-witness : (ks : List ℕ) → T (not (eqb (fromList ks) empty)) → (k : ℕ) × List·Memᴰ k ks
+unfolding fromList
+fromList-witness [] h = absurd (T-not (eqb 0 0) h (eqb-refl 0))
+fromList-witness (j ∷ js) h = (j, List·Memᴰ·head refl)
+
 -- ---- the members of a set, rising
 
 pub mem-members : (n k : ℕ) (s : RowSet) → k < n → T (mem k s) → List·Memᴰ k (members n s)
@@ -136,3 +147,28 @@ pub missing-all : (n : ℕ) (s : RowSet) → missing n s ≤ n
 unfolding missing
 missing-all zero s = omega arith
 missing-all (suc n) s = omega (arith, missing-all n s, bit-le false (mem n s) (λ (x : ⊥). absurd x))
+
+-- ---- sets of rows below n
+
+pub single-lt : (n k : ℕ) → k < n → single k < 2 ^ n
+unfolding single
+single-lt n k h = pow-lt h
+
+pub union-lt : (n : ℕ) (a b : RowSet) → a < 2 ^ n → b < 2 ^ n → union a b < 2 ^ n
+unfolding union
+union-lt n a b = or-lt n a b
+
+pub insert-lt : (n k : ℕ) (s : RowSet) → k < n → s < 2 ^ n → insert k s < 2 ^ n
+insert-lt n k s h l = union-lt n (single k) s (single-lt n k h) l
+
+pub fromList-lt : (n : ℕ) (ks : List ℕ) → ((k : ℕ) → List·Memᴰ k ks → k < n) → fromList ks < 2 ^ n
+unfolding fromList
+fromList-lt n [] h = pow-pos n
+fromList-lt n (j ∷ js) h = insert-lt n j (fromList js) (h j (List·Memᴰ·head refl)) (fromList-lt n js (λ k m. h k (List·Memᴰ·tail m)))
+
+pub mem-lt : (n k : ℕ) (s : RowSet) → s < 2 ^ n → T (mem k s) → k < n
+unfolding mem
+mem-lt n k s h m = elim (decide (ltb k n)) [
+  | inl l ↦ ltb→lt k n l
+  | inr g ↦ absurd (rw (div-eq-of-lt (lt-of-lt-of-le h (pow-mono (nltb→le k n g)))) at m)
+]

@@ -12,8 +12,8 @@ use Rattle.concepts.specs.RowSet.{RowSet, mem}
 
 pub record Structure (t : Table) : Type 1 where
   pub Element : Type 0
-  pub At : ℕ → Element → Type 0                    -- row k holds at d
-  pub Leads : ℕ → Element → Element → Type 0       -- from d, the role code leads to e
+  pub At : ℕ → Element → Type 0  -- row k holds at d
+  pub Leads : ℕ → Element → Element → Type 0  -- from d, the role code leads to e
   pub back : (ρ : ℕ) (d e : Element) → Leads ρ d e → Leads (inverse ρ) e d
   pub opposites : (j k a : ℕ) (d : Element) → conceptAt t j ≡ atomic a → conceptAt t k ≡ negated a → At j d → At k d → ⊥
   pub both : (k l r : ℕ) (d : Element) → conceptAt t k ≡ conj l r → At k d → At l d × At r d

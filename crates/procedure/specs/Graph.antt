@@ -70,17 +70,20 @@ forEach f (x ∷ xs) g = f x g >>= (λ h. forEach f xs h)
 
 -- ---- adding a record
 
+abbrev pub appendNode : Node → Graph → Graph
+appendNode n g = record { nodes = g .nodes ++ n ∷ []; edges = g .edges; alternatives = g .alternatives }
+
+abbrev pub appendEdge : ℕ → ℕ → Graph → Graph
+appendEdge x y g = record { nodes = g .nodes; edges = g .edges ++ record { from = x; to = y } ∷ []; alternatives = g .alternatives }
+
+abbrev pub appendAlternative : ℕ → RowSet → Graph → Graph
+appendAlternative x s g = record { nodes = g .nodes; edges = g .edges; alternatives = g .alternatives ++ record { owner = x; rows = s } ∷ [] }
+
 unfoldable pub addNode : Capacity → Node → Graph → Result
-addNode c n g = elim (ltb (length (g .nodes)) (c .nodeRoom)) [
-  | true ↦ reached (record { nodes = g .nodes ++ n ∷ []; edges = g .edges; alternatives = g .alternatives })
-  | false ↦ noPlace nodeArea
-]
+addNode c n g = elim (ltb (length (g .nodes)) (c .nodeRoom)) [ true ↦ reached (appendNode n g) | false ↦ noPlace nodeArea ]
 
 unfoldable pub addEdge : Capacity → ℕ → ℕ → Graph → Result
-addEdge c x y g = elim (ltb (length (g .edges)) (c .edgeRoom)) [
-  | true ↦ reached (record { nodes = g .nodes; edges = g .edges ++ record { from = x; to = y } ∷ []; alternatives = g .alternatives })
-  | false ↦ noPlace edgeArea
-]
+addEdge c x y g = elim (ltb (length (g .edges)) (c .edgeRoom)) [ true ↦ reached (appendEdge x y g) | false ↦ noPlace edgeArea ]
 
 -- state x has the alternative s already
 unfoldable pub hasAlternative : ℕ → RowSet → Graph → Bool
@@ -90,10 +93,7 @@ hasAlternative x s g = any (λ a. eqb (a .owner) x && eqb (a .rows) s) (g .alter
 unfoldable pub addAlternative : Capacity → ℕ → RowSet → Graph → Result
 addAlternative c x s g = elim (hasAlternative x s g) [
   | true ↦ reached g
-  | false ↦ elim (ltb (length (g .alternatives)) (c .alternativeRoom)) [
-    | true ↦ reached (record { nodes = g .nodes; edges = g .edges; alternatives = g .alternatives ++ record { owner = x; rows = s } ∷ [] })
-    | false ↦ noPlace alternativeArea
-  ]
+  | false ↦ elim (ltb (length (g .alternatives)) (c .alternativeRoom)) [ true ↦ reached (appendAlternative x s g) | false ↦ noPlace alternativeArea ]
 ]
 
 -- ---- looking at a graph
@@ -131,15 +131,17 @@ lowestUnset g = lowest (λ x. isUnset (nodeAt g x .status)) g
 
 -- ---- changing a node
 
-abbrev pub withNode : ℕ → Node → Graph → Graph
-withNode x n g = record { nodes = set (g .nodes) x n; edges = g .edges; alternatives = g .alternatives }
+abbrev pub withStatus : Status → Node → Node
+withStatus v n = record { rows = n .rows; status = v; isState = n .isState; pst = n .pst; prl = n .prl; link = n .link }
 
-unfoldable pub setStatus : ℕ → Status → Graph → Graph
-setStatus x v g =
-    let n = nodeAt g x in
-    withNode x (record { rows = n .rows; status = v; isState = n .isState; pst = n .pst; prl = n .prl; link = n .link }) g
+abbrev pub withLink : Link → Node → Node
+withLink l n = record { rows = n .rows; status = n .status; isState = n .isState; pst = n .pst; prl = n .prl; link = l }
 
-unfoldable pub setLink : ℕ → Link → Graph → Graph
-setLink x l g =
-    let n = nodeAt g x in
-    withNode x (record { rows = n .rows; status = n .status; isState = n .isState; pst = n .pst; prl = n .prl; link = l }) g
+abbrev pub replaceNode : ℕ → Node → Graph → Graph
+replaceNode x n g = record { nodes = set (g .nodes) x n; edges = g .edges; alternatives = g .alternatives }
+
+abbrev pub setStatus : ℕ → Status → Graph → Graph
+setStatus x v g = replaceNode x (withStatus v (nodeAt g x)) g
+
+abbrev pub setLink : ℕ → Link → Graph → Graph
+setLink x l g = replaceNode x (withLink l (nodeAt g x)) g

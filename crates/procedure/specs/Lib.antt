@@ -2,6 +2,8 @@
 pub mod Status
 pub mod StatusLaws
 pub mod SetTests
+pub mod SetTestLaws
 pub mod Graph
+pub mod GraphLaws
 pub mod Tableau
 pub mod Example
