@@ -1,7 +1,6 @@
 -- What holds of the graph between the steps of a run: definitions.
 --
 -- In order: what a status says in a structure; a node's shape and links; edges; alternatives; the invariant; quiet nodes.
--- The structure M is any in which the rules hold. Where only the graph's shape matters, M is the structure with no element.
 -- Assumes nothing.
 use mathlib.Core.Path.{_≡_}
 use mathlib.Core.Bool.{Bool, true, false, not}
@@ -9,42 +8,41 @@ use mathlib.Core.List.{List, [], _∷_, map}
 use mathlib.Core.Logic.{_⊎_, _≢_}
 use Prim.Native.Nat.{ℕ, zero, suc, _≤_, _<_, _^_}
 use lib.Dec.{T}
-use lib.ListN.{length}
 use Rattle.concepts.specs.Role.{inverse}
-use Rattle.concepts.specs.Concept.{Table}
 use Rattle.concepts.specs.RowSet.{RowSet, mem, empty, fromList, Subset}
 use Rattle.procedure.specs.Status.{Status, unset, «open», sat, unsat, toosmall, branchTable, stateTable, foldStatus, isUnset, isLive}
 use Rattle.procedure.specs.SetTests.{clash, unfinished, lacking, existentials}
 use Rattle.procedure.specs.Graph.{Link, unlinked, toState, lapsed, Node, Graph, nodeAt, nodeCount, children}
 use Rattle.procedure.specs.GraphLaws.{Child, AlternativeOf}
 use Rattle.procedure.specs.Tableau.{noRole}
-use Rattle.correctness.specs.Structure.{Structure, Satisfies}
+use Rattle.correctness.specs.Structure.{Satisfies}
+use Rattle.correctness.specs.Setting.{Setting, rowCount, Element}
 use Rattle.correctness.specs.Finished.{Under, Answers}
 
-module _ (t : Table) (tbox wanted : List ℕ) (room : ℕ) (M : Structure t) where
+module _ (S : Setting) where
   -- ---- what a status says
 
-  abbrev pub Sat : RowSet → M .Element → Type 0
-  Sat s d = Satisfies t M s d
+  abbrev pub Sat : RowSet → Element S → Type 0
+  Sat s d = Satisfies (S .table) (S .structure) s d
 
   -- from the state p along the role; the root reaches every element
-  abbrev pub Reach : ℕ → ℕ → M .Element → M .Element → Type 0
-  Reach p ρ d e = (p ≡ 0) ⊎ M .Leads ρ d e
+  abbrev pub Reach : ℕ → ℕ → Element S → Element S → Type 0
+  Reach p ρ d e = (p ≡ 0) ⊎ S .structure .Leads ρ d e
 
   abbrev pub Unsatisfied : RowSet → Type 0
-  Unsatisfied s = (d : M .Element) → Sat s d → ⊥
+  Unsatisfied s = (d : Element S) → Sat s d → ⊥
 
   -- where the set s holds, so does the set of a child of x that is no state
   abbrev pub Covered : Graph → ℕ → RowSet → Type 0
-  Covered g x s = (d : M .Element) → Sat s d → (y : ℕ) × Child g x y × (nodeAt g y .isState ≡ false) × Sat (nodeAt g y .rows) d
+  Covered g x s = (d : Element S) → Sat s d → (y : ℕ) × Child g x y × (nodeAt g y .isState ≡ false) × Sat (nodeAt g y .rows) d
 
   -- where the set s holds, so does an alternative of x
   abbrev pub Enlarged : Graph → ℕ → RowSet → Type 0
-  Enlarged g x s = (d : M .Element) → Sat s d → (a : RowSet) × AlternativeOf g x a × Sat a d
+  Enlarged g x s = (d : Element S) → Sat s d → (a : RowSet) × AlternativeOf g x a × Sat a d
 
   -- whoever reaches the set of n from the state above it satisfies an alternative of that state
   abbrev pub Blocked : Graph → Node → Type 0
-  Blocked g n = (d e : M .Element) → Sat (nodeAt g (n .pst) .rows) d → Reach (n .pst) (n .prl) d e → Sat (n .rows) e
+  Blocked g n = (d e : Element S) → Sat (nodeAt g (n .pst) .rows) d → Reach (n .pst) (n .prl) d e → Sat (n .rows) e
       → (a : RowSet) × AlternativeOf g (n .pst) a × Sat a d
 
   abbrev pub StateSays : Graph → ℕ → Node → Status → Type 0
@@ -79,45 +77,46 @@ module _ (t : Table) (tbox wanted : List ℕ) (room : ℕ) (M : Structure t) whe
   AnswerAll g x [] [] = Unit {0}
   AnswerAll g x [] (y ∷ ys) = ⊥
   AnswerAll g x (e ∷ es) [] = ⊥
-  AnswerAll g x (e ∷ es) (y ∷ ys) = Answers t tbox wanted g x (e .0) (e .1) y × AnswerAll g x es ys
+  AnswerAll g x (e ∷ es) (y ∷ ys) = Answers (S .table) (S .tbox) (S .wanted) g x (e .0) (e .1) y × AnswerAll g x es ys
 
   abbrev pub Expanded : Graph → ℕ → RowSet → Type 0
-  Expanded g zero s = (y : ℕ) × (children g 0 ≡ y ∷ []) × Under g 0 noRole y × Subset (fromList wanted) (nodeAt g y .rows)
-  Expanded g (suc x) s = AnswerAll g (suc x) (existentials t s) (children g (suc x))
+  Expanded g zero s = (y : ℕ) × (children g 0 ≡ y ∷ []) × Under g 0 noRole y × Subset (fromList (S .wanted)) (nodeAt g y .rows)
+  Expanded g (suc x) s = AnswerAll g (suc x) (existentials (S .table) s) (children g (suc x))
 
   pub record StateShape (g : Graph) (x : ℕ) (n : Node) : Type 0 where
     pub link : n .link ≡ unlinked
     pub root : x ≡ 0 → n .rows ≡ empty
-    pub clashFree : x ≢ 0 → T (not (clash t (n .rows)))
-    pub finished : T (not (unfinished t (n .rows)))
+    pub clashFree : x ≢ 0 → T (not (clash (S .table) (n .rows)))
+    pub finished : T (not (unfinished (S .table) (n .rows)))
     pub expanded : T (not (isUnset (n .status))) → Expanded g x (n .rows)
 
-  pub record BranchShape (g : Graph) (x : ℕ) (n : Node) : Type 0 where
+  -- a node that is no state, with the state above p and the role ρ
+  pub record BranchShape (g : Graph) (x p ρ : ℕ) : Type 0 where
     pub notRoot : x ≢ 0
-    pub above : n .pst < nodeCount g
-    pub aboveState : nodeAt g (n .pst) .isState ≡ true
-    pub aboveRoot : n .pst ≡ 0 → n .prl ≡ noRole
+    pub above : p < nodeCount g
+    pub aboveState : nodeAt g p .isState ≡ true
+    pub aboveRoot : p ≡ 0 → ρ ≡ noRole
 
-  -- a linked node has its state's set, and the state above has all that the set asks of it
-  pub record Linked (g : Graph) (n : Node) (y : ℕ) : Type 0 where
+  -- a node with the set s, linked to y: y has its set, and the state above has all that the set asks of it
+  pub record Linked (g : Graph) (s : RowSet) (p ρ y : ℕ) : Type 0 where
     pub there : y < nodeCount g
     pub notRoot : y ≢ 0
     pub isState : nodeAt g y .isState ≡ true
-    pub rows : nodeAt g y .rows ≡ n .rows
-    pub back : lacking t (n .rows) (inverse (n .prl)) (nodeAt g (n .pst) .rows) ≡ empty
+    pub rows : nodeAt g y .rows ≡ s
+    pub back : lacking (S .table) s (inverse ρ) (nodeAt g p .rows) ≡ empty
 
   abbrev pub LinkShape : Graph → Node → Link → Type 0
   LinkShape g n unlinked = Unit {0}
   LinkShape g n lapsed = n .isState ≡ false
-  LinkShape g n (toState y) = (n .isState ≡ false) × Linked g n y
+  LinkShape g n (toState y) = (n .isState ≡ false) × Linked g (n .rows) (n .pst) (n .prl) y
 
   abbrev pub KindFact : Graph → ℕ → Node → Bool → Type 0
   KindFact g x n true = StateShape g x n × StateSays g x n (n .status)
-  KindFact g x n false = BranchShape g x n × BranchSays g x n (n .status)
+  KindFact g x n false = BranchShape g x (n .pst) (n .prl) × BranchSays g x n (n .status)
 
   pub record Fact (g : Graph) (x : ℕ) (n : Node) : Type 0 where
-    pub bounded : n .rows < 2 ^ length t
-    pub rules : x ≢ 0 → Subset (fromList tbox) (n .rows)
+    pub bounded : n .rows < 2 ^ rowCount S
+    pub rules : x ≢ 0 → Subset (fromList (S .tbox)) (n .rows)
     pub link : LinkShape g n (n .link)
     pub kind : KindFact g x n (n .isState)
 
@@ -127,7 +126,7 @@ module _ (t : Table) (tbox wanted : List ℕ) (room : ℕ) (M : Structure t) whe
   pub record StateEdge (g : Graph) (x y : ℕ) : Type 0 where
     pub noState : nodeAt g y .isState ≡ false
     pub pst : nodeAt g y .pst ≡ x
-    pub demand : (d : M .Element) → Sat (nodeAt g x .rows) d → (e : M .Element) × Reach x (nodeAt g y .prl) d e × Sat (nodeAt g y .rows) e
+    pub demand : (d : Element S) → Sat (nodeAt g x .rows) d → (e : Element S) × Reach x (nodeAt g y .prl) d e × Sat (nodeAt g y .rows) e
 
   -- a child that is no state of a node that is none: newer, in the same place, with a larger set
   pub record BranchEdge (g : Graph) (x y : ℕ) : Type 0 where
@@ -151,13 +150,13 @@ module _ (t : Table) (tbox wanted : List ℕ) (room : ℕ) (M : Structure t) whe
   pub record AlternativeFact (g : Graph) (x : ℕ) (a : RowSet) : Type 0 where
     pub there : x < nodeCount g
     pub notRoot : x ≢ 0
-    pub bounded : a < 2 ^ length t
-    pub extra : (j : ℕ) × (j < length t) × T (mem j a) × T (not (mem j (nodeAt g x .rows)))
+    pub bounded : a < 2 ^ rowCount S
+    pub extra : (j : ℕ) × (j < rowCount S) × T (mem j a) × T (not (mem j (nodeAt g x .rows)))
 
   -- ---- the invariant
 
   pub record Inv (g : Graph) : Type 0 where
-    pub fits : nodeCount g ≤ room
+    pub fits : nodeCount g ≤ S .capacity .nodeRoom
     pub root : (0 < nodeCount g) × (nodeAt g 0 .isState ≡ true)
     pub fact : (x : ℕ) → x < nodeCount g → Fact g x (nodeAt g x)
     pub ends : (x y : ℕ) → Child g x y → (x < nodeCount g) × (y < nodeCount g)
@@ -171,7 +170,7 @@ module _ (t : Table) (tbox wanted : List ℕ) (room : ℕ) (M : Structure t) whe
 
   abbrev pub Ready : Graph → ℕ → Node → Bool → Type 0
   Ready g x n true = children g x ≡ []
-  Ready g x n false = (n .link ≡ unlinked) × T (unfinished t (n .rows))
+  Ready g x n false = (n .link ≡ unlinked) × T (unfinished (S .table) (n .rows))
 
   abbrev pub QuietLink : Graph → ℕ → Link → Type 0
   QuietLink g x unlinked = foldStatus branchTable unsat (statuses g x) ≡ «open»

@@ -1,6 +1,12 @@
 pub mod Structure
 pub mod Semantics
 pub mod FiniteStructure
+pub mod Setting
 pub mod Grows
 pub mod Finished
 pub mod Invariant
+pub mod Keeps
+pub mod Operations
+pub mod Quiet
+pub mod Judge
+pub mod Linked
