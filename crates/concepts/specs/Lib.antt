@@ -2,6 +2,8 @@
 pub mod Tests
 pub mod Lists
 pub mod ListLaws
+pub mod Begins
+pub mod Counting
 pub mod Role
 pub mod Concept
 pub mod RowSet

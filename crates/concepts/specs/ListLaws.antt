@@ -1,11 +1,11 @@
 -- Laws of Lists.
 --
--- In order: `range`, `select`, `any`, `every`, `answers`, `first`; what stands in each, by membership.
--- Not here: laws of `length`, `getD`, `_++_` (`lib.ListN`, `lib.Seq`).
+-- In order: places (`getD`, `map`, `zip`), `range`, `select`, `any`, `every`, `answers`, `first`; what stands in each, by membership.
+-- Not here: laws of `length` and `_++_`, more of `getD` (`lib.ListN`, `lib.Seq`).
 -- Assumes nothing.
 use mathlib.Core.Path.{_≡_, refl, sym, ap, ap₂, _∙_, subst}
 use mathlib.Core.Bool.{Bool, true, false, not, _&&_, _||_}
-use mathlib.Core.List.{List, [], _∷_, _++_, map, List·Memᴰ, List·Memᴰ·head, List·Memᴰ·tail, List·Memᴰ·cases-cons, List·Memᴰ·not-nil}
+use mathlib.Core.List.{List, [], _∷_, _++_, map, zip, zipWith, List·Memᴰ, List·Memᴰ·head, List·Memᴰ·tail, List·Memᴰ·cases-cons, List·Memᴰ·not-nil}
 use mathlib.Core.Logic.{_⊎_, inl, inr}
 use mathlib.Core.Option.{Option, none, some}
 use Prim.Native.Nat.{ℕ, zero, suc, _+_, _≤_, _<_}
@@ -16,6 +16,50 @@ use lib.Dec.{T, T-not, not-T}
 use lib.ListN.{length, getD}
 use Rattle.concepts.specs.Lists.{range, select, any, every, consAnswer, answers, first}
 use Rattle.concepts.specs.Tests.{or-cases, or-left, or-right, and-both, and-make, by-test, decide, as-true}
+
+-- ---- places
+
+module _ {A : Type 0} where
+  pub getD-mem : (xs : List A) (i : ℕ) (d : A) → i < length xs → List·Memᴰ (getD xs i d) xs
+  getD-mem [] i d h = absurd (not-suc-le-zero h)
+  getD-mem (x ∷ xs) zero d h = List·Memᴰ·head refl
+  getD-mem (x ∷ xs) (suc i) d h = List·Memᴰ·tail (getD-mem xs i d (le-of-suc-le-suc h))
+
+  pub mem-getD : (xs : List A) (x d : A) → List·Memᴰ x xs → (i : ℕ) × (i < length xs) × (getD xs i d ≡ x)
+  mem-getD [] x d m = absurd (List·Memᴰ·not-nil m)
+  mem-getD (y ∷ ys) x d m = elim (List·Memᴰ·cases-cons m) [
+    | inl e ↦ (zero, omega arith, sym e)
+    | inr v ↦ let (i, h, e) = mem-getD ys x d v in (suc i, omega arith, e)
+  ]
+
+module _ {A B : Type 0} where
+  pub getD-map : (f : A → B) (xs : List A) (i : ℕ) (d : A) (c : B) → i < length xs → getD (map f xs) i c ≡ f (getD xs i d)
+  getD-map f [] i d c h = absurd (not-suc-le-zero h)
+  getD-map f (x ∷ xs) zero d c h = refl
+  getD-map f (x ∷ xs) (suc i) d c h = getD-map f xs i d c (le-of-suc-le-suc h)
+
+  pub mem-zip : (xs : List A) (ys : List B) (i : ℕ) (a : A) (b : B) → i < length xs → i < length ys → List·Memᴰ (getD xs i a, getD ys i b) (zip xs ys)
+  unfolding zip zipWith
+  mem-zip [] ys i a b h k = absurd (not-suc-le-zero h)
+  mem-zip (x ∷ xs) [] i a b h k = absurd (not-suc-le-zero k)
+  mem-zip (x ∷ xs) (y ∷ ys) zero a b h k = List·Memᴰ·head refl
+  mem-zip (x ∷ xs) (y ∷ ys) (suc i) a b h k = List·Memᴰ·tail (mem-zip xs ys i a b (le-of-suc-le-suc h) (le-of-suc-le-suc k))
+
+  pub zip-mem : (xs : List A) (ys : List B) (p : A × B) (a : A) (b : B) → List·Memᴰ p (zip xs ys)
+      → (i : ℕ) × (i < length xs) × (i < length ys) × (p .0 ≡ getD xs i a) × (p .1 ≡ getD ys i b)
+  unfolding zip zipWith
+  zip-mem [] ys p a b m = absurd (List·Memᴰ·not-nil m)
+  zip-mem (x ∷ xs) [] p a b m = absurd (List·Memᴰ·not-nil m)
+  zip-mem (x ∷ xs) (y ∷ ys) p a b m = elim (List·Memᴰ·cases-cons m) [
+    | inl e ↦ (zero, omega arith, omega arith, ap (λ (q : A × B). q .0) e, ap (λ (q : A × B). q .1) e)
+    | inr v ↦ let (i, h, k, q, r) = zip-mem xs ys p a b v in (suc i, omega arith, omega arith, q, r)
+  ]
+
+  pub length-zip : (xs : List A) (ys : List B) → length (zip xs ys) ≤ length ys
+  unfolding zip zipWith
+  length-zip [] ys = omega arith
+  length-zip (x ∷ xs) [] = omega arith
+  length-zip (x ∷ xs) (y ∷ ys) = omega (arith, length-zip xs ys)
 
 -- ---- range
 

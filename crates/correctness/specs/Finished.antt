@@ -46,7 +46,7 @@ module _ (t : Table) (tbox wanted : List ℕ) (g : Graph) where
     -- going down from a node that is no state and not linked
     pub next : (x : ℕ) → x < nodeCount g → nodeAt g x .isState ≡ false → ((y : ℕ) → nodeAt g x .link ≢ toState y) → T (good (nodeAt g x .status))
         → (c : ℕ) × List·Memᴰ c (children g x) × T (good (nodeAt g c .status))
-    pub down : (x c : ℕ) → x < nodeCount g → nodeAt g x .isState ≡ false → List·Memᴰ c (children g x) → T (isSat (nodeAt g c .status) || isOpen (nodeAt g c .status))
+    pub down : (x c : ℕ) → x < nodeCount g → nodeAt g x .isState ≡ false → ((y : ℕ) → nodeAt g x .link ≢ toState y) → List·Memᴰ c (children g x) → T (isSat (nodeAt g c .status) || isOpen (nodeAt g c .status))
         → (x < c) × Under g (nodeAt g x .pst) (nodeAt g x .prl) c × Subset (nodeAt g x .rows) (nodeAt g c .rows)
     -- a linked node and its state
     pub linked : (x y : ℕ) → x < nodeCount g → nodeAt g x .link ≡ toState y

@@ -10,3 +10,7 @@ pub mod Operations
 pub mod Quiet
 pub mod Judge
 pub mod Linked
+pub mod Truth
+pub mod Descend
+pub mod Walk
+pub mod Model

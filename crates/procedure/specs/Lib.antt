@@ -7,3 +7,4 @@ pub mod Graph
 pub mod GraphLaws
 pub mod Tableau
 pub mod Example
+pub mod ExampleLaws
