@@ -55,7 +55,7 @@ module _ (S : Setting) where
   abbrev pub OpenSays : Graph → ℕ → Node → Link → Type 0
   OpenSays g x n unlinked = Covered g x (n .rows)
   OpenSays g x n lapsed = Covered g x (n .rows)
-  OpenSays g x n (toState y) = Unit {0}
+  OpenSays g x n (toState y) = Child g x y
 
   abbrev pub SatSays : Graph → ℕ → Link → Type 0
   SatSays g x unlinked = (y : ℕ) × Child g x y × (nodeAt g y .status ≡ sat)

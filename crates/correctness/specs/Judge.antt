@@ -7,6 +7,7 @@ use mathlib.Core.Bool.{Bool, true, false, not}
 use mathlib.Core.List.{List, [], _∷_, map, List·Memᴰ}
 use mathlib.Core.Logic.{_⊎_, inl, inr, _≢_}
 use Prim.Native.Nat.{ℕ, _≤_, _<_}
+use native.Mathlib.Decide.{ℕ-discrete}
 use native.Mathlib.Omega.{arith}
 use lib.Dec.{T, T-not}
 use Rattle.concepts.specs.Tests.{decide}
@@ -72,6 +73,10 @@ module _ (S : Setting) where
 
   -- ---- what judging leaves
 
+  -- z is settled, x is its parent and has a status: x is to be updated
+  abbrev pub Excused : Graph → ℕ → ℕ → Type 0
+  Excused h z x = T (not (isLive (nodeAt h z .status))) × Child h x z × T (not (isUnset (nodeAt h x .status)))
+
   -- node z has its status; only z is changed, nodes may be added, and the parents of z are excused if z is settled
   pub record Judged (P : ℕ → Type 0) (g : Graph) (z : ℕ) (h : Graph) : Type 0 where
     pub inv : Inv S h
@@ -79,9 +84,9 @@ module _ (S : Setting) where
     pub kept : (x : ℕ) → x < nodeCount g → x ≢ z → nodeAt h x ≡ nodeAt g x
     pub otherChildren : (x : ℕ) → x < nodeCount g → x ≢ z → children h x ≡ children g x
     pub set : T (not (isUnset (nodeAt h z .status)))
-    pub quiet : QuietBut S (λ x. P x ⊎ (T (not (isLive (nodeAt h z .status))) × Child h x z)) h
+    pub quiet : QuietBut S (λ x. P x ⊎ Excused h z x) h
 
-  quiet-settled : (g : Graph) (x : ℕ) (n : Node) (v : Status) → T (not (isLive v)) → QuietBy S g x n v
+  pub quiet-settled : (g : Graph) (x : ℕ) (n : Node) (v : Status) → T (not (isLive v)) → QuietBy S g x n v
   quiet-settled g x n unset t = absurd t
   quiet-settled g x n «open» t = absurd t
   quiet-settled g x n sat t = tt
@@ -115,27 +120,31 @@ module _ (S : Setting) where
           | inl l ↦ let o = live-open w l nu in subst (λ (w : Status). QuietBy S h z (nodeAt h z) w) (sym o) (f o)
           | inr s ↦ quiet-settled h z (nodeAt h z) w s
         ]) in
+      let still-set : (x : ℕ) → T (not (isUnset (nodeAt g x .status))) → T (not (isUnset (nodeAt h x .status))) = λ x w. elim (ℕ-discrete x z) [
+        | yes e ↦ rw (e, st) u
+        | no d ↦ rw (node-other z (withStatus v n) g x d) w
+      ] in
       record {
         inv = inv-replace S z (withStatus v n) g I hz F (record { bounded = I .fact z hz .bounded; rules = I .fact z hz .rules; link = link-status g n v (n .link) (I .fact z hz .link); kind = K }) (λ y m. I .edge z y m);
         grows = grows-replace z (withStatus v n) g hz F;
         kept = λ x hx d. node-other z (withStatus v n) g x d;
         otherChildren = λ x hx d. same x;
         set = rw st u;
-        quiet = quiet-replace S (λ x. P x ⊎ (x ≡ z)) (λ x. P x ⊎ (T (not (isLive (nodeAt h z .status))) × Child h x z)) z (withStatus v n) g hz Q
+        quiet = quiet-replace S (λ x. P x ⊎ (x ≡ z)) (λ x. P x ⊎ Excused h z x) z (withStatus v n) g hz Q
           (λ x d p. elim p [ inl a ↦ inl a | inr e ↦ absurd (d e) ])
           (inr (quietly v st (λ e. subst (λ (a : Node). QuietBy S h z a «open») (sym here) (q e)) (decide (isLive v)) u))
           (elim (decide (isLive v)) [
             | inl l ↦ inl (live-rank v l ∙ sym (live-rank (n .status) L))
-            | inr s ↦ inr (λ x m. inr (rw st s, rw (same x) m))
+            | inr s ↦ inr (λ x m w. inr (rw st s, rw (same x) m, still-set x w))
           ])
       }
 
   -- ---- a branch, or a lapsed special node
 
-  open-says : (g : Graph) (z : ℕ) (n : Node) (l : Link) → Covered S g z (n .rows) → OpenSays S g z n l
-  open-says g z n unlinked C = C
-  open-says g z n lapsed C = C
-  open-says g z n (toState y) C = tt
+  open-says : (g : Graph) (z : ℕ) (n : Node) (l : Link) → ((y : ℕ) → l ≢ toState y) → Covered S g z (n .rows) → OpenSays S g z n l
+  open-says g z n unlinked d C = C
+  open-says g z n lapsed d C = C
+  open-says g z n (toState y) d C = absurd (d y refl)
 
   module _ (P : ℕ → Type 0) (g : Graph) (z : ℕ) (I : Inv S g) (hz : z < nodeCount g) (noState : nodeAt g z .isState ≡ false)
       (notLinked : (y : ℕ) → nodeAt g z .link ≢ toState y) (C : Covered S g z (nodeAt g z .rows)) where
@@ -163,7 +172,7 @@ module _ (S : Setting) where
 
     branch-says : (v : Status) → branch-status ≡ v → BranchSays S g z (withStatus v (nodeAt g z)) v
     branch-says unset e = tt
-    branch-says «open» e = open-says g z (withStatus «open» (nodeAt g z)) (nodeAt g z .link) C
+    branch-says «open» e = open-says g z (withStatus «open» (nodeAt g z)) (nodeAt g z .link) notLinked C
     branch-says sat e = sat-says (nodeAt g z .link) notLinked (sat-child e)
     branch-says unsat e = λ d p.
         let (y, m, s, q) = C d p in

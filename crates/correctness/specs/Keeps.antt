@@ -72,7 +72,7 @@ module _ (S : Setting) where
       open-says-mono : (l : Link) → OpenSays S g x n l → OpenSays S h x n l
       open-says-mono unlinked C = covered-mono x (n .rows) C
       open-says-mono lapsed C = covered-mono x (n .rows) C
-      open-says-mono (toState y) C = tt
+      open-says-mono (toState y) C = grows-child G x y C
 
       sat-child-mono : (y : ℕ) × Child g x y × (nodeAt g y .status ≡ sat) → (y : ℕ) × Child h x y × (nodeAt h y .status ≡ sat)
       sat-child-mono C = (C .0, grows-child G x (C .0) (C .1), status-stays (C .0) sat (ends x (C .0) (C .1) .1) tt (C .2))

@@ -10,6 +10,9 @@ pub mod Operations
 pub mod Quiet
 pub mod Judge
 pub mod Linked
+pub mod Put
+pub mod Measure
+pub mod Update
 pub mod Truth
 pub mod Descend
 pub mod Walk

@@ -218,7 +218,7 @@ module _ (S : Setting) where
     open-judged : T (isLive (nodeAt g y .status)) → Judged S P g z (setStatus z «open» g)
     open-judged l =
         let h = setStatus z «open» g in
-        status-judged S P g z «open» I hz L tt (kind-at «open» (subst (λ (x : Link). OpenSays S g z (withStatus «open» n) x) (sym linked) tt))
+        status-judged S P g z «open» I hz L tt (kind-at «open» (subst (λ (x : Link). OpenSays S g z (withStatus «open» n) x) (sym linked) edge))
         (λ e. subst (λ (b : Bool). QuietOpen S h z (n .link) b) (sym noState) (subst (λ (x : Link). QuietLink S h z x) (sym linked)
           (rw (children-edges h g refl z) edge, rw (node-other z (withStatus «open» n) g y (child-other S g I z y edge)) l)))
         Q
