@@ -13,6 +13,9 @@ pub mod Linked
 pub mod Put
 pub mod Measure
 pub mod Update
+pub mod Expand
+pub mod ExpandState
+pub mod Whole
 pub mod Truth
 pub mod Descend
 pub mod Walk

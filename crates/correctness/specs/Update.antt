@@ -13,6 +13,7 @@ use lib.ListN.{length}
 use Rattle.concepts.specs.Tests.{by-test, decide}
 use Rattle.concepts.specs.RowSetLaws.{missing-all}
 use Rattle.procedure.specs.Status.{Status, unset, «open», sat, unsat, toosmall, isUnset, isOpen, isLive}
+use Rattle.procedure.specs.StatusLaws.{open-live, open-set, is-open, not-open-settled}
 use Rattle.procedure.specs.Graph.{Link, unlinked, toState, lapsed, Node, Graph, Result, reached, _>>=_, forEach, nodeAt, nodeCount, children, parents}
 use Rattle.procedure.specs.GraphLaws.{Sure, sure-map, sure-bind, sure-forEach, Child, child-parent}
 use Rattle.procedure.specs.Tableau.{judge, judgeBy, judgeLinked, judgeBranch, judgeState, put, updateParents, updateWithin}
@@ -24,27 +25,6 @@ use Rattle.correctness.specs.Judge.{state-fact, branch-fact, quiet-settl
 use Rattle.correctness.specs.Linked.{linked-judged}
 use Rattle.correctness.specs.Put.{put-right}
 use Rattle.correctness.specs.Measure.{count-le, settled, settled-grows, settled-rises, set-there}
-
-pub open-live : (v : Status) → v ≡ «open» → T (isLive v)
-open-live v e = rw e tt
-
-pub open-set : (v : Status) → v ≡ «open» → T (not (isUnset v))
-open-set v e = rw e tt
-
-is-open : (v : Status) → T (isOpen v) → v ≡ «open»
-is-open unset t = absurd t
-is-open «open» t = refl
-is-open sat t = absurd t
-is-open unsat t = absurd t
-is-open toosmall t = absurd t
-
--- a status that is set and not open is settled
-not-open-settled : (v : Status) → T (not (isOpen v)) → T (not (isUnset v)) → T (not (isLive v))
-not-open-settled unset t u = absurd u
-not-open-settled «open» t u = absurd t
-not-open-settled sat t u = tt
-not-open-settled unsat t u = tt
-not-open-settled toosmall t u = tt
 
 module _ (S : Setting) where
   -- ---- judging an open node

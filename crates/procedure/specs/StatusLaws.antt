@@ -1,7 +1,7 @@
 -- Laws of the two status tables, each shown over the whole table: in the order yes, open, small, never
 -- the branch table gives the earlier of two statuses and the state table the later.
 --
--- In order: a test over the whole table; the tables by rank; folds; statuses by rank.
+-- In order: a test over the whole table; the tables by rank; folds; statuses by rank; statuses by tests.
 -- Assumes nothing.
 use mathlib.Core.Path.{_≡_, refl, ap, _∙_}
 use mathlib.Core.Bool.{Bool, not}
@@ -14,7 +14,7 @@ use lib.ListN.{getD}
 use lib.Dec.{T, eqb, eqb→eq}
 use Rattle.concepts.specs.Lists.{every}
 use Rattle.concepts.specs.ListLaws.{every-mem}
-use Rattle.procedure.specs.Status.{Status, unset, «open», sat, unsat, toosmall, rank, StatusTable, branchTable, stateTable, entry, foldStatus, isUnset, isLive}
+use Rattle.procedure.specs.Status.{Status, unset, «open», sat, unsat, toosmall, rank, StatusTable, branchTable, stateTable, entry, foldStatus, isUnset, isOpen, isLive}
 
 abbrev statuses : List Status
 statuses = unset ∷ «open» ∷ sat ∷ unsat ∷ toosmall ∷ []
@@ -156,3 +156,33 @@ live-open «open» t u = refl
 live-open unset t u = absurd u
 live-open toosmall t u = absurd t
 live-open unsat t u = absurd t
+
+-- ---- statuses by tests
+
+pub open-live : (v : Status) → v ≡ «open» → T (isLive v)
+open-live v e = rw e tt
+
+pub open-set : (v : Status) → v ≡ «open» → T (not (isUnset v))
+open-set v e = rw e tt
+
+pub is-open : (v : Status) → T (isOpen v) → v ≡ «open»
+is-open unset t = absurd t
+is-open «open» t = refl
+is-open sat t = absurd t
+is-open unsat t = absurd t
+is-open toosmall t = absurd t
+
+pub is-unset : (v : Status) → T (isUnset v) → v ≡ unset
+is-unset unset t = refl
+is-unset «open» t = absurd t
+is-unset sat t = absurd t
+is-unset unsat t = absurd t
+is-unset toosmall t = absurd t
+
+-- a status that is set and not open is settled
+pub not-open-settled : (v : Status) → T (not (isOpen v)) → T (not (isUnset v)) → T (not (isLive v))
+not-open-settled unset t u = absurd u
+not-open-settled «open» t u = absurd t
+not-open-settled sat t u = tt
+not-open-settled unsat t u = tt
+not-open-settled toosmall t u = tt
