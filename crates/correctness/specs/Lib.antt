@@ -16,6 +16,11 @@ pub mod Update
 pub mod Expand
 pub mod ExpandState
 pub mod Whole
+pub mod Cannot
+pub mod Can
+pub mod Claim
+pub mod Verdict
+pub mod Theorem
 pub mod Truth
 pub mod Descend
 pub mod Walk
