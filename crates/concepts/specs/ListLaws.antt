@@ -1,7 +1,8 @@
 -- Laws of Lists.
 --
--- In order: places (`getD`, `map`, `zip`), `range`, `select`, `any`, `every`, `answers`, `first`; what stands in each, by membership.
--- Not here: laws of `length` and `_++_`, more of `getD` (`lib.ListN`, `lib.Seq`).
+-- In order: places (`getD`, `map`, `zip`), `range`, `take`, `select`, `any`, `every`, `any` over a range, `map`, `answers`, `first`;
+-- what stands in each, by membership.
+-- Not here: other laws of `length`, `getD`, `take`, `_++_` (`lib.ListN`, `lib.Seq`).
 -- Assumes nothing.
 use mathlib.Core.Path.{_≡_, refl, sym, ap, ap₂, _∙_, subst}
 use mathlib.Core.Bool.{Bool, true, false, not, _&&_, _||_}
@@ -13,9 +14,9 @@ use native.Mathlib.Nat.{not-suc-le-zero, le-of-suc-le-suc}
 use native.Mathlib.Decide.{ℕ-discrete}
 use native.Mathlib.Omega.{arith}
 use lib.Dec.{T, T-not, not-T}
-use lib.ListN.{length, getD}
-use Rattle.concepts.specs.Lists.{range, select, any, every, consAnswer, answers, first}
-use Rattle.concepts.specs.Tests.{or-cases, or-left, or-right, and-both, and-make, by-test, decide, as-true}
+use lib.ListN.{length, getD, take, length-map}
+use Rattle.concepts.specs.Lists.{range, NoneBelow, select, any, every, consAnswer, answers, first}
+use Rattle.concepts.specs.Tests.{or-cases, or-left, or-right, and-both, and-make, by-test, decide, as-true, as-false, from-true, from-false}
 
 -- ---- places
 
@@ -91,6 +92,22 @@ range-mem i (suc n) k m = elim (List·Memᴰ·cases-cons m) [
 ]
 
 module _ {A : Type 0} where
+  pub getD-map-range : (f : ℕ → A) (i n k : ℕ) (d : A) → k < n → getD (map f (range i n)) k d ≡ f (i + k)
+  unfolding range
+  getD-map-range f i zero k d h = absurd (not-suc-le-zero h)
+  getD-map-range f i (suc n) zero d h = ap f (omega arith)
+  getD-map-range f i (suc n) (suc k) d h = getD-map-range f (suc i) n k d (le-of-suc-le-suc h) ∙ ap f (omega arith)
+
+  pub length-map-range : (f : ℕ → A) (i n : ℕ) → length (map f (range i n)) ≡ n
+  length-map-range f i n = length-map (range i n) f ∙ length-range i n
+
+  -- ---- take
+
+  pub take-length-take : (n : ℕ) (xs : List A) → take (length (take n xs)) xs ≡ take n xs
+  take-length-take zero xs = refl
+  take-length-take (suc n) [] = refl
+  take-length-take (suc n) (x ∷ xs) = ap (λ ys. x ∷ ys) (take-length-take n xs)
+
   -- ---- select
 
   pub select-mem : (f : A → Bool) (xs : List A) (x : A) → List·Memᴰ x (select f xs) → List·Memᴰ x xs × T (f x)
@@ -165,6 +182,34 @@ module _ {A : Type 0} where
       let (p, q) = and-both (f y) (every f ys) t in
       elim (List·Memᴰ·cases-cons m) [ inl e ↦ rw e p | inr v ↦ every-mem f ys x q v ]
 
+-- ---- any over the numbers below n
+
+pub any-range-found : (f : ℕ → Bool) (n i : ℕ) → i < n → f i ≡ true → any f (range 0 n) ≡ true
+any-range-found f n i h e =
+    as-true (any f (range 0 n)) (any-mem f (range 0 n) i (mem-range 0 n i (omega arith) (omega arith)) (from-true (f i) e))
+
+pub any-range-none : (f : ℕ → Bool) (n : ℕ) → NoneBelow f n → any f (range 0 n) ≡ false
+any-range-none f n all = as-false (any f (range 0 n)) (not-T (any f (range 0 n)) (λ t.
+    let (k, m, u) = mem-any f (range 0 n) t in
+    let (a, b) = range-mem 0 n k m in
+    T-not (f k) (from-false (f k) (all k (omega arith))) u))
+
+pub none-any-range : (f : ℕ → Bool) (n : ℕ) → any f (range 0 n) ≡ false → NoneBelow f n
+none-any-range f n e k h =
+    as-false (f k) (not-any f (range 0 n) k (from-false (any f (range 0 n)) e) (mem-range 0 n k (omega arith) (omega arith)))
+
+-- the least number below n that passes, or none does
+pub least-below : (f : ℕ → Bool) (n : ℕ) → ((k : ℕ) × (k < n) × NoneBelow f k × (f k ≡ true)) ⊎ NoneBelow f n
+least-below f zero = inr (λ k h. absurd (not-suc-le-zero h))
+least-below f (suc n) = elim (least-below f n) [
+  | inl (k, h, all, e) ↦ inl (k, omega arith, all, e)
+  | inr all ↦ here (f n) refl all
+]
+  where
+    here : (x : Bool) → f n ≡ x → NoneBelow f n → ((k : ℕ) × (k < suc n) × NoneBelow f k × (f k ≡ true)) ⊎ NoneBelow f (suc n)
+    here true e all = inl (n, omega arith, all, e)
+    here false e all = inr (λ k h. elim (ℕ-discrete k n) [ yes p ↦ ap f p ∙ e | no d ↦ all k (omega arith) ])
+
 module _ {A B : Type 0} where
   -- ---- map
 
@@ -235,3 +280,18 @@ module _ {A B : Type 0} where
           → _≡_ {A = Option B} (elim o [ none ↦ first f zs | some w ↦ some w ]) none → f x ≡ none
       from none p ih q = elim (List·Memᴰ·cases-cons m) [ inl u ↦ ap f u ∙ p | inr v ↦ ih q v ]
       from (some w) p ih q = let z : _≡_ {A = ℕ} 0 1 = cc in absurd (omega arith)
+
+  -- the first answer stands at k if nothing before k has one
+  pub first-at : (f : A → Option B) (xs : List A) (d : A) (k : ℕ) (y : B) → k < length xs → ((j : ℕ) → j < k → f (getD xs j d) ≡ none)
+      → f (getD xs k d) ≡ some y → first f xs ≡ some y
+  unfolding first
+  first-at f [] d k y h before here = absurd (not-suc-le-zero h)
+  first-at f (x ∷ xs) d zero y h before here = rw (here, first)
+  first-at f (x ∷ xs) d (suc k) y h before here =
+      rw (before 0 (omega arith), first) (first-at f xs d k y (le-of-suc-le-suc h) (λ j l. before (suc j) (omega arith)) here)
+
+  pub first-nowhere : (f : A → Option B) (xs : List A) (d : A) → ((j : ℕ) → j < length xs → f (getD xs j d) ≡ none) → first f xs ≡ none
+  unfolding first
+  first-nowhere f [] d before = refl
+  first-nowhere f (x ∷ xs) d before =
+      rw (before 0 (omega arith), first) (first-nowhere f xs d (λ j l. before (suc j) (omega arith)))

@@ -1,16 +1,22 @@
 -- Lists, as the definitions use them. Laws are in ListLaws.
 --
--- In order: `range`, a choice of elements (`select`, `answers`), tests over a list (`any`, `every`), the first answer (`first`).
+-- In order: `range`, numbers that a test passes over (`NoneBelow`), a choice of elements (`select`, `answers`), tests over a list
+-- (`any`, `every`), the first answer (`first`).
 -- Assumes nothing.
+use mathlib.Core.Path.{_≡_}
 use mathlib.Core.Bool.{Bool, true, false, _&&_, _||_}
 use mathlib.Core.List.{List, [], _∷_}
 use mathlib.Core.Option.{Option, none, some}
-use Prim.Native.Nat.{ℕ, zero, suc}
+use Prim.Native.Nat.{ℕ, zero, suc, _<_}
 
 -- i, i + 1, .., n numbers in all
 unfoldable pub range : ℕ → ℕ → List ℕ
 range i zero = []
 range i (suc n) = i ∷ range (suc i) n
+
+-- no number below i passes
+abbrev pub NoneBelow : (ℕ → Bool) → ℕ → Type 0
+NoneBelow f i = (k : ℕ) → k < i → f k ≡ false
 
 module _ {A : Type 0} where
   -- the elements that pass, in their order

@@ -16,8 +16,8 @@ use Rattle.meaning.specs.Meaning.{Model, finite}
 use Rattle.rulefile.specs.Format.{Bytes, RuleFile, Reading, refused, accepted, reading}
 use Rattle.rulefile.specs.FormatLaws.{WellFormed, accepted-well-formed}
 use Rattle.procedure.specs.Status.{Status, unset, «open», sat, unsat, toosmall, isUnset, isLive}
-use Rattle.procedure.specs.Graph.{Graph, Capacity, Result, reached, noPlace, outOfFuel, nodeAt, nodeCount, lowestUnset}
-use Rattle.procedure.specs.GraphLaws.{Sure, lowest-none}
+use Rattle.procedure.specs.Graph.{Graph, Capacity, Result, reached, noPlace, outOfFuel, nodeAt, nodeCount}
+use Rattle.procedure.specs.GraphLaws.{Sure, lowestUnset-none}
 use Rattle.procedure.specs.Tableau.{run}
 use Rattle.procedure.specs.Example.{Example, example, worldOf}
 use Rattle.run.specs.Run.{Lengths, capacity, Used, used, Answer, refusedFile, short, cannot, can, tooLong, undefined, fits, answerCan, answerRoot, answerResult, answerReading, answer}
@@ -87,18 +87,14 @@ module _ (f : RuleFile) (W : WellFormed f) (c : Capacity) where
       let S = no-element in
       let E = ended-at S refl g e in
       example-right (f .table) (f .tbox) (f .wanted) g (goodIf b) (W .ordered) (W .rules) (W .wanted) (W .existRole)
-      (run-finished S g (E .inv) (E .quiet) b (λ q x hx. unset-none g (E .over (l q)) x hx) t)
-    where
-      unset-none : (g : Graph) → lowestUnset g ≡ none → (x : ℕ) → x < nodeCount g → T (not (isUnset (nodeAt g x .status)))
-      unset-none g o x hx = lowest-none (λ y. isUnset (nodeAt g y .status)) g x o hx
+      (run-finished S g (E .inv) (E .quiet) b (λ q x hx. lowestUnset-none g x (E .over (l q)) hx) t)
 
   -- the root has a status
   root-set : (g : Graph) → runOf ≡ reached g → nodeAt g 0 .status ≡ unset → ⊥
-  unfolding no-element lowestUnset
+  unfolding no-element
   root-set g e u =
       let E = ended-at no-element refl g e in
-      let none-left = E .over (rw u tt) in
-      T-not (isUnset (nodeAt g 0 .status)) (lowest-none (λ y. isUnset (nodeAt g y .status)) g 0 none-left (E .inv .root .0)) (rw u tt)
+      T-not (isUnset (nodeAt g 0 .status)) (lowestUnset-none g 0 (E .over (rw u tt)) (E .inv .root .0)) (rw u tt)
 
   no-fuel : runOf ≡ outOfFuel → ⊥
   unfolding no-element

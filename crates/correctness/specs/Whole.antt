@@ -22,11 +22,11 @@ use Rattle.procedure.specs.StatusLaws.{is-unset}
 use Rattle.procedure.specs.SetTests.{unfinished, lowestConj, lowestDisj}
 use Rattle.procedure.specs.SetTestLaws.{lowestConj-some, lowestDisj-some, unfinished-disj}
 use Rattle.procedure.specs.Graph.{Node, Graph, Result, reached, _>>=_, appendNode, addNode, nodeAt, nodeCount, children, alternativesOf, lowestUnset}
-use Rattle.procedure.specs.GraphLaws.{Sure, sure-map, sure-bind, sure-addNode, lowest-some}
+use Rattle.procedure.specs.GraphLaws.{Sure, sure-map, sure-bind, sure-addNode, lowestUnset-some}
 use Rattle.procedure.specs.Tableau.{state, expand, loopWithin, run}
 use Rattle.correctness.specs.Setting.{Setting, rowCount}
 use Rattle.correctness.specs.Grows.{Grows}
-use Rattle.correctness.specs.Invariant.{Inv, QuietBut}
+use Rattle.correctness.specs.Invariant.{Fact, Inv, Quiet, QuietBut}
 use Rattle.correctness.specs.Measure.{count-le, withAStatus, status-rises}
 use Rattle.correctness.specs.Expand.{None}
 use Rattle.correctness.specs.ExpandState.{Rounded, expand-right}
@@ -66,7 +66,7 @@ module _ (S : Setting) where
   first-inv room = record {
     fits = omega arith;
     root = (omega arith, refl);
-    fact = λ x hx. subst (λ (y : ℕ). Rattle.correctness.specs.Invariant.Fact S rootOnly y (nodeAt rootOnly y)) (sym (only-root x hx)) (record {
+    fact = λ x hx. subst (λ (y : ℕ). Fact S rootOnly y (nodeAt rootOnly y)) (sym (only-root x hx)) (record {
       bounded = pow-pos (rowCount S);
       rules = λ d. absurd (d refl);
       link = tt;
@@ -78,7 +78,7 @@ module _ (S : Setting) where
   }
 
   first-quiet : QuietBut S None rootOnly
-  first-quiet x hx = inr (subst (λ (y : ℕ). Rattle.correctness.specs.Invariant.Quiet S rootOnly y) (sym (only-root x hx)) (no-children 0))
+  first-quiet x hx = inr (subst (λ (y : ℕ). Quiet S rootOnly y) (sym (only-root x hx)) (no-children 0))
 
   -- ---- the rounds
 
@@ -89,7 +89,7 @@ module _ (S : Setting) where
     pub over : T (isLive (nodeAt h 0 .status)) → lowestUnset h ≡ none
 
   rounds : (f : ℕ) (g : Graph) → Inv S g → QuietBut S None g → S .capacity .nodeRoom < withAStatus g + f → Sure Ended (loopWithin (S .table) (S .capacity) (S .tbox) (S .wanted) f g)
-  unfolding loopWithin lowestUnset
+  unfolding loopWithin
   rounds zero g I Q enough = omega (arith, enough, I .fits, count-le (λ n. not (isUnset (n .status))) (g .nodes))
   rounds (suc f) g I Q enough =
       by-test (Sure Ended) (isLive (nodeAt g 0 .status)) (elim (lowestUnset g) [ none ↦ reached g | some x ↦ expand (S .table) (S .capacity) (S .tbox) (S .wanted) x g >>= (λ h. loopWithin (S .table) (S .capacity) (S .tbox) (S .wanted) f h) ]) (reached g)
@@ -101,7 +101,7 @@ module _ (S : Setting) where
           → Sure Ended (elim o [ none ↦ reached g | some x ↦ expand (S .table) (S .capacity) (S .tbox) (S .wanted) x g >>= (λ h. loopWithin (S .table) (S .capacity) (S .tbox) (S .wanted) f h) ])
       next none e again = record { inv = I; quiet = Q; over = λ _. e }
       next (some x) e again =
-          let (hx, u) = lowest-some (λ y. isUnset (nodeAt g y .status)) g x e in
+          let (hx, u) = lowestUnset-some g x e in
           let fresh = is-unset (nodeAt g x .status) u in
           sure-bind (Rounded S g x I Q hx fresh) Ended (expand (S .table) (S .capacity) (S .tbox) (S .wanted) x g) (λ h. loopWithin (S .table) (S .capacity) (S .tbox) (S .wanted) f h)
           (expand-right S g x I Q hx fresh)

@@ -210,3 +210,11 @@ find-state s g x e =
     let (u, v) = and-both (nodeAt g x .isState) (eqb (nodeAt g x .rows) s) b in
     let p = ltb→lt 0 x a in
     (h, λ (z : x ≡ 0). omega arith, as-true (nodeAt g x .isState) u, eqb→eq (nodeAt g x .rows) s v)
+
+pub lowestUnset-some : (g : Graph) (x : ℕ) → lowestUnset g ≡ some x → (x < nodeCount g) × T (isUnset (nodeAt g x .status))
+unfolding lowestUnset
+lowestUnset-some g x e = lowest-some (λ y. isUnset (nodeAt g y .status)) g x e
+
+pub lowestUnset-none : (g : Graph) (x : ℕ) → lowestUnset g ≡ none → x < nodeCount g → T (not (isUnset (nodeAt g x .status)))
+unfolding lowestUnset
+lowestUnset-none g x e h = lowest-none (λ y. isUnset (nodeAt g y .status)) g x e h

@@ -1,2 +1,7 @@
--- The rule file: its format and checks, and what the reader answers.
+-- The rule file: its format and checks, and what the reader answers. Definitions apart from their laws.
 pub mod Format
+pub mod Checks
+pub mod Read
+pub mod CheckLaws
+pub mod FormatLaws
+pub mod ReadLaws

@@ -1,0 +1,58 @@
+-- `rulefile::extent` meets its contract: each variant but `Rule` counts the rows.
+-- Assumes nothing.
+use mathlib.Core.Path.{_≡_, refl, sym, _∙_}
+use mathlib.Core.List.{[], _∷_}
+use borrow.Author.Needs.{needs}
+use denote.Enum.Declared.{tagOf}
+use types.Run.{OneOf, miss}
+use Rattle.rulefile.specs.declared.Finding.{Finding}
+use Rattle.rulefile.specs.declared.Finding.the-variants.{Malformed, Argument, Repeated, Rule, Name}
+use Rattle.rulefile.specs.Format.{Bytes, rowCount}
+use Rattle.rulefile.specs.Read.{extent}
+use Rattle.rulefile.proofs.Finding as finding
+use Rattle.rulefile.proofs.extent.Statement.{statement}
+use Rattle.rulefile.proofs.extent.Tie as tie
+
+enum-told : tie.Need-enum-told
+enum-told c = search needs
+
+rule-count-requires : tie.Need-rule-count-requires
+rule-count-requires c κs = search needs
+
+cast-result : tie.Need-cast-result
+cast-result c = search needs
+
+row-count-requires : tie.Need-row-count-requires
+row-count-requires c κs = search needs
+
+cast-result-2 : tie.Need-cast-result-2
+cast-result-2 c = search needs
+
+returns : tie.Need-returns
+unfolding extent
+returns c = rw (c .before .enum-told .given .1) (c .rule-count .ensures)
+
+rows : (t : Finding) (b : Bytes) → OneOf (0 ∷ 1 ∷ 2 ∷ 4 ∷ []) (tagOf finding.the-type t) → extent t b ≡ rowCount b
+unfolding extent
+rows Malformed b o = refl
+rows Argument b o = refl
+rows Repeated b o = refl
+rows Rule b o = absurd (miss (0 ∷ 1 ∷ 2 ∷ 4 ∷ []) 3 tt o)
+rows Name b o = refl
+
+returns-2 : tie.Need-returns-2
+returns-2 c =
+    let a = c .before .before .before .args in
+    c .row-count .ensures ∙ sym (rows (a .finding) (a .file .now) (c .before .match .keys2))
+
+pub extent-spec : {M : Type 1} → statement M
+extent-spec =
+    tie.close
+    (tie.spec
+    enum-told
+    rule-count-requires
+    cast-result
+    row-count-requires
+    cast-result-2
+    returns
+    returns-2)

@@ -1,0 +1,70 @@
+-- `rulefile::found` meets its contract: the invariant is that no row or rule below `i` is a finding.
+-- Assumes nothing.
+use mathlib.Core.Path.{_≡_, sym, _∙_}
+use Prim.Native.Nat.{_≤_, _-_}
+use native.Mathlib.Omega.{arith}
+use borrow.Author.Count.{below-none, below-more}
+use borrow.Author.Needs.{needs}
+use Rattle.concepts.specs.Lists.{NoneBelow}
+use Rattle.concepts.specs.ListLaws.{any-range-found, any-range-none}
+use Rattle.rulefile.specs.Read.{extent, foundAt}
+use Rattle.rulefile.proofs.found.Statement.{statement}
+use Rattle.rulefile.proofs.found.Tie as tie
+
+abbrev Inv-loop : tie.InvT-loop
+Inv-loop file finding n i₀ i = (n ≡ extent finding file) × (i ≤ n) × NoneBelow (foundAt finding file) i
+
+abbrev μ-loop : tie.MeasureT-loop
+μ-loop file finding n i₀ i = n - i
+
+extent-requires : tie.Need-extent-requires Inv-loop μ-loop
+extent-requires c κs = search needs
+
+loop-holds : tie.Need-loop-holds Inv-loop μ-loop
+loop-holds c = (c .extent .ensures, omega arith, below-none _)
+
+found-at-requires : tie.Need-found-at-requires Inv-loop μ-loop
+found-at-requires c κs = (c .before .before .before .before .pre, omega (arith, c .before .loop .inv .0))
+
+returns : tie.Need-returns Inv-loop μ-loop
+returns c =
+    let a = c .before .before .before .before .before .before .args in
+    let l = c .before .before .before .loop in
+    sym
+    (any-range-found (foundAt (a .finding) (a .file .now)) (extent (a .finding) (a .file .now)) (l .i)
+    (omega (arith, c .before .before .loop-test .taken, l .inv .0))
+    (sym (c .before .found-at .ensures) ∙ c .if1 .taken))
+
+add-i : tie.Need-add-i Inv-loop μ-loop
+add-i c = omega arith
+
+loop-less : tie.Need-loop-less Inv-loop μ-loop
+loop-less c = omega arith
+
+loop-again : tie.Need-loop-again Inv-loop μ-loop
+loop-again c =
+    let l = c .before .before .before .loop in
+    (l .inv .0, omega arith, below-more _ (l .i) (l .inv .2) (sym (c .before .found-at .ensures) ∙ c .if1 .left))
+
+returns-2 : tie.Need-returns-2 Inv-loop μ-loop
+returns-2 c =
+    let a = c .before .before .before .before .args in
+    let l = c .before .loop in
+    sym
+    (any-range-none (foundAt (a .finding) (a .file .now)) (extent (a .finding) (a .file .now))
+    (λ i h. l .inv .2 i (omega (arith, c .loop-test .left, l .inv .0))))
+
+pub found-spec : {M : Type 1} → statement M
+found-spec =
+    tie.close
+    (tie.spec
+    Inv-loop
+    μ-loop
+    extent-requires
+    loop-holds
+    found-at-requires
+    returns
+    add-i
+    loop-less
+    loop-again
+    returns-2)

@@ -1,0 +1,116 @@
+-- `rulefile::refuses` meets its contract: each arm calls the function of its check, whose `requires` follows from the checks before it.
+-- Assumes nothing.
+use mathlib.Core.Path.{_≡_, ap}
+use mathlib.Core.Bool.{not}
+use Prim.Native.Nat.{ℕ, _<_}
+use native.Mathlib.Omega.{arith}
+use borrow.Author.Needs.{needs}
+use Rattle.rulefile.specs.Format.{checks}
+use Rattle.rulefile.specs.CheckLaws.{long, parted}
+use Rattle.rulefile.specs.Read.{extent, foundAt}
+use Rattle.rulefile.proofs.refuses.Statement.{statement}
+use Rattle.rulefile.proofs.refuses.Tie as tie
+
+-- the last arm is that of check 9
+above-four : (n : ℕ) → 0 < n → (n ≡ 1 → ⊥) → (n ≡ 2 → ⊥) → (n ≡ 3 → ⊥) → (n ≡ 4 → ⊥) → 4 < n
+above-four n h h₁ h₂ h₃ h₄ = omega arith
+
+nine : (n : ℕ) → 4 < n → n < 10 → (n ≡ 5 → ⊥) → (n ≡ 6 → ⊥) → (n ≡ 7 → ⊥) → (n ≡ 8 → ⊥) → n ≡ 9
+nine n h l h₅ h₆ h₇ h₈ = omega arith
+
+last-arm : (n : ℕ) → 0 < n → n < 10
+    → (((((((Unit {0} × (n ≡ 1 → ⊥)) × (n ≡ 2 → ⊥)) × (n ≡ 3 → ⊥)) × (n ≡ 4 → ⊥)) × (n ≡ 5 → ⊥)) × (n ≡ 6 → ⊥)) × (n ≡ 7 → ⊥)) × (n ≡ 8 → ⊥)
+    → n ≡ 9
+last-arm n h l r =
+    nine n (above-four n h (r .0 .0 .0 .0 .0 .0 .0 .1) (r .0 .0 .0 .0 .0 .0 .1) (r .0 .0 .0 .0 .0 .1) (r .0 .0 .0 .0 .1)) l
+    (r .0 .0 .0 .1) (r .0 .0 .1) (r .0 .1) (r .1)
+
+bad-length-requires : tie.Need-bad-length-requires
+bad-length-requires c κs = search needs
+
+bad-mark-requires : tie.Need-bad-mark-requires
+bad-mark-requires c κs = long (c .before .before .pre .2) (omega (arith, c .match))
+
+bad-counts-requires : tie.Need-bad-counts-requires
+bad-counts-requires c κs = long (c .before .before .pre .2) (omega (arith, c .match))
+
+bad-place-requires : tie.Need-bad-place-requires
+bad-place-requires c κs = long (c .before .before .pre .2) (omega (arith, c .match))
+
+found-requires : tie.Need-found-requires
+found-requires c κs = parted (c .before .before .pre .2) (omega (arith, c .match))
+
+found-requires-2 : tie.Need-found-requires-2
+found-requires-2 c κs = parted (c .before .before .pre .2) (omega (arith, c .match))
+
+found-requires-3 : tie.Need-found-requires-3
+found-requires-3 c κs = parted (c .before .before .pre .2) (omega (arith, c .match))
+
+bad-rule-requires : tie.Need-bad-rule-requires
+bad-rule-requires c κs = parted (c .before .before .pre .2) (omega (arith, c .match))
+
+found-requires-4 : tie.Need-found-requires-4
+found-requires-4 c κs =
+    let s = c .before .before in
+    parted (s .pre .2) (omega (arith, last-arm (s .args .n) (s .pre .0) (s .pre .1) (c .match .rest)))
+
+returns : tie.Need-returns
+unfolding checks extent foundAt
+returns c = rw (c .before .match .keys1) (c .bad-length .ensures)
+
+returns-2 : tie.Need-returns-2
+unfolding checks extent foundAt
+returns-2 c = rw (c .before .match .keys2) (c .bad-mark .ensures)
+
+returns-3 : tie.Need-returns-3
+unfolding checks extent foundAt
+returns-3 c = rw (c .before .match .keys3) (c .bad-counts .ensures)
+
+returns-4 : tie.Need-returns-4
+unfolding checks extent foundAt
+returns-4 c = rw (c .before .match .keys4) (c .bad-place .ensures)
+
+returns-5 : tie.Need-returns-5
+unfolding checks extent foundAt
+returns-5 c = rw (c .before .match .keys5) (c .found .ensures)
+
+returns-6 : tie.Need-returns-6
+unfolding checks extent foundAt
+returns-6 c = rw (c .before .match .keys6) (c .found2 .ensures)
+
+returns-7 : tie.Need-returns-7
+unfolding checks extent foundAt
+returns-7 c = rw (c .before .match .keys7) (c .found3 .ensures)
+
+returns-8 : tie.Need-returns-8
+unfolding checks extent foundAt
+returns-8 c = rw (c .before .match .keys8) (c .bad-rule .ensures)
+
+returns-9 : tie.Need-returns-9
+unfolding checks extent foundAt
+returns-9 c =
+    let s = c .before .before .before in
+    rw (last-arm (s .args .n) (s .pre .0) (s .pre .1) (c .before .match .rest)) (ap not (c .found4 .ensures))
+
+pub refuses-spec : {M : Type 1} → statement M
+refuses-spec =
+    tie.close
+    (tie.spec
+    bad-length-requires
+    bad-mark-requires
+    bad-counts-requires
+    bad-place-requires
+    found-requires
+    found-requires-2
+    found-requires-3
+    bad-rule-requires
+    found-requires-4
+    returns
+    returns-2
+    returns-3
+    returns-4
+    returns-5
+    returns-6
+    returns-7
+    returns-8
+    returns-9)
