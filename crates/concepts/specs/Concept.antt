@@ -1,9 +1,9 @@
 -- Concepts: the rows of a rule file, decoded (01, The rule file). A row is a concept whose arguments are numbers of lower rows.
 -- Assumes nothing.
-use mathlib.Core.List.{List, [], _∷_}
+use mathlib.Core.Path.{_≡_}
+use mathlib.Core.List.{List, [], _∷_, List·Memᴰ}
 use Prim.Native.Nat.{ℕ, _<_}
-use lib.ListN.{getD}
-use mathlib.Core.List.{List·Memᴰ}
+use lib.ListN.{length, getD}
 
 -- a name is a number from 0 to 63, a role is its code, an argument is a row's number
 pub data Concept : Type 0 where
@@ -33,3 +33,12 @@ arguments (exist ρ l) = l ∷ []
 -- arguments are lower rows, so each row is settled by lower ones
 abbrev pub Ordered : Table → Type 0
 Ordered t = (k l : ℕ) → List·Memᴰ l (arguments (conceptAt t k)) → l < k
+
+-- what the procedure relies on, and the checks of a rule file give: rows are settled by lower ones,
+-- rules and wanted rows are rows, role codes are 0 to 31
+pub record WellFormed (t : Table) (tbox wanted : List ℕ) : Type 0 where
+  pub ordered : Ordered t
+  pub ruleRows : (k : ℕ) → List·Memᴰ k tbox → k < length t
+  pub wantedRows : (k : ℕ) → List·Memᴰ k wanted → k < length t
+  pub univRole : (k ρ l : ℕ) → conceptAt t k ≡ univ ρ l → ρ < 32
+  pub existRole : (k ρ l : ℕ) → conceptAt t k ≡ exist ρ l → ρ < 32

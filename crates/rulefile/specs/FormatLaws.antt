@@ -1,6 +1,6 @@
 -- What the checks give: laws of Format.
 --
--- In order: the arguments and the role of a row, by its kind; what an accepted file holds (`WellFormed`, `accepted-well-formed`,
+-- In order: the arguments and the role of a row, by its kind; what an accepted file holds (`Admitted`, `accepted-admitted`,
 -- `accepted-length`); that check 9 never refuses a file (`no-refusal-nine`).
 -- Assumes nothing.
 use mathlib.Core.Path.{_≡_, refl, sym, ap, _∙_, subst}
@@ -16,7 +16,7 @@ use borrow.Author.Tests.{ltb-false, leb-false}
 use Rattle.concepts.specs.Tests.{or-nothing, or-neither, decide, as-false, from-false}
 use Rattle.concepts.specs.Lists.{range, any}
 use Rattle.concepts.specs.ListLaws.{range-mem, length-map-range, getD-map-range, not-any, any-range-found, none-any-range, least-below}
-use Rattle.concepts.specs.Concept.{Concept, atomic, negated, conj, disj, univ, exist, conceptAt, arguments, Ordered}
+use Rattle.concepts.specs.Concept.{Concept, atomic, negated, conj, disj, univ, exist, conceptAt, arguments, Ordered, WellFormed}
 use Rattle.rulefile.specs.Format.{Bytes, rowCount, ruleCount, wantedRow, rowByte, rule, malformed, conceptOf, conceptIn, badRow, badArgument, badRule, isName, checks, refusal, RuleFile, contents, accepted, reading}
 use Rattle.rulefile.specs.Checks.{refusesAt, Passed}
 use Rattle.rulefile.specs.Read.{unordered}
@@ -76,14 +76,10 @@ role-small kind role left right e =
 
 -- ---- what an accepted file holds, once checks 1 to 8 have passed
 
-pub record WellFormed (f : RuleFile) : Type 0 where
+pub record Admitted (f : RuleFile) : Type 0 where
   pub someRows : 0 < length (f .table)
   pub fewRows : length (f .table) ≤ 64
-  pub ordered : Ordered (f .table)
-  pub rules : (k : ℕ) → List·Memᴰ k (f .tbox) → k < length (f .table)
-  pub wanted : (k : ℕ) → List·Memᴰ k (f .wanted) → k < length (f .table)
-  pub univRole : (k ρ l : ℕ) → conceptAt (f .table) k ≡ univ ρ l → ρ < 32
-  pub existRole : (k ρ l : ℕ) → conceptAt (f .table) k ≡ exist ρ l → ρ < 32
+  pub wellFormed : WellFormed (f .table) (f .tbox) (f .wanted)
 
 module _ (b : Bytes) (passed : Passed b 9) where
   row-formed : (k : ℕ) → k < rowCount b → badRow b k ≡ false
@@ -158,21 +154,23 @@ module _ (b : Bytes) (passed : Passed b 9) where
   contents-wanted : (k : ℕ) → List·Memᴰ k (contents b .wanted) → k < length (contents b .table)
   contents-wanted k m = omega (arith, rows-length, List·Memᴰ·eq-of-singleton m, wanted-known)
 
-  pub contents-well-formed : WellFormed (contents b)
-  contents-well-formed =
+  pub contents-admitted : Admitted (contents b)
+  contents-admitted =
       let p = parted passed (omega arith) in
       record {
         someRows = omega (arith, rows-length, p .someRows);
         fewRows = omega (arith, rows-length, p .fewRows);
-        ordered = contents-ordered;
-        rules = contents-rules;
-        wanted = contents-wanted;
-        univRole = λ k ρ l e. unfold roleOf in (rw e at (contents-role k));
-        existRole = λ k ρ l e. unfold roleOf in (rw e at (contents-role k));
+        wellFormed = record {
+          ordered = contents-ordered;
+          ruleRows = contents-rules;
+          wantedRows = contents-wanted;
+          univRole = λ k ρ l e. unfold roleOf in (rw e at (contents-role k));
+          existRole = λ k ρ l e. unfold roleOf in (rw e at (contents-role k));
+        };
       }
 
-pub accepted-well-formed : (b : Bytes) (f : RuleFile) → reading b ≡ accepted f → WellFormed f
-accepted-well-formed b f e = rw (accepted-contents b f e) (contents-well-formed b (accepted-passed b f e 9 (omega arith)))
+pub accepted-admitted : (b : Bytes) (f : RuleFile) → reading b ≡ accepted f → Admitted f
+accepted-admitted b f e = rw (accepted-contents b f e) (contents-admitted b (accepted-passed b f e 9 (omega arith)))
 
 pub accepted-length : (b : Bytes) (f : RuleFile) → reading b ≡ accepted f → length b ≤ 4096
 accepted-length b f e = parted (accepted-passed b f e 9 (omega arith)) (omega arith) .most

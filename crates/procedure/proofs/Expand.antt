@@ -1,0 +1,149 @@
+-- Expanding a node: its children answer what its set asks, its status is right, and every node is quiet again.
+--
+-- In order: what putting the children leaves (`Grown`); a conjunction; a disjunction; the root; another state; the whole expansion.
+-- Assumes nothing.
+use mathlib.Core.Path.{_≡_, refl, sym, ap, _∙_, subst}
+use mathlib.Core.Bool.{Bool, true, false, not}
+use mathlib.Core.List.{List, [], _∷_, _++_, append-nil, append-assoc, List·Memᴰ, List·Memᴰ·head, Memᴰ·append-left, Memᴰ·append-right}
+use mathlib.Core.Logic.{_⊎_, inl, inr, _≢_}
+use mathlib.Core.Option.{Option, none, some}
+use Prim.Native.Nat.{ℕ, zero, suc, _+_, _≤_, _<_, _^_}
+use native.Mathlib.Omega.{arith}
+use lib.Dec.{T}
+use lib.ListN.{length}
+use Rattle.concepts.specs.RowSet.{RowSet, union, insert, fromList, missing, Subset}
+use Rattle.concepts.specs.RowSetLaws.{union-left, union-right, insert-self, insert-more, mem-fromList, union-lt, insert-lt, fromList-lt}
+use Rattle.procedure.specs.Status.{Status, unset, isUnset, isLive}
+use Rattle.procedure.specs.SetTests.{unfinished, lowestConj, lowestDisj, box, existentials}
+use Rattle.procedure.specs.SetTestLaws.{finished-none, unfinished-disj, mem-box, lowestConj-lt, lowestDisj-lt, existentials-lt, fromList-box-lt}
+use Rattle.procedure.specs.Graph.{Link, unlinked, toState, Node, Graph, Result, reached, _>>=_, forEach, nodeAt, nodeCount, children}
+use Rattle.procedure.specs.GraphLaws.{Sure, sure-map, sure-bind, sure-forEach, Child}
+use Rattle.procedure.specs.Tableau.{noRole, judge, judgeBy, judgeState, judgeBranch, put, updateParents, update, updateWithin, successor, putSuccessors, putKit, expandState, expandDisj, expandConj, expand}
+use Rattle.procedure.proofs.Setting.{Setting, rowCount, Element}
+use Rattle.procedure.proofs.Semantics.{satisfies-union, satisfies-fromList, conj-satisfied, disj-satisfied, successor-satisfied}
+use Rattle.procedure.proofs.Grows.{Grows, grows-refl, grows-trans, grows-there, grows-child}
+use Rattle.procedure.proofs.Finished.{Under, Answers}
+use Rattle.procedure.proofs.Invariant.{Sat, Reach, Covered, AnswerAll, Expanded, StateShape, BranchShape, Inv, Ready, Quiet, QuietBy, QuietBut}
+use Rattle.procedure.proofs.Keeps.{covered-mono, answer-all-mono}
+use Rattle.procedure.proofs.Judge.{state-fact, branch-fact, Excused, Judged, branch-judged, state-judged}
+use Rattle.procedure.proofs.Linked.{absurd-bool, Place, PutPre, Fresh, PutPost}
+use Rattle.procedure.proofs.Put.{put-right, few-missing}
+use Rattle.procedure.proofs.Update.{Updated, parents-updated, update-right}
+
+-- no node is excused
+abbrev pub None : ℕ → Type 0
+None x = ⊥
+
+module _ (S : Setting) (g : Graph) (x : ℕ) (I : Inv S g) (Q : QuietBut S None g) (hx : x < nodeCount g) (fresh : nodeAt g x .status ≡ unset) where
+  abbrev n : Node
+  n = nodeAt g x
+
+  -- the node that is expanded is excused
+  abbrev pub Busy : ℕ → Type 0
+  Busy y = None y ⊎ (y ≡ x)
+
+  pub ready : (b : Bool) → n .isState ≡ b → Ready S g x n b
+  ready b e = elim (Q x hx) [
+    | inl q ↦ absurd q
+    | inr q ↦ subst (λ (b : Bool). Ready S g x n b) e (subst (λ (v : Status). QuietBy S g x n v) fresh q)
+  ]
+
+  -- nodes, edges and alternatives are added; the nodes of g are as they were
+  pub record Grown (h : Graph) : Type 0 where
+    pub inv : Inv S h
+    pub grows : Grows g h
+    pub quiet : QuietBut S Busy h
+    pub kept : (y : ℕ) → y < nodeCount g → nodeAt h y ≡ nodeAt g y
+
+  pub grown-refl : Grown g
+  grown-refl = record { inv = I; grows = grows-refl g; quiet = λ y hy. elim (Q y hy) [ inl q ↦ absurd q | inr k ↦ inr k ]; kept = λ y hy. refl }
+
+  pub grown-put : (h : Graph) → Grown h → (p ρ : ℕ) (s : RowSet) (k : Graph) → PutPost S Busy h x p ρ s k → Grown k
+  grown-put h A p ρ s k B = record {
+    inv = B .inv;
+    grows = grows-trans (A .grows) (B .grows);
+    quiet = B .quiet;
+    kept = λ y hy. B .kept y (grows-there (A .grows) y hy) ∙ A .kept y hy;
+  }
+
+  -- ---- a node that is no state
+
+  module _ (noState : n .isState ≡ false) where
+    shape : BranchShape S g x (n .pst) (n .prl)
+    shape = branch-fact S g I x hx noState .0
+
+    branch-pre : (h : Graph) → Grown h → (s : RowSet) → Subset (n .rows) s → s < 2 ^ rowCount S → PutPre S Busy h x (n .pst) (n .prl) s
+    branch-pre h A s sub bd =
+        let G = A .grows in
+        let B = shape in
+        let same = A .kept x hx in
+        record {
+          there = grows-there G x hx;
+          place = record { there = grows-there G (n .pst) (B .above); isState = G .node (n .pst) (B .above) .isState ∙ B .aboveState; root = B .aboveRoot };
+          bounded = bd;
+          rules = λ k m. sub k (I .fact x hx .rules (B .notRoot) k m);
+          excused = inr refl;
+          state = λ e. absurd (absurd-bool (nodeAt h x .isState) e (ap (λ (a : Node). a .isState) same ∙ noState));
+          branch = λ e. (ap (λ (a : Node). a .pst) same, ap (λ (a : Node). a .prl) same, rw same sub);
+        }
+
+    put-branch : (h : Graph) → Grown h → (s : RowSet) → Subset (n .rows) s → s < 2 ^ rowCount S → Sure (PutPost S Busy h x (n .pst) (n .prl) s) (put (S .table) (S .capacity) x (n .pst) (n .prl) s h)
+    put-branch h A s sub bd = put-right S Busy h x (n .pst) (n .prl) s (A .inv) (A .quiet) (branch-pre h A s sub bd) (few-missing S s)
+
+    pub record Branched (h : Graph) : Type 0 where
+      pub grown : Grown h
+      pub covered : Covered S h x (n .rows)
+
+    new-child : (h : Graph) (s : RowSet) (k : Graph) → PutPost S Busy h x (n .pst) (n .prl) s k → (d : Element S) → Sat S s d
+        → (y : ℕ) × Child k x y × (nodeAt k y .isState ≡ false) × Sat S (nodeAt k y .rows) d
+    new-child h s k B d q = (nodeCount h, rw (B .ownChildren) (Memᴰ·append-right (children h x) (List·Memᴰ·head refl)), B .fresh .noState, rw (B .fresh .rows) q)
+
+    conj-expanded : (lr : ℕ × ℕ) → lowestConj (S .table) (n .rows) ≡ some lr → Sure Branched (expandConj (S .table) (S .capacity) (S .tbox) (S .wanted) x (some lr) g)
+    unfolding expandConj
+    conj-expanded lr e =
+        let s = insert (lr .0) (insert (lr .1) (n .rows)) in
+        let (a, b) = lowestConj-lt (S .table) (n .rows) (S .wellFormed .ordered) lr e in
+        sure-map (PutPost S Busy g x (n .pst) (n .prl) s) Branched (put (S .table) (S .capacity) x (n .pst) (n .prl) s g)
+        (put-branch g grown-refl s (λ k m. insert-more (lr .0) (insert (lr .1) (n .rows)) k (insert-more (lr .1) (n .rows) k m))
+        (insert-lt (rowCount S) (lr .0) (insert (lr .1) (n .rows)) a (insert-lt (rowCount S) (lr .1) (n .rows) b (I .fact x hx .bounded))))
+        (λ h B. record {
+          grown = grown-put g grown-refl (n .pst) (n .prl) s h B;
+          covered = λ d q. new-child g s h B d (conj-satisfied (S .table) (S .structure) (n .rows) d q lr e);
+        })
+
+    disj-expanded : (lr : ℕ × ℕ) → lowestDisj (S .table) (n .rows) ≡ some lr → Sure Branched (expandDisj (S .table) (S .capacity) (S .tbox) (S .wanted) x (some lr) g)
+    unfolding expandDisj
+    disj-expanded lr e =
+        let l = insert (lr .0) (n .rows) in
+        let r = insert (lr .1) (n .rows) in
+        let (a, b) = lowestDisj-lt (S .table) (n .rows) (S .wellFormed .ordered) lr e in
+        sure-bind (PutPost S Busy g x (n .pst) (n .prl) l) Branched (put (S .table) (S .capacity) x (n .pst) (n .prl) l g) (put (S .table) (S .capacity) x (n .pst) (n .prl) r)
+        (put-branch g grown-refl l (insert-more (lr .0) (n .rows)) (insert-lt (rowCount S) (lr .0) (n .rows) a (I .fact x hx .bounded)))
+        (λ h B.
+        let A = grown-put g grown-refl (n .pst) (n .prl) l h B in
+        sure-map (PutPost S Busy h x (n .pst) (n .prl) r) Branched (put (S .table) (S .capacity) x (n .pst) (n .prl) r h)
+        (put-branch h A r (insert-more (lr .1) (n .rows)) (insert-lt (rowCount S) (lr .1) (n .rows) b (I .fact x hx .bounded)))
+        (λ k C. record {
+          grown = grown-put h A (n .pst) (n .prl) r k C;
+          covered = λ d q. elim (disj-satisfied (S .table) (S .structure) (n .rows) d q lr e) [
+            | inl u ↦
+                let (y, m, ns, w) = new-child g l h B d u in
+                let N = C .grows .node y (B .inv .ends x y m .1) in
+                (y, grows-child (C .grows) x y m, N .isState ∙ ns, rw (N .rows) w)
+            | inr u ↦ new-child h r k C d u
+          ];
+        }))
+
+    pub branch-expanded : Sure Branched (expandConj (S .table) (S .capacity) (S .tbox) (S .wanted) x (lowestConj (S .table) (n .rows)) g)
+    unfolding expandConj
+    branch-expanded = conj (lowestConj (S .table) (n .rows)) refl
+      where
+        disj : (o : Option (ℕ × ℕ)) → lowestDisj (S .table) (n .rows) ≡ o → lowestConj (S .table) (n .rows) ≡ none → Sure Branched (expandDisj (S .table) (S .capacity) (S .tbox) (S .wanted) x o g)
+        disj (some lr) e f = disj-expanded lr e
+        disj none e f =
+            let (lr, q) = unfinished-disj (S .table) (n .rows) (ready false noState .1) f in
+            let z : _≡_ {A = ℕ} 0 1 = cc (q, e) in absurd (omega arith)
+
+        conj : (o : Option (ℕ × ℕ)) → lowestConj (S .table) (n .rows) ≡ o → Sure Branched (expandConj (S .table) (S .capacity) (S .tbox) (S .wanted) x o g)
+        conj (some lr) e = conj-expanded lr e
+        conj none e = disj (lowestDisj (S .table) (n .rows)) refl e

@@ -1,0 +1,26 @@
+-- The procedure is right: "cannot" over structures, "can" by the example's world, and the fuel suffices (Correct).
+pub mod Structure
+pub mod Semantics
+pub mod FiniteStructure
+pub mod Setting
+pub mod Grows
+pub mod Finished
+pub mod Invariant
+pub mod Keeps
+pub mod Operations
+pub mod Quiet
+pub mod Judge
+pub mod Linked
+pub mod Put
+pub mod Measure
+pub mod Update
+pub mod Expand
+pub mod ExpandState
+pub mod Whole
+pub mod Cannot
+pub mod Can
+pub mod Truth
+pub mod Descend
+pub mod Walk
+pub mod Model
+pub mod Correct

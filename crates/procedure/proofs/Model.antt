@@ -1,0 +1,113 @@
+-- "Can" is right: the example that the walk writes is a model, and no larger than the graph.
+--
+-- In order: what is claimed of an example (`ExampleRight`); the example of a walk keeps every demand (`written-hintikka`);
+-- the theorem (`example-right`).
+-- Assumes nothing.
+use mathlib.Core.Path.{_≡_, sym, ap, subst, subst₂}
+use mathlib.Core.Bool.{Bool}
+use mathlib.Core.List.{List, map, List·Memᴰ, Memᴰ·of-map}
+use mathlib.Core.Option.{some}
+use Prim.Native.Nat.{ℕ, _^_, _≤_, _<_}
+use native.Mathlib.Omega.{arith}
+use lib.Dec.{T}
+use lib.ListN.{length, take, length-map}
+use lib.Seq.{take-length}
+use Rattle.concepts.specs.ListLaws.{getD-map, getD-mem}
+use Rattle.concepts.specs.Counting.{share-le}
+use Rattle.concepts.specs.Role.{inverse}
+use Rattle.concepts.specs.Concept.{exist, Table, conceptAt, Ordered}
+use Rattle.concepts.specs.RowSet.{RowSet, mem, empty, Subset, fromList}
+use Rattle.concepts.specs.RowSetLaws.{mem-fromList}
+use Rattle.meaning.specs.Meaning.{finite, Obeys, Member, Holds}
+use Rattle.procedure.specs.Status.{Status}
+use Rattle.procedure.specs.Graph.{Graph, nodeAt, nodeCount}
+use Rattle.procedure.specs.Example.{RoleLink, Example, Walk, listed, worldOf, example}
+use Rattle.procedure.specs.ExampleLaws.{mem-existentials, example-some, mem-listed, listed-mem}
+use Rattle.procedure.proofs.Finished.{Saturated, Along, Finished}
+use Rattle.procedure.proofs.Truth.{setAt, size, Hintikka, truth}
+use Rattle.procedure.proofs.Descend.{Usable}
+use Rattle.procedure.proofs.Walk.{stateAt, edgesFrom, Walked, right-few, rowsOf-answer, walk-walked}
+
+pub record ExampleRight (t : Table) (tbox wanted : List ℕ) (g : Graph) (x : Example) : Type 0 where
+  -- its world obeys every rule, and element 0 is a member of the kit
+  pub obeys : Obeys (finite (worldOf t x)) t tbox
+  pub member : Member (finite (worldOf t x)) t wanted 0
+  -- its records are no more than the graph's, so they find place
+  pub few-elements : length (x .elements) ≤ nodeCount g
+  pub few-links : length (x .links) ≤ length (g .edges)
+  -- each number fits its field: a set has rows of the table, a link has a role code and goes between elements
+  pub element-rows : (s : RowSet) → List·Memᴰ s (x .elements) → s < 2 ^ length t
+  pub link-ends : (l : RoleLink) → List·Memᴰ l (x .links) → (l .from < length (x .elements)) × (l .role < 32) × (l .to < length (x .elements))
+
+-- the example that a walk leaves
+abbrev written : Graph → Walk → Example
+written g w = record { elements = map (λ y. nodeAt g y .rows) (w .states); links = w .links }
+
+-- the elements are the states' sets
+written-size : (g : Graph) (w : Walk) → size (written g w) ≡ length (w .states)
+written-size g w = length-map (w .states) (λ y. nodeAt g y .rows)
+
+written-set : (g : Graph) (w : Walk) (d : ℕ) → d < size (written g w) → setAt (written g w) d ≡ nodeAt g (stateAt w d) .rows
+written-set g w d h = getD-map (λ y. nodeAt g y .rows) (w .states) d 0 empty (omega (arith, written-size g w))
+
+module _ (t : Table) (tbox wanted : List ℕ) (g : Graph) (good : Status → Bool) (codes : (k ρ l : ℕ) → conceptAt t k ≡ exist ρ l → ρ < 32)
+    (F : Finished t tbox wanted g good) (w : Walk) (W : Walked t g good (length (w .states)) w) where
+  element-usable : (d : ℕ) → d < size (written g w) → Usable g good (stateAt w d)
+  element-usable d h = W .right .usable (stateAt w d) (getD-mem (w .states) d 0 (omega (arith, written-size g w)))
+
+  -- every element's set is saturated and has every rule
+  element-rules : (d : ℕ) → d < size (written g w) → Saturated t (nodeAt g (stateAt w d) .rows) × Subset (fromList tbox) (nodeAt g (stateAt w d) .rows)
+  element-rules d h = let U = element-usable d h in F .saturated (stateAt w d) (U .there) (U .state) (U .nonRoot)
+
+  written-answered : (d k ρ l : ℕ) → d < size (written g w) → k < length t → conceptAt t k ≡ exist ρ l → T (mem k (setAt (written g w) d))
+      → (e : ℕ) × (e < size (written g w)) × T (listed (w .links) d ρ e) × T (mem l (setAt (written g w) e))
+  written-answered d k ρ l h b e m =
+      let s = nodeAt g (stateAt w d) .rows in
+      let (c, i, n) = rowsOf-answer t tbox wanted g good codes F (stateAt w d) ρ l (element-usable d h)
+      (mem-existentials t s k ρ l b e (subst (λ (u : RowSet). T (mem k u)) (written-set g w d h) m)) in
+      let (o, p, q, r) = W .reaches d (omega (arith, written-size g w)) (ρ, c) i in
+      let z : o < size (written g w) = omega (arith, written-size g w) in
+      (o, z, mem-listed (w .links) (record { from = d; role = ρ; to = o }) q, subst (λ (u : RowSet). T (mem l u)) (sym (written-set g w o z)) (r l n))
+
+  written-hintikka : Hintikka t (written g w)
+  written-hintikka = record {
+    saturated = λ d h.
+        subst (Saturated t) (sym (written-set g w d h)) (element-rules d h .0);
+    answered = written-answered;
+    onward = λ d ρ e hd he i.
+        let J = W .right .joins (record { from = d; role = ρ; to = e }) (listed-mem (w .links) d ρ e i) in
+        subst₂ (λ (a b : RowSet). Along t a ρ b) (sym (written-set g w d hd)) (sym (written-set g w e he)) (J .2 .onward);
+    backward = λ d ρ e hd he i.
+        let J = W .right .joins (record { from = d; role = ρ; to = e }) (listed-mem (w .links) d ρ e i) in
+        subst₂ (λ (a b : RowSet). Along t a (inverse ρ) b) (sym (written-set g w e he)) (sym (written-set g w d hd)) (J .2 .backward);
+  }
+
+  written-right : Ordered t → ((k : ℕ) → List·Memᴰ k tbox → k < length t) → ((k : ℕ) → List·Memᴰ k wanted → k < length t)
+      → 0 < length (w .states) → Subset (fromList wanted) (nodeAt g (stateAt w 0) .rows) → ExampleRight t tbox wanted g (written g w)
+  unfolding worldOf
+  written-right ordered rules wants here first = record {
+    obeys = λ k m d h. holds k d (rules k m) h (element-rules d h .1 k (mem-fromList k tbox m));
+    member = (nonempty, λ k m. holds k 0 (wants k m) nonempty (first k (mem-fromList k wanted m)));
+    few-elements = omega (arith, written-size g w, right-few t g good w (W .right));
+    few-links = omega (arith, W .few, share-le (λ e. e .from) (g .edges) (w .states) (W .right .distinct), whole);
+    element-rows = λ s m. let (y, n, e) = Memᴰ·of-map (λ y. nodeAt g y .rows) (w .states) m in subst (λ (u : RowSet). u < 2 ^ length t) e (F .bounded y);
+    link-ends = λ l m. let (a, b, J) = W .right .joins l m in (omega (arith, written-size g w), J .code, omega (arith, written-size g w));
+  }
+    where
+      nonempty : 0 < size (written g w)
+      nonempty = omega (arith, written-size g w)
+
+      holds : (k d : ℕ) → k < length t → d < size (written g w) → T (mem k (nodeAt g (stateAt w d) .rows)) → Holds (finite (worldOf t (written g w))) t k d
+      holds k d b h m = truth t (written g w) ordered written-hintikka k d b h (subst (λ (u : RowSet). T (mem k u)) (sym (written-set g w d h)) m)
+
+      whole : edgesFrom g (take (length (w .states)) (w .states)) ≡ edgesFrom g (w .states)
+      whole = ap (edgesFrom g) (take-length (w .states))
+
+-- over a finished graph the walk never fails, and what it writes is right
+pub example-right : (t : Table) (tbox wanted : List ℕ) (g : Graph) (good : Status → Bool) → Ordered t
+    → ((k : ℕ) → List·Memᴰ k tbox → k < length t) → ((k : ℕ) → List·Memᴰ k wanted → k < length t)
+    → ((k ρ l : ℕ) → conceptAt t k ≡ exist ρ l → ρ < 32)
+    → Finished t tbox wanted g good → (x : Example) × (example t g ≡ some x) × ExampleRight t tbox wanted g x
+example-right t tbox wanted g good ordered rules wants codes F =
+    let (w, e, W, here, first) = walk-walked t tbox wanted g good codes F in
+    (written g w, example-some t g w e, written-right t tbox wanted g good codes F w W ordered rules wants here first)

@@ -1,0 +1,26 @@
+-- Demand 3 about the definitions: for every accepted file and all lengths of the areas, what the answer claims is true.
+--
+-- Read beside this: the meaning of ALCI (meaning/specs/Meaning), the file and its checks (rulefile/specs/Format), the answer
+-- (run/specs/Run), and the world that an example describes (worldOf in procedure/specs/Example). No word here is about the graph.
+-- Assumes nothing.
+use mathlib.Core.Path.{_≡_}
+use Prim.Native.Nat.{ℕ, _≤_}
+use lib.ListN.{length}
+use Rattle.meaning.specs.Meaning.{Model, World, finite, Obeys, Member}
+use Rattle.rulefile.specs.Format.{Bytes, RuleFile, accepted, reading}
+use Rattle.procedure.specs.Example.{Example, worldOf}
+use Rattle.run.specs.Run.{Lengths, Used, Answer, refusedFile, short, cannot, can, tooLong, undefined, answer}
+use Rattle.run.proofs.Verdict.{answer-right, verdicts-agree}
+use Rattle.run.specs.Claim.{Shows, Claim, SaysCan}
+
+-- What each answer claims of a file is `Claim` (Claim.antt):
+--   * "cannot": no finite world of any size obeys every rule at each element and has a member of the kit;
+--   * "can", and refusal 11: the example's world obeys every rule at each element and its element 0 is a member;
+--   * refusal 10: a record of the procedure found no place, and no claim is made;
+--   * the answers that an accepted file must never get, a refusal by a file check and a definition's fuel running out, claim falsehood.
+pub demand-three : (b : Bytes) (l : Lengths) (f : RuleFile) → reading b ≡ accepted f → Claim f (answer b l)
+demand-three = answer-right
+
+-- Of two runs on one file with different areas, never does one say "can" or give 11 and the other say "cannot".
+pub one-verdict : (b : Bytes) (l m : Lengths) (u : Used) → SaysCan (answer b l) → answer b m ≡ cannot u → ⊥
+one-verdict = verdicts-agree
