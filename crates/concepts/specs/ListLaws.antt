@@ -5,7 +5,7 @@
 -- Not here: other laws of `length`, `getD`, `take`, `_++_` (`lib.ListN`, `lib.Seq`).
 -- Assumes nothing.
 use mathlib.Core.Path.{_≡_, refl, sym, ap, ap₂, _∙_, subst}
-use mathlib.Core.Bool.{Bool, true, false, not, _&&_, _||_}
+use mathlib.Core.Bool.{Bool, true, false, not}
 use mathlib.Core.List.{List, [], _∷_, _++_, map, zip, zipWith, List·Memᴰ, List·Memᴰ·head, List·Memᴰ·tail, List·Memᴰ·cases-cons, List·Memᴰ·not-nil}
 use mathlib.Core.Logic.{_⊎_, inl, inr}
 use mathlib.Core.Option.{Option, none, some}
@@ -16,7 +16,7 @@ use native.Mathlib.Omega.{arith}
 use lib.Dec.{T, T-not, not-T}
 use lib.ListN.{length, getD, take, length-map}
 use Rattle.concepts.specs.Lists.{range, NoneBelow, select, any, every, consAnswer, answers, first}
-use Rattle.concepts.specs.Tests.{or-cases, or-left, or-right, and-both, and-make, by-test, decide, as-true, as-false, from-true, from-false}
+use Rattle.concepts.specs.Tests.{or-cases, or-left, or-right, and-both, by-test, as-true, as-false, from-true, from-false}
 
 -- ---- places
 

@@ -1,7 +1,7 @@
 -- Sets of rows as numbers: row k is in the set s if bit k of s is set (01, Areas). A set has no width; only its bytes do.
 -- Laws are in RowSetLaws.
 -- Assumes nothing.
-use mathlib.Core.Bool.{Bool, true, false, cond}
+use mathlib.Core.Bool.{Bool, cond}
 use mathlib.Core.List.{List, [], _∷_}
 use Prim.Native.Nat.{ℕ, zero, suc, _+_, _/_, _%_, _^_}
 use lib.Dec.{T, eqb}

@@ -3,11 +3,11 @@
 -- In order: membership in each set (`mem-empty`, `mem-union`, `mem-single`, `mem-insert`, `mem-fromList`), `members`,
 -- `missing`, sets of rows below n (`fromList-lt`, `mem-lt`).
 -- Assumes nothing.
-use mathlib.Core.Path.{_≡_, refl, sym, ap, _∙_, subst}
+use mathlib.Core.Path.{_≡_, refl, sym, ap, _∙_}
 use mathlib.Core.Bool.{Bool, true, false, not, _||_, cond}
 use mathlib.Core.List.{List, [], _∷_, List·Memᴰ, List·Memᴰ·head, List·Memᴰ·tail, List·Memᴰ·cases-cons, List·Memᴰ·not-nil}
 use mathlib.Core.Logic.{_⊎_, inl, inr}
-use Prim.Native.Nat.{ℕ, zero, suc, _+_, _/_, _%_, _^_, _≤_, _<_}
+use Prim.Native.Nat.{ℕ, zero, suc, _/_, _%_, _^_, _≤_, _<_}
 use native.Mathlib.Nat.{not-suc-le-zero, zero-div, mod-lt, div-eq-of-lt, lt-of-lt-of-le}
 use native.Mathlib.Decide.{ℕ-discrete}
 use native.Mathlib.Omega.{arith}
@@ -15,7 +15,7 @@ use lib.Dec.{T, T-not, eqb, eqb→eq, eqb-refl, lit<, ltb, ltb→lt, nltb→le, 
 use lib.Bits.{bitOr, or-shr, or-mod, or-lt}
 use lib.Pow.{shr-shr, pow-pos, pow-lt, pow-mono}
 use Rattle.concepts.specs.Tests.{or-cases, or-left, or-right, decide}
-use Rattle.concepts.specs.Lists.{range, select}
+use Rattle.concepts.specs.Lists.{range}
 use Rattle.concepts.specs.ListLaws.{mem-range, range-mem, select-mem, mem-select}
 use Rattle.concepts.specs.RowSet.{RowSet, mem, empty, single, union, insert, fromList, members, missing, Subset}
 

@@ -4,28 +4,28 @@
 -- Assumes nothing.
 use mathlib.Core.Path.{_≡_, refl, sym, ap, _∙_, subst}
 use mathlib.Core.Bool.{Bool, true, false, not, _||_}
-use mathlib.Core.List.{List, [], _∷_, List·Memᴰ}
+use mathlib.Core.List.{List, [], _∷_}
 use mathlib.Core.Logic.{_⊎_, inl, inr, _≢_}
 use Prim.Native.Nat.{ℕ, zero, suc, _≤_, _<_, _^_}
 use native.Mathlib.Nat.{not-suc-le-zero, le-of-suc-le-suc}
 use native.Mathlib.Decide.{decLt}
 use native.Mathlib.Omega.{arith}
-use lib.Dec.{T, T-not}
+use lib.Dec.{T}
 use lib.ListN.{length, getD, List·getD-eq-default}
 use lib.Pow.{pow-pos}
 use Rattle.concepts.specs.ListLaws.{map-mem, mem-map}
 use Rattle.concepts.specs.Role.{inverse}
-use Rattle.concepts.specs.RowSet.{RowSet, fromList, Subset}
-use Rattle.procedure.specs.Status.{Status, unset, «open», sat, unsat, toosmall, rank, branchTable, stateTable, foldStatus, isUnset, isOpen, isSat, isLive}
-use Rattle.procedure.specs.StatusLaws.{branch-found, state-greatest, rank-live, live-open, is-open}
+use Rattle.concepts.specs.RowSet.{fromList, Subset}
+use Rattle.procedure.specs.Status.{Status, unset, «open», sat, unsat, toosmall, rank, branchTable, stateTable, foldStatus, isUnset, isOpen, isSat}
+use Rattle.procedure.specs.StatusLaws.{branch-found, state-greatest, live-open}
 use Rattle.procedure.specs.SetTests.{existentials}
 use Rattle.procedure.specs.SetTestLaws.{no-clash, conj-done, disj-done, lacking-none}
-use Rattle.procedure.specs.Graph.{Link, unlinked, toState, lapsed, Node, Graph, noNode, nodeAt, nodeCount, children}
+use Rattle.procedure.specs.Graph.{Link, unlinked, toState, lapsed, Graph, noNode, nodeAt, nodeCount, children}
 use Rattle.procedure.specs.GraphLaws.{Child}
 use Rattle.procedure.proofs.Setting.{Setting, rowCount}
-use Rattle.procedure.proofs.Finished.{Saturated, Along, Under, Answers, Finished}
-use Rattle.procedure.proofs.Invariant.{StateSays, SatSays, BranchSays, AnswerAll, Expanded, StateShape, Linked, LinkShape, Inv, statuses, QuietLink, QuietOpen, Quiet, QuietBy, QuietBut}
-use Rattle.procedure.proofs.Judge.{state-fact, branch-fact, state-edge, branch-edge, link-edge}
+use Rattle.procedure.proofs.Finished.{Saturated, Under, Answers, Finished}
+use Rattle.procedure.proofs.Invariant.{StateSays, SatSays, BranchSays, AnswerAll, Expanded, Linked, LinkShape, Inv, statuses, QuietLink, QuietOpen, QuietBy, QuietBut}
+use Rattle.procedure.proofs.Judge.{state-fact, branch-fact, branch-edge, link-edge}
 use Rattle.procedure.proofs.Expand.{None}
 
 -- yes; with the flag, open too

@@ -1,10 +1,7 @@
 -- "Cannot" is right: where the root is never or small, no structure in which the rules hold has a member of the kit.
 -- Assumes nothing.
-use mathlib.Core.Path.{_≡_, refl, sym, ap, _∙_, subst}
-use mathlib.Core.Bool.{Bool}
+use mathlib.Core.Path.{_≡_, refl, subst}
 use mathlib.Core.Logic.{_⊎_, inl, inr}
-use Prim.Native.Nat.{ℕ}
-use Rattle.concepts.specs.RowSet.{RowSet}
 use Rattle.procedure.specs.Status.{Status, unsat, toosmall}
 use Rattle.procedure.specs.Graph.{Graph, nodeAt}
 use Rattle.procedure.proofs.Setting.{Setting, Element}

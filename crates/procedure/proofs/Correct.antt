@@ -3,16 +3,16 @@
 -- In order: the two settings, with no element and with a structure; "cannot" (`no-structure`, `no-model`); "can" (`example-there`);
 -- the root has a status at the end (`root-set`), and fuel never runs out (`no-fuel`).
 -- Assumes nothing.
-use mathlib.Core.Path.{_≡_, refl, sym, ap, _∙_, subst}
-use mathlib.Core.Bool.{Bool, true, false, not}
+use mathlib.Core.Path.{_≡_, subst}
+use mathlib.Core.Bool.{Bool, true}
 use mathlib.Core.List.{List, List·Memᴰ}
-use mathlib.Core.Logic.{_⊎_, inl, inr}
+use mathlib.Core.Logic.{_⊎_}
 use mathlib.Core.Option.{some}
-use Prim.Native.Nat.{ℕ, _<_}
+use Prim.Native.Nat.{ℕ}
 use lib.Dec.{T, T-not}
 use Rattle.concepts.specs.Concept.{Table, WellFormed}
 use Rattle.meaning.specs.Meaning.{Model, finite}
-use Rattle.procedure.specs.Status.{Status, unset, unsat, toosmall, isUnset, isLive}
+use Rattle.procedure.specs.Status.{unset, unsat, toosmall, isUnset, isLive}
 use Rattle.procedure.specs.Graph.{Graph, Capacity, Result, reached, outOfFuel, nodeAt}
 use Rattle.procedure.specs.GraphLaws.{Sure, lowestUnset-none}
 use Rattle.procedure.specs.Tableau.{run}

@@ -2,33 +2,28 @@
 --
 -- In order: what putting the children leaves (`Grown`); a conjunction; a disjunction; the root; another state; the whole expansion.
 -- Assumes nothing.
-use mathlib.Core.Path.{_≡_, refl, sym, ap, _∙_, subst}
-use mathlib.Core.Bool.{Bool, true, false, not}
-use mathlib.Core.List.{List, [], _∷_, _++_, append-nil, append-assoc, List·Memᴰ, List·Memᴰ·head, Memᴰ·append-left, Memᴰ·append-right}
-use mathlib.Core.Logic.{_⊎_, inl, inr, _≢_}
+use mathlib.Core.Path.{_≡_, refl, ap, _∙_, subst}
+use mathlib.Core.Bool.{Bool, false}
+use mathlib.Core.List.{List·Memᴰ·head, Memᴰ·append-right}
+use mathlib.Core.Logic.{_⊎_, inl, inr}
 use mathlib.Core.Option.{Option, none, some}
-use Prim.Native.Nat.{ℕ, zero, suc, _+_, _≤_, _<_, _^_}
+use Prim.Native.Nat.{ℕ, _<_, _^_}
 use native.Mathlib.Omega.{arith}
-use lib.Dec.{T}
-use lib.ListN.{length}
-use Rattle.concepts.specs.RowSet.{RowSet, union, insert, fromList, missing, Subset}
-use Rattle.concepts.specs.RowSetLaws.{union-left, union-right, insert-self, insert-more, mem-fromList, union-lt, insert-lt, fromList-lt}
-use Rattle.procedure.specs.Status.{Status, unset, isUnset, isLive}
-use Rattle.procedure.specs.SetTests.{unfinished, lowestConj, lowestDisj, box, existentials}
-use Rattle.procedure.specs.SetTestLaws.{finished-none, unfinished-disj, mem-box, lowestConj-lt, lowestDisj-lt, existentials-lt, fromList-box-lt}
-use Rattle.procedure.specs.Graph.{Link, unlinked, toState, Node, Graph, Result, reached, _>>=_, forEach, nodeAt, nodeCount, children}
-use Rattle.procedure.specs.GraphLaws.{Sure, sure-map, sure-bind, sure-forEach, Child}
-use Rattle.procedure.specs.Tableau.{noRole, judge, judgeBy, judgeState, judgeBranch, put, updateParents, update, updateWithin, successor, putSuccessors, putKit, expandState, expandDisj, expandConj, expand}
+use Rattle.concepts.specs.RowSet.{RowSet, insert, Subset}
+use Rattle.concepts.specs.RowSetLaws.{insert-more, insert-lt}
+use Rattle.procedure.specs.Status.{Status, unset}
+use Rattle.procedure.specs.SetTests.{lowestConj, lowestDisj}
+use Rattle.procedure.specs.SetTestLaws.{unfinished-disj, lowestConj-lt, lowestDisj-lt}
+use Rattle.procedure.specs.Graph.{Node, Graph, nodeAt, nodeCount, children}
+use Rattle.procedure.specs.GraphLaws.{Sure, sure-map, sure-bind, Child}
+use Rattle.procedure.specs.Tableau.{put, expandDisj, expandConj}
 use Rattle.procedure.proofs.Setting.{Setting, rowCount, Element}
-use Rattle.procedure.proofs.Semantics.{satisfies-union, satisfies-fromList, conj-satisfied, disj-satisfied, successor-satisfied}
+use Rattle.procedure.proofs.Semantics.{conj-satisfied, disj-satisfied}
 use Rattle.procedure.proofs.Grows.{Grows, grows-refl, grows-trans, grows-there, grows-child}
-use Rattle.procedure.proofs.Finished.{Under, Answers}
-use Rattle.procedure.proofs.Invariant.{Sat, Reach, Covered, AnswerAll, Expanded, StateShape, BranchShape, Inv, Ready, Quiet, QuietBy, QuietBut}
-use Rattle.procedure.proofs.Keeps.{covered-mono, answer-all-mono}
-use Rattle.procedure.proofs.Judge.{state-fact, branch-fact, Excused, Judged, branch-judged, state-judged}
-use Rattle.procedure.proofs.Linked.{absurd-bool, Place, PutPre, Fresh, PutPost}
+use Rattle.procedure.proofs.Invariant.{Sat, Covered, BranchShape, Inv, Ready, QuietBy, QuietBut}
+use Rattle.procedure.proofs.Judge.{branch-fact}
+use Rattle.procedure.proofs.Linked.{absurd-bool, PutPre, PutPost}
 use Rattle.procedure.proofs.Put.{put-right, few-missing}
-use Rattle.procedure.proofs.Update.{Updated, parents-updated, update-right}
 
 -- no node is excused
 abbrev pub None : ℕ → Type 0

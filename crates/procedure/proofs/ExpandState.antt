@@ -4,29 +4,28 @@
 -- Assumes nothing.
 use mathlib.Core.Path.{_≡_, refl, sym, ap, _∙_, subst}
 use mathlib.Core.Bool.{Bool, true, false, not}
-use mathlib.Core.List.{List, [], _∷_, _++_, append-nil, append-assoc, List·Memᴰ, List·Memᴰ·head, List·Memᴰ·tail, Memᴰ·append-right}
-use mathlib.Core.Logic.{_⊎_, inl, inr, _≢_}
-use mathlib.Core.Option.{Option, none, some}
-use Prim.Native.Nat.{ℕ, zero, suc, _+_, _≤_, _<_, _^_}
+use mathlib.Core.List.{List, [], _∷_, _++_, append-nil, append-assoc, List·Memᴰ, List·Memᴰ·head, Memᴰ·append-right}
+use mathlib.Core.Logic.{inl, inr, _≢_}
+use mathlib.Core.Option.{Option}
+use Prim.Native.Nat.{ℕ, zero, suc, _<_, _^_}
 use native.Mathlib.Omega.{arith}
 use lib.Dec.{T}
-use lib.ListN.{length}
 use Rattle.concepts.specs.RowSet.{RowSet, union, insert, fromList, Subset}
 use Rattle.concepts.specs.RowSetLaws.{union-left, union-right, insert-self, insert-more, mem-fromList, union-lt, insert-lt, fromList-lt}
-use Rattle.procedure.specs.Status.{Status, unset, isUnset, isLive}
-use Rattle.procedure.specs.SetTests.{unfinished, lowestConj, lowestDisj, box, existentials}
+use Rattle.procedure.specs.Status.{unset, isUnset, isLive}
+use Rattle.procedure.specs.SetTests.{lowestConj, box, existentials}
 use Rattle.procedure.specs.SetTestLaws.{finished-none, mem-box, existentials-lt, fromList-box-lt}
-use Rattle.procedure.specs.Graph.{Link, unlinked, toState, Node, Graph, Result, reached, _>>=_, forEach, nodeAt, nodeCount, children}
-use Rattle.procedure.specs.GraphLaws.{Sure, sure-map, sure-bind, sure-forEach, Child}
-use Rattle.procedure.specs.Tableau.{noRole, judge, judgeBy, judgeState, judgeBranch, put, updateParents, update, updateWithin, successor, putSuccessors, putKit, expandState, expandDisj, expandConj, expand}
+use Rattle.procedure.specs.Graph.{Link, unlinked, Node, Graph, reached, _>>=_, forEach, nodeAt, nodeCount, children}
+use Rattle.procedure.specs.GraphLaws.{Sure, sure-map, sure-bind, sure-forEach}
+use Rattle.procedure.specs.Tableau.{noRole, judge, judgeBy, judgeState, judgeBranch, put, updateParents, update, successor, putSuccessors, putKit, expandState, expandDisj, expandConj, expand}
 use Rattle.procedure.proofs.Setting.{Setting, rowCount, Element}
 use Rattle.procedure.proofs.Semantics.{satisfies-union, satisfies-fromList, successor-satisfied}
-use Rattle.procedure.proofs.Grows.{Grows, grows-refl, grows-trans, grows-there}
+use Rattle.procedure.proofs.Grows.{Grows, grows-trans, grows-there}
 use Rattle.procedure.proofs.Finished.{Under, Answers}
-use Rattle.procedure.proofs.Invariant.{Sat, Reach, Covered, AnswerAll, Expanded, StateShape, Inv, Ready, QuietBut}
+use Rattle.procedure.proofs.Invariant.{Sat, Reach, Covered, AnswerAll, Expanded, StateShape, Inv, QuietBut}
 use Rattle.procedure.proofs.Keeps.{answer-all-mono}
-use Rattle.procedure.proofs.Judge.{state-fact, Excused, Judged, branch-judged, state-judged}
-use Rattle.procedure.proofs.Linked.{absurd-bool, Place, PutPre, Fresh, PutPost}
+use Rattle.procedure.proofs.Judge.{state-fact, Judged, branch-judged, state-judged}
+use Rattle.procedure.proofs.Linked.{absurd-bool, PutPre, Fresh, PutPost}
 use Rattle.procedure.proofs.Put.{put-right, few-missing}
 use Rattle.procedure.proofs.Update.{Updated, parents-updated, update-right}
 use Rattle.procedure.proofs.Expand.{None, Busy, ready, Grown, grown-refl, grown-put, Branched, branch-expanded}

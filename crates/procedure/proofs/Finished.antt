@@ -9,11 +9,11 @@ use Prim.Native.Nat.{ℕ, _<_, _^_}
 use lib.Dec.{T}
 use lib.ListN.{length, getD}
 use Rattle.concepts.specs.Role.{inverse}
-use Rattle.concepts.specs.Concept.{Concept, atomic, negated, conj, disj, univ, exist, Table, conceptAt}
+use Rattle.concepts.specs.Concept.{atomic, negated, conj, disj, univ, Table, conceptAt}
 use Rattle.concepts.specs.RowSet.{RowSet, mem, Subset, fromList}
 use Rattle.procedure.specs.Status.{Status, isSat, isOpen}
 use Rattle.procedure.specs.SetTests.{existentials}
-use Rattle.procedure.specs.Graph.{Link, unlinked, toState, lapsed, Node, Graph, nodeAt, nodeCount, children}
+use Rattle.procedure.specs.Graph.{unlinked, toState, Graph, nodeAt, nodeCount, children}
 
 -- no clash and nothing unfinished
 pub record Saturated (t : Table) (s : RowSet) : Type 0 where

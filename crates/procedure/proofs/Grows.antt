@@ -3,19 +3,19 @@
 -- A node keeps its set, whether it is a state, the state above and the role. A status goes from none to any,
 -- from open to a settled one, and then stays. Edges and alternatives are only appended, and no edge starts at an expanded state.
 -- Assumes nothing.
-use mathlib.Core.Path.{_≡_, refl, sym, ap, _∙_, subst}
-use mathlib.Core.Bool.{Bool, true, false, not}
-use mathlib.Core.List.{List, [], _∷_, _++_, append-nil, append-assoc, List·Memᴰ, Memᴰ·append-left}
-use mathlib.Core.Logic.{_⊎_, inl, inr, _≢_}
+use mathlib.Core.Path.{_≡_, refl, sym, ap, _∙_}
+use mathlib.Core.Bool.{true, not}
+use mathlib.Core.List.{List, [], _∷_, _++_, append-nil, append-assoc, Memᴰ·append-left}
+use mathlib.Core.Logic.{inl, inr}
 use Prim.Native.Nat.{ℕ, _≤_, _<_}
 use native.Mathlib.Decide.{ℕ-discrete}
 use native.Mathlib.Omega.{arith}
-use lib.Dec.{T, T-not, not-T}
+use lib.Dec.{T, T-not}
 use Rattle.concepts.specs.Tests.{decide}
 use Rattle.concepts.specs.RowSet.{RowSet}
-use Rattle.procedure.specs.Status.{Status, isUnset, isLive}
+use Rattle.procedure.specs.Status.{isUnset, isLive}
 use Rattle.procedure.specs.Graph.{Node, Graph, appendNode, appendEdge, appendAlternative, nodeAt, nodeCount, children, replaceNode}
-use Rattle.procedure.specs.GraphLaws.{count-append, node-old, count-replace, node-same, node-other, Child, children-edges, children-own, children-other, child-old, AlternativeOf, alternatives-same, alternative-old}
+use Rattle.procedure.specs.GraphLaws.{count-append, node-old, count-replace, node-same, node-other, Child, children-edges, children-own, children-other, AlternativeOf, alternatives-same, alternative-old}
 
 -- ---- nodes
 

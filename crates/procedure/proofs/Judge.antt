@@ -4,7 +4,6 @@
 -- Assumes nothing.
 use mathlib.Core.Path.{_≡_, refl, sym, ap, _∙_, subst}
 use mathlib.Core.Bool.{Bool, true, false, not}
-use mathlib.Core.List.{List, [], _∷_, map, List·Memᴰ}
 use mathlib.Core.Logic.{_⊎_, inl, inr, _≢_}
 use Prim.Native.Nat.{ℕ, _≤_, _<_}
 use native.Mathlib.Decide.{ℕ-discrete}
@@ -12,14 +11,14 @@ use native.Mathlib.Omega.{arith}
 use lib.Dec.{T, T-not}
 use Rattle.concepts.specs.Tests.{decide}
 use Rattle.concepts.specs.ListLaws.{map-mem, mem-map}
-use Rattle.procedure.specs.Status.{Status, unset, «open», sat, unsat, toosmall, rank, StatusTable, branchTable, stateTable, foldStatus, isUnset, isLive}
-use Rattle.procedure.specs.StatusLaws.{branch-set, state-set, branch-least, branch-found, state-greatest, state-found, rank-sat, rank-unsat, rank-toosmall, live-rank, live-open}
-use Rattle.procedure.specs.Graph.{Link, unlinked, toState, lapsed, Node, Graph, withStatus, nodeAt, nodeCount, children, replaceNode, setStatus}
+use Rattle.procedure.specs.Status.{Status, unset, «open», sat, unsat, toosmall, rank, branchTable, stateTable, foldStatus, isUnset, isLive}
+use Rattle.procedure.specs.StatusLaws.{branch-set, state-set, branch-least, branch-found, state-greatest, state-found, rank-sat, rank-unsat, live-rank, live-open}
+use Rattle.procedure.specs.Graph.{Link, unlinked, toState, lapsed, Node, Graph, withStatus, nodeAt, nodeCount, children, setStatus}
 use Rattle.procedure.specs.GraphLaws.{node-same, node-other, Child, children-edges}
 use Rattle.procedure.specs.Tableau.{foldChildren, judgeBranch, judgeState}
 use Rattle.procedure.proofs.Setting.{Setting}
 use Rattle.procedure.proofs.Grows.{Follows, Grows, grows-replace}
-use Rattle.procedure.proofs.Invariant.{Covered, Blocked, Unsatisfied, StateSays, OpenSays, SatSays, BranchSays, Expanded, StateShape, BranchShape, LinkShape, KindFact, Fact, EdgeFact, StateEdge, BranchEdge, LinkEdge, Inv, statuses, QuietLink, QuietOpen, QuietBy, Quiet, QuietBut}
+use Rattle.procedure.proofs.Invariant.{Covered, Blocked, Unsatisfied, StateSays, OpenSays, SatSays, BranchSays, Expanded, StateShape, BranchShape, LinkShape, KindFact, EdgeFact, StateEdge, BranchEdge, LinkEdge, Inv, statuses, QuietLink, QuietOpen, QuietBy, Quiet, QuietBut}
 use Rattle.procedure.proofs.Operations.{inv-replace}
 use Rattle.procedure.proofs.Quiet.{fold-same, quiet-replace}
 

@@ -2,24 +2,21 @@
 --
 -- In order: facts of a node; edges; alternatives; the operations on a graph.
 -- Assumes nothing.
-use mathlib.Core.Path.{_≡_, refl, sym, ap, _∙_, subst}
+use mathlib.Core.Path.{_≡_, refl, ap, _∙_, subst}
 use mathlib.Core.Bool.{Bool, true, false, not}
 use mathlib.Core.List.{List, [], _∷_}
-use mathlib.Core.Logic.{_⊎_, inl, inr, _≢_}
-use Prim.Native.Nat.{ℕ, zero, suc, _≤_, _<_, _^_}
-use native.Mathlib.Decide.{ℕ-discrete}
-use native.Mathlib.Omega.{arith}
+use Prim.Native.Nat.{ℕ, zero, suc, _<_}
 use lib.Dec.{T}
 use Rattle.concepts.specs.Role.{inverse}
-use Rattle.concepts.specs.RowSet.{RowSet, mem, empty, fromList, Subset}
+use Rattle.concepts.specs.RowSet.{RowSet}
 use Rattle.procedure.specs.Status.{Status, unset, «open», sat, unsat, toosmall, isUnset, isLive}
 use Rattle.procedure.specs.SetTests.{lacking, existentials}
-use Rattle.procedure.specs.Graph.{Link, unlinked, toState, lapsed, Node, Graph, appendNode, appendEdge, appendAlternative, nodeAt, nodeCount, children, replaceNode}
-use Rattle.procedure.specs.GraphLaws.{count-append, node-old, node-new, node-cases, count-replace, node-same, node-other, Child, children-edges, child-old, child-cases, AlternativeOf, alternatives-same, alternative-cases}
-use Rattle.procedure.proofs.Setting.{Setting, rowCount}
-use Rattle.procedure.proofs.Grows.{Follows, Grows, grows-child, grows-there, grows-live, grows-node, grows-edge, grows-alternative, grows-replace}
+use Rattle.procedure.specs.Graph.{Link, unlinked, toState, lapsed, Node, Graph, nodeAt, nodeCount, children}
+use Rattle.procedure.specs.GraphLaws.{Child}
+use Rattle.procedure.proofs.Setting.{Setting}
+use Rattle.procedure.proofs.Grows.{Grows, grows-child, grows-there, grows-live}
 use Rattle.procedure.proofs.Finished.{Under, Answers}
-use Rattle.procedure.proofs.Invariant.{Covered, Enlarged, Blocked, StateSays, OpenSays, SatSays, BranchSays, AnswerAll, Expanded, StateShape, BranchShape, Linked, LinkShape, KindFact, Fact, StateEdge, BranchEdge, LinkEdge, EdgeFact, AlternativeFact, Inv}
+use Rattle.procedure.proofs.Invariant.{Covered, StateSays, OpenSays, SatSays, BranchSays, AnswerAll, Expanded, LinkShape, KindFact, Fact}
 
 module _ (S : Setting) where
   module _ (g h : Graph) (G : Grows g h) (ends : (x y : ℕ) → Child g x y → (x < nodeCount g) × (y < nodeCount g)) where

@@ -3,22 +3,22 @@
 -- In order: what a put asks and leaves (`PutPre`, `Put`); the alternatives of a small state; lapsing; judging.
 -- Assumes nothing.
 use mathlib.Core.Path.{_≡_, refl, sym, ap, _∙_, subst}
-use mathlib.Core.Bool.{Bool, true, false, not}
+use mathlib.Core.Bool.{Bool, true, false}
 use mathlib.Core.List.{List, [], _∷_, _++_, List·Memᴰ, List·Memᴰ·head, List·Memᴰ·tail, List·Memᴰ·cases-cons, List·Memᴰ·not-nil, Memᴰ·append-right}
 use mathlib.Core.Logic.{_⊎_, inl, inr, _≢_}
-use Prim.Native.Nat.{ℕ, suc, _≤_, _<_, _^_}
+use Prim.Native.Nat.{ℕ, _≤_, _<_, _^_}
 use native.Mathlib.Omega.{arith}
 use lib.Dec.{T}
 use Rattle.concepts.specs.RowSet.{RowSet, fromList, union, missing, Subset}
 use Rattle.concepts.specs.RowSetLaws.{union-left, union-right, union-lt, missing-lt}
 use Rattle.procedure.specs.Status.{Status, unset, «open», sat, unsat, toosmall, isUnset, isLive}
-use Rattle.procedure.specs.Graph.{Link, unlinked, toState, lapsed, Node, Graph, Result, reached, _>>=_, forEach, withLink, withStatus, nodeAt, nodeCount, children, alternativesOf, replaceNode, setStatus, setLink}
-use Rattle.procedure.specs.GraphLaws.{Sure, sure-map, sure-bind, sure-forEach, node-same, node-other, count-replace, Child, children-edges, AlternativeOf}
+use Rattle.procedure.specs.Graph.{Link, toState, lapsed, Node, Graph, reached, forEach, withLink, withStatus, nodeAt, nodeCount, children, alternativesOf, setStatus, setLink}
+use Rattle.procedure.specs.GraphLaws.{Sure, sure-map, sure-bind, sure-forEach, node-same, node-other, Child, children-edges, AlternativeOf}
 use Rattle.procedure.specs.Tableau.{Put, judgeBranch, putAlternatives, judgeLinked, noRole}
 use Rattle.procedure.proofs.Setting.{Setting, rowCount, Element}
 use Rattle.procedure.proofs.Semantics.{satisfies-union}
 use Rattle.procedure.proofs.Grows.{Follows, Grows, grows-refl, grows-trans, grows-there, grows-child, grows-replace}
-use Rattle.procedure.proofs.Invariant.{Sat, Reach, Covered, StateSays, OpenSays, SatSays, BranchSays, BranchShape, Linked, LinkShape, KindFact, Fact, EdgeFact, BranchEdge, LinkEdge, Inv, QuietLink, QuietOpen, QuietBut}
+use Rattle.procedure.proofs.Invariant.{Sat, Reach, Covered, StateSays, OpenSays, SatSays, BranchSays, Linked, LinkShape, KindFact, Fact, EdgeFact, Inv, QuietLink, QuietOpen, QuietBut}
 use Rattle.procedure.proofs.Keeps.{covered-mono}
 use Rattle.procedure.proofs.Operations.{inv-replace}
 use Rattle.procedure.proofs.Quiet.{quiet-replace}

@@ -22,7 +22,8 @@ use Rattle.meaning.specs.Meaning.{finite, Obeys, Member, Holds}
 use Rattle.procedure.specs.Status.{Status}
 use Rattle.procedure.specs.Graph.{Graph, nodeAt, nodeCount}
 use Rattle.procedure.specs.Example.{RoleLink, Example, Walk, listed, worldOf, example}
-use Rattle.procedure.specs.ExampleLaws.{mem-existentials, example-some, mem-listed, listed-mem}
+use Rattle.procedure.specs.SetTestLaws.{mem-existentials}
+use Rattle.procedure.specs.ExampleLaws.{example-some, mem-listed, listed-mem}
 use Rattle.procedure.proofs.Finished.{Saturated, Along, Finished}
 use Rattle.procedure.proofs.Truth.{setAt, size, Hintikka, truth}
 use Rattle.procedure.proofs.Descend.{Usable}
@@ -64,7 +65,7 @@ module _ (t : Table) (tbox wanted : List ℕ) (g : Graph) (good : Status → Boo
   written-answered d k ρ l h b e m =
       let s = nodeAt g (stateAt w d) .rows in
       let (c, i, n) = rowsOf-answer t tbox wanted g good codes F (stateAt w d) ρ l (element-usable d h)
-      (mem-existentials t s k ρ l b e (subst (λ (u : RowSet). T (mem k u)) (written-set g w d h) m)) in
+      (mem-existentials t s (ρ, l) k b (subst (λ (u : RowSet). T (mem k u)) (written-set g w d h) m) e) in
       let (o, p, q, r) = W .reaches d (omega (arith, written-size g w)) (ρ, c) i in
       let z : o < size (written g w) = omega (arith, written-size g w) in
       (o, z, mem-listed (w .links) (record { from = d; role = ρ; to = o }) q, subst (λ (u : RowSet). T (mem l u)) (sym (written-set g w o z)) (r l n))

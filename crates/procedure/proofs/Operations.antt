@@ -2,21 +2,20 @@
 --
 -- In order: edges and alternatives go on to a graph that has grown; a node, an edge, an alternative is added; a node is replaced.
 -- Assumes nothing.
-use mathlib.Core.Path.{_≡_, refl, sym, ap, _∙_, subst, subst₃}
-use mathlib.Core.Bool.{Bool, true, false, not}
-use mathlib.Core.List.{List, [], _∷_}
-use mathlib.Core.Logic.{_⊎_, inl, inr, _≢_}
-use Prim.Native.Nat.{ℕ, zero, suc, _≤_, _<_}
+use mathlib.Core.Path.{_≡_, refl, sym, ap, _∙_, subst}
+use mathlib.Core.Bool.{Bool, true, false}
+use mathlib.Core.Logic.{_⊎_, inl, inr}
+use Prim.Native.Nat.{ℕ, _≤_, _<_}
 use native.Mathlib.Decide.{ℕ-discrete}
 use native.Mathlib.Omega.{arith}
 use lib.Dec.{T}
 use Rattle.concepts.specs.RowSet.{RowSet}
-use Rattle.procedure.specs.Status.{Status, toosmall, isUnset}
-use Rattle.procedure.specs.Graph.{Link, toState, lapsed, Node, Graph, appendNode, appendEdge, appendAlternative, nodeAt, nodeCount, children, replaceNode}
+use Rattle.procedure.specs.Status.{toosmall, isUnset}
+use Rattle.procedure.specs.Graph.{Link, Node, Graph, appendNode, appendEdge, appendAlternative, nodeAt, nodeCount, replaceNode}
 use Rattle.procedure.specs.GraphLaws.{count-append, node-old, node-new, node-cases, count-replace, node-same, node-other, Child, children-edges, child-cases, AlternativeOf, alternatives-same, alternative-cases}
 use Rattle.procedure.proofs.Setting.{Setting}
 use Rattle.procedure.proofs.Grows.{Follows, Grows, grows-there, grows-node, grows-edge, grows-alternative, grows-replace}
-use Rattle.procedure.proofs.Invariant.{Fact, StateEdge, BranchEdge, LinkEdge, EdgeFact, AlternativeFact, Inv}
+use Rattle.procedure.proofs.Invariant.{Fact, EdgeFact, AlternativeFact, Inv}
 use Rattle.procedure.proofs.Keeps.{status-stays, fact-mono}
 
 module _ (S : Setting) where

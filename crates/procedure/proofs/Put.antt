@@ -13,21 +13,20 @@ use native.Mathlib.Nat.{not-suc-le-zero}
 use native.Mathlib.Decide.{decLt}
 use native.Mathlib.Omega.{arith}
 use lib.Dec.{T, eqb, eqb→eq, T-not}
-use lib.ListN.{length}
 use Rattle.concepts.specs.Tests.{by-test}
 use Rattle.concepts.specs.Role.{inverse, inverse-high}
 use Rattle.concepts.specs.RowSet.{RowSet, empty, fromList, missing, Subset}
 use Rattle.concepts.specs.RowSetLaws.{missing-all}
-use Rattle.procedure.specs.Status.{Status, unset, «open», sat, unsat, toosmall, isUnset, isLive}
+use Rattle.procedure.specs.Status.{Status, unset, unsat, toosmall, isUnset, isLive}
 use Rattle.procedure.specs.SetTests.{clash, unfinished, lacking}
 use Rattle.procedure.specs.SetTestLaws.{lacking-no-role, lacking-lt, lacking-witness}
-use Rattle.procedure.specs.Graph.{Link, unlinked, toState, lapsed, Node, Graph, Result, reached, _>>=_, appendNode, appendEdge, appendAlternative, addNode, addEdge, addAlternative, hasAlternative, withLink, nodeAt, nodeCount, children, findState, replaceNode, setLink}
-use Rattle.procedure.specs.GraphLaws.{Sure, sure-map, sure-bind, sure-addNode, sure-addEdge, sure-addAlternative, count-append, node-old, node-new, node-same, node-other, count-replace, Child, children-edges, children-own, children-other, AlternativeOf, alternative-new, has-alternative, find-state}
+use Rattle.procedure.specs.Graph.{Link, unlinked, toState, lapsed, Node, Graph, reached, _>>=_, appendNode, appendEdge, appendAlternative, addNode, addEdge, addAlternative, withLink, nodeAt, nodeCount, children, findState, setLink}
+use Rattle.procedure.specs.GraphLaws.{Sure, sure-map, sure-bind, sure-addNode, sure-addEdge, sure-addAlternative, count-append, node-old, node-new, node-same, node-other, Child, children-edges, children-own, children-other, AlternativeOf, alternative-new, has-alternative, find-state}
 use Rattle.procedure.specs.Tableau.{Put, judge, judgeBy, judgeLinked, below, state, joinAlternatives, linkTo, linkFound, putSpecial, putNode, putBy, putWithin, put, noRole}
-use Rattle.procedure.proofs.Setting.{Setting, rowCount, Element}
+use Rattle.procedure.proofs.Setting.{Setting, rowCount}
 use Rattle.procedure.proofs.Semantics.{clash-unsatisfied, lacking-satisfied}
-use Rattle.procedure.proofs.Grows.{Follows, Grows, grows-refl, grows-trans, grows-there, grows-node, grows-edge, grows-alternative, grows-replace}
-use Rattle.procedure.proofs.Invariant.{Sat, Reach, Blocked, BranchSays, StateShape, BranchShape, Linked, LinkShape, KindFact, Fact, EdgeFact, StateEdge, BranchEdge, AlternativeFact, Inv, Quiet, QuietBy, QuietBut}
+use Rattle.procedure.proofs.Grows.{Follows, Grows, grows-trans, grows-there, grows-node, grows-edge, grows-alternative, grows-replace}
+use Rattle.procedure.proofs.Invariant.{Blocked, BranchSays, Linked, LinkShape, KindFact, Fact, EdgeFact, AlternativeFact, Inv, QuietBy, QuietBut}
 use Rattle.procedure.proofs.Operations.{inv-node, inv-edge, inv-alternative, inv-replace}
 use Rattle.procedure.proofs.Quiet.{quiet-node, quiet-edge, quiet-alternative, quiet-replace, quiet-weaken}
 use Rattle.procedure.proofs.Judge.{state-edge, branch-edge, branch-fact, Excused, Judged}

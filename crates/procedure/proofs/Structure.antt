@@ -7,7 +7,7 @@ use Prim.Native.Nat.{ℕ, _<_}
 use lib.Dec.{T}
 use lib.ListN.{length}
 use Rattle.concepts.specs.Role.{inverse}
-use Rattle.concepts.specs.Concept.{Concept, atomic, negated, conj, disj, univ, exist, Table, conceptAt}
+use Rattle.concepts.specs.Concept.{atomic, negated, conj, disj, univ, exist, Table, conceptAt}
 use Rattle.concepts.specs.RowSet.{RowSet, mem}
 
 pub record Structure (t : Table) : Type 1 where

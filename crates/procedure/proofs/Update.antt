@@ -2,24 +2,23 @@
 --
 -- In order: judging an open node; what an update leaves (`Updated`); the parents of a node, one after the other; an update.
 -- Assumes nothing.
-use mathlib.Core.Path.{_≡_, refl, sym, ap, _∙_, subst}
+use mathlib.Core.Path.{_≡_, refl, sym, _∙_, subst}
 use mathlib.Core.Bool.{Bool, true, false, not}
-use mathlib.Core.List.{List, [], _∷_, List·Memᴰ, List·Memᴰ·head, List·Memᴰ·tail, List·Memᴰ·cases-cons, List·Memᴰ·not-nil}
+use mathlib.Core.List.{List, [], _∷_, List·Memᴰ, List·Memᴰ·cases-cons, List·Memᴰ·not-nil}
 use mathlib.Core.Logic.{_⊎_, inl, inr, _≢_}
-use Prim.Native.Nat.{ℕ, zero, suc, _+_, _≤_, _<_}
+use Prim.Native.Nat.{ℕ, zero, suc, _+_, _<_}
 use native.Mathlib.Omega.{arith}
 use lib.Dec.{T, T-not}
-use lib.ListN.{length}
-use Rattle.concepts.specs.Tests.{by-test, decide}
+use Rattle.concepts.specs.Tests.{by-test}
 use Rattle.concepts.specs.RowSetLaws.{missing-all}
-use Rattle.procedure.specs.Status.{Status, unset, «open», sat, unsat, toosmall, isUnset, isOpen, isLive}
+use Rattle.procedure.specs.Status.{Status, «open», isUnset, isOpen, isLive}
 use Rattle.procedure.specs.StatusLaws.{open-live, open-set, is-open, not-open-settled}
-use Rattle.procedure.specs.Graph.{Link, unlinked, toState, lapsed, Node, Graph, Result, reached, _>>=_, forEach, nodeAt, nodeCount, children, parents}
-use Rattle.procedure.specs.GraphLaws.{Sure, sure-map, sure-bind, sure-forEach, Child, child-parent}
-use Rattle.procedure.specs.Tableau.{judge, judgeBy, judgeLinked, judgeBranch, judgeState, put, updateParents, updateWithin}
+use Rattle.procedure.specs.Graph.{Link, unlinked, toState, lapsed, Graph, reached, _>>=_, forEach, nodeAt, nodeCount, parents}
+use Rattle.procedure.specs.GraphLaws.{Sure, sure-map, sure-bind, sure-forEach, child-parent}
+use Rattle.procedure.specs.Tableau.{judge, judgeBy, judgeBranch, judgeState, put, updateParents, updateWithin}
 use Rattle.procedure.proofs.Setting.{Setting, rowCount}
 use Rattle.procedure.proofs.Grows.{Grows, grows-refl, grows-trans}
-use Rattle.procedure.proofs.Invariant.{OpenSays, BranchSays, StateShape, LinkShape, Inv, Quiet, QuietBy, QuietBut}
+use Rattle.procedure.proofs.Invariant.{OpenSays, BranchSays, LinkShape, Inv, QuietBut}
 use Rattle.procedure.proofs.Quiet.{quiet-weaken}
 use Rattle.procedure.proofs.Judge.{state-fact, branch-fact, quiet-settled, Excused, Judged, branch-judged, state-judged}
 use Rattle.procedure.proofs.Linked.{linked-judged}

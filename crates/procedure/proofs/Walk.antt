@@ -25,7 +25,8 @@ use Rattle.procedure.specs.Status.{Status}
 use Rattle.procedure.specs.SetTests.{existentials}
 use Rattle.procedure.specs.Graph.{Edge, Graph, nodeAt, nodeCount, children}
 use Rattle.procedure.specs.Example.{RoleLink, Walk, position, meet, walkRows, rowsOf, walkWithin, walk}
-use Rattle.procedure.specs.ExampleLaws.{Met, meet-met, meet-links, existentials-mem, mem-rowsOf, rowsOf-mem, length-rowsOf, walkRows-cons, walkWithin-step, walkWithin-end, walk-some}
+use Rattle.procedure.specs.SetTestLaws.{existentials-mem}
+use Rattle.procedure.specs.ExampleLaws.{Met, meet-met, meet-links, mem-rowsOf, rowsOf-mem, length-rowsOf, walkRows-cons, walkWithin-step, walkWithin-end, walk-some}
 use Rattle.procedure.proofs.Finished.{Along, Under, Finished}
 use Rattle.procedure.proofs.Descend.{Usable, Lands, descend-lands, descend-root}
 
@@ -227,7 +228,7 @@ module _ (t : Table) (tbox wanted : List ℕ) (g : Graph) (good : Status → Boo
       let (i, h, k, p, q) = rowsOf-mem t g x r m in
       let rs = existentials t (nodeAt g x .rows) in
       let A = F .answers x i (U .there) (U .state) (U .nonRoot) (U .isGood) k in
-      let (j, e) = existentials-mem t (nodeAt g x .rows) (getD rs i (0, 0)) (getD-mem rs i (0, 0) h) in
+      let (j, _, _, e) = existentials-mem t (nodeAt g x .rows) (getD rs i (0, 0)) (getD-mem rs i (0, 0) h) in
       subst₂ (GoodChild t g good x) (sym p) (sym q) (record {
         code = codes j (getD rs i (0, 0) .0) (getD rs i (0, 0) .1) e;
         under = A .under;

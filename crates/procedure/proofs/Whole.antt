@@ -2,30 +2,28 @@
 --
 -- In order: the empty set asks for nothing; the first graph; the rounds; the run.
 -- Assumes nothing.
-use mathlib.Core.Path.{_≡_, refl, sym, ap, _∙_, subst}
-use mathlib.Core.Bool.{Bool, true, false, not}
-use mathlib.Core.List.{List, [], _∷_, List·Memᴰ·not-nil}
-use mathlib.Core.Logic.{_⊎_, inl, inr, _≢_}
+use mathlib.Core.Path.{_≡_, refl, sym, subst}
+use mathlib.Core.Bool.{not}
+use mathlib.Core.List.{[], List·Memᴰ·not-nil}
+use mathlib.Core.Logic.{inl, inr}
 use mathlib.Core.Option.{Option, none, some}
-use Prim.Native.Nat.{ℕ, zero, suc, _+_, _≤_, _<_, _^_}
+use Prim.Native.Nat.{ℕ, zero, suc, _+_, _<_}
 use native.Mathlib.Omega.{arith}
 use lib.Dec.{T, T-not}
-use lib.ListN.{length}
 use lib.Pow.{pow-pos}
 use Rattle.concepts.specs.Tests.{by-test, decide}
 use Rattle.concepts.specs.Lists.{select}
 use Rattle.concepts.specs.Concept.{Table}
-use Rattle.concepts.specs.RowSet.{RowSet, mem, empty}
+use Rattle.concepts.specs.RowSet.{empty}
 use Rattle.concepts.specs.RowSetLaws.{mem-empty}
-use Rattle.procedure.specs.Status.{Status, unset, isUnset, isLive}
+use Rattle.procedure.specs.Status.{isUnset, isLive}
 use Rattle.procedure.specs.StatusLaws.{is-unset}
-use Rattle.procedure.specs.SetTests.{unfinished, lowestConj, lowestDisj}
+use Rattle.procedure.specs.SetTests.{unfinished, lowestConj}
 use Rattle.procedure.specs.SetTestLaws.{lowestConj-some, lowestDisj-some, unfinished-disj}
-use Rattle.procedure.specs.Graph.{Node, Graph, Result, reached, _>>=_, appendNode, addNode, nodeAt, nodeCount, children, alternativesOf, lowestUnset}
-use Rattle.procedure.specs.GraphLaws.{Sure, sure-map, sure-bind, sure-addNode, lowestUnset-some}
+use Rattle.procedure.specs.Graph.{Graph, reached, _>>=_, appendNode, addNode, nodeAt, children, alternativesOf, lowestUnset}
+use Rattle.procedure.specs.GraphLaws.{Sure, sure-bind, sure-addNode, lowestUnset-some}
 use Rattle.procedure.specs.Tableau.{state, expand, loopWithin, run}
 use Rattle.procedure.proofs.Setting.{Setting, rowCount}
-use Rattle.procedure.proofs.Grows.{Grows}
 use Rattle.procedure.proofs.Invariant.{Fact, Inv, Quiet, QuietBut}
 use Rattle.procedure.proofs.Measure.{count-le, withAStatus, status-rises}
 use Rattle.procedure.proofs.Expand.{None}

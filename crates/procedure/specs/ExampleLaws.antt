@@ -5,7 +5,7 @@
 -- Assumes nothing.
 use mathlib.Core.Path.{_≡_, refl, sym, ap, _∙_, subst}
 use mathlib.Core.Bool.{Bool, true, false, not, _&&_, _||_, cond}
-use mathlib.Core.List.{List, [], _∷_, _++_, map, zip, List·Memᴰ, List·Memᴰ·cases-cons, List·Memᴰ·not-nil, Memᴰ·map, Memᴰ·of-map, List·Memᴰ·append-cases, List·Memᴰ·eq-of-singleton}
+use mathlib.Core.List.{List, [], _∷_, _++_, map, zip, List·Memᴰ, List·Memᴰ·cases-cons, List·Memᴰ·not-nil, List·Memᴰ·append-cases, List·Memᴰ·eq-of-singleton}
 use mathlib.Core.Logic.{_⊎_, inl, inr}
 use mathlib.Core.Option.{Option, none, some}
 use Prim.Native.Nat.{ℕ, suc, _≤_, _<_}
@@ -15,14 +15,13 @@ use lib.Dec.{T, eqb, ltb, eqb→eq, eqb-refl, ltb→lt, lt→ltb, nltb→le, T-n
 use lib.ListN.{length, getD, length-append, length-map}
 use lib.Seq.{getD-at}
 use Rattle.concepts.specs.Tests.{by-test, or-cases, and-both, and-make, from-true, from-false}
-use Rattle.concepts.specs.ListLaws.{getD-map, mem-zip, zip-mem, length-zip, mem-answers, answers-mem, first-some, first-none, any-mem, mem-any}
+use Rattle.concepts.specs.ListLaws.{getD-map, mem-zip, zip-mem, length-zip, first-some, first-none, any-mem, mem-any}
 use Rattle.concepts.specs.Begins.{Begins, begins-refl}
 use Rattle.concepts.specs.Counting.{Distinct, distinct-append, keyed}
-use Rattle.concepts.specs.Concept.{Concept, atomic, negated, conj, disj, univ, exist, Table, conceptAt}
-use Rattle.concepts.specs.RowSet.{RowSet, mem, members}
-use Rattle.concepts.specs.RowSetLaws.{mem-members}
+use Rattle.concepts.specs.Concept.{Table}
+use Rattle.concepts.specs.RowSet.{mem}
 use Rattle.procedure.specs.Status.{Status, unset, «open», sat, unsat, toosmall, isSat, isOpen}
-use Rattle.procedure.specs.SetTests.{concepts, existArgument, existentials}
+use Rattle.procedure.specs.SetTests.{existentials}
 use Rattle.procedure.specs.Graph.{Edge, Graph, nodeAt, nodeCount, children}
 use Rattle.procedure.specs.Example.{RoleLink, firstChild, liveChild, Walk, _>>=_, descend, position, meet, walkRows, rowsOf, walkWithin, walk, example, listed}
 
@@ -135,28 +134,6 @@ unfolding meet
 meet-links d ρ y w = refl
 
 -- ---- the rows of a state with the children put for them
-
-pub mem-existentials : (t : Table) (s : RowSet) (k ρ l : ℕ) → k < length t → conceptAt t k ≡ exist ρ l → T (mem k s) → List·Memᴰ (ρ, l) (existentials t s)
-unfolding existentials
-mem-existentials t s k ρ l h e m =
-    mem-answers existArgument (concepts t s) (conceptAt t k) (ρ, l) (Memᴰ·map (conceptAt t) (mem-members (length t) k s h m)) (ap existArgument e)
-
-existArgument-path : (c : Concept) (ρ l : ℕ) → existArgument c ≡ some (ρ, l) → c ≡ exist ρ l
-existArgument-path (exist σ k) ρ l e =
-    let p : _≡_ {A = ℕ × ℕ} (σ, k) (ρ, l) = cc in
-    ap (λ (q : ℕ × ℕ). exist (q .0) (q .1)) p
-existArgument-path (atomic a) ρ l e = let z : _≡_ {A = ℕ} 0 1 = cc in absurd (omega arith)
-existArgument-path (negated a) ρ l e = let z : _≡_ {A = ℕ} 0 1 = cc in absurd (omega arith)
-existArgument-path (conj j k) ρ l e = let z : _≡_ {A = ℕ} 0 1 = cc in absurd (omega arith)
-existArgument-path (disj j k) ρ l e = let z : _≡_ {A = ℕ} 0 1 = cc in absurd (omega arith)
-existArgument-path (univ σ k) ρ l e = let z : _≡_ {A = ℕ} 0 1 = cc in absurd (omega arith)
-
-pub existentials-mem : (t : Table) (s : RowSet) (r : ℕ × ℕ) → List·Memᴰ r (existentials t s) → (k : ℕ) × (conceptAt t k ≡ exist (r .0) (r .1))
-unfolding existentials
-existentials-mem t s r m =
-    let (c, n, e) = answers-mem existArgument (concepts t s) r m in
-    let (k, i, p) = Memᴰ·of-map (conceptAt t) (members (length t) s) n in
-    (k, p ∙ existArgument-path c (r .0) (r .1) e)
 
 -- row number i stands with child number i
 pub mem-rowsOf : (t : Table) (g : Graph) (x i : ℕ) → i < length (existentials t (nodeAt g x .rows)) → i < length (children g x)

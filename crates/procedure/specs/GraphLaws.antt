@@ -4,21 +4,21 @@
 -- Assumes nothing.
 use mathlib.Core.Path.{_≡_, refl, sym, ap, _∙_, subst}
 use mathlib.Core.Bool.{Bool, true, false, not, _&&_}
-use mathlib.Core.List.{List, [], _∷_, _++_, map, append-nil, List·Memᴰ, List·Memᴰ·head, List·Memᴰ·tail, List·Memᴰ·cases-cons, List·Memᴰ·not-nil, List·Memᴰ·append-cases, List·Memᴰ·eq-of-singleton, Memᴰ·append-left, Memᴰ·append-right}
+use mathlib.Core.List.{List, [], _∷_, _++_, map, append-nil, List·Memᴰ, List·Memᴰ·head, List·Memᴰ·append-cases, List·Memᴰ·eq-of-singleton, Memᴰ·append-left, Memᴰ·append-right}
 use mathlib.Core.Logic.{_⊎_, inl, inr, _≢_}
 use mathlib.Core.Option.{Option, none, some}
-use Prim.Native.Nat.{ℕ, zero, suc, _+_, _≤_, _<_}
+use Prim.Native.Nat.{ℕ, suc, _<_}
 use native.Mathlib.Decide.{ℕ-discrete}
 use native.Mathlib.Omega.{arith}
-use lib.Dec.{T, eqb, ltb, eqb→eq, eqb-refl, T-not, not-T, ltb→lt}
-use lib.ListN.{length, getD, set, length-set, length-append, List·getD-append}
+use lib.Dec.{T, eqb, ltb, eqb→eq, eqb-refl, not-T, ltb→lt}
+use lib.ListN.{length, length-set, length-append, List·getD-append}
 use lib.Seq.{getD-set-same, getD-set-other, getD-append-seam}
-use Rattle.concepts.specs.Tests.{by-test, and-both, as-true, as-false, decide}
-use Rattle.concepts.specs.Lists.{range, select, any, first}
+use Rattle.concepts.specs.Tests.{by-test, and-both, as-true}
+use Rattle.concepts.specs.Lists.{range, select}
 use Rattle.concepts.specs.ListLaws.{range-mem, mem-range, select-mem, mem-select, select-append, select-pass, select-fail, mem-any, map-append, mem-map, map-mem, first-some, first-none}
 use Rattle.concepts.specs.RowSet.{RowSet}
-use Rattle.procedure.specs.Status.{Status, isUnset}
-use Rattle.procedure.specs.Graph.{Node, Edge, Alternative, Graph, Capacity, Area, nodeArea, edgeArea, alternativeArea, Result, reached, noPlace, outOfFuel, _>>=_, forEach, appendNode, appendEdge, appendAlternative, addNode, addEdge, hasAlternative, addAlternative, noNode, nodeAt, nodeCount, children, parents, alternativesOf, lowest, findState, lowestUnset, replaceNode}
+use Rattle.procedure.specs.Status.{isUnset}
+use Rattle.procedure.specs.Graph.{Node, Edge, Alternative, Graph, Capacity, nodeArea, edgeArea, alternativeArea, Result, reached, noPlace, outOfFuel, _>>=_, forEach, appendNode, appendEdge, appendAlternative, addNode, addEdge, hasAlternative, addAlternative, noNode, nodeAt, nodeCount, children, parents, alternativesOf, lowest, findState, lowestUnset, replaceNode}
 
 -- ---- results
 

@@ -3,7 +3,7 @@
 -- In order: judging a node; putting a set; updates; expansion; the run.
 -- Putting and judging call each other: `judge` takes the put it is to use, and `put` hands it the put with one unit of fuel less.
 -- Assumes nothing.
-use mathlib.Core.Bool.{Bool, true, false}
+use mathlib.Core.Bool.{true, false}
 use mathlib.Core.List.{List, [], map}
 use mathlib.Core.Option.{Option, none, some}
 use Prim.Native.Nat.{ℕ, zero, suc}

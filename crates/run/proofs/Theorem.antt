@@ -4,14 +4,10 @@
 -- (run/specs/Run), and the world that an example describes (worldOf in procedure/specs/Example). No word here is about the graph.
 -- Assumes nothing.
 use mathlib.Core.Path.{_≡_}
-use Prim.Native.Nat.{ℕ, _≤_}
-use lib.ListN.{length}
-use Rattle.meaning.specs.Meaning.{Model, World, finite, Obeys, Member}
 use Rattle.rulefile.specs.Format.{Bytes, RuleFile, accepted, reading}
-use Rattle.procedure.specs.Example.{Example, worldOf}
-use Rattle.run.specs.Run.{Lengths, Used, Answer, refusedFile, short, cannot, can, tooLong, undefined, answer}
+use Rattle.run.specs.Run.{Lengths, Used, cannot, answer}
 use Rattle.run.proofs.Verdict.{answer-right, verdicts-agree}
-use Rattle.run.specs.Claim.{Shows, Claim, SaysCan}
+use Rattle.run.specs.Claim.{Claim, SaysCan}
 
 -- What each answer claims of a file is `Claim` (Claim.antt):
 --   * "cannot": no finite world of any size obeys every rule at each element and has a member of the kit;

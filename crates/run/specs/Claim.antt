@@ -1,11 +1,11 @@
 -- What each answer claims of an accepted file, in the words of the meaning of ALCI (00, demand 3).
 -- Assumes nothing.
-use Prim.Native.Nat.{ℕ, _≤_, _<_}
+use Prim.Native.Nat.{_≤_}
 use lib.ListN.{length}
-use Rattle.meaning.specs.Meaning.{Model, World, finite, Obeys, Member}
+use Rattle.meaning.specs.Meaning.{Model, finite, Obeys, Member}
 use Rattle.rulefile.specs.Format.{RuleFile}
 use Rattle.procedure.specs.Example.{Example, worldOf}
-use Rattle.run.specs.Run.{Used, Answer, refusedFile, short, cannot, can, tooLong, undefined}
+use Rattle.run.specs.Run.{Answer, refusedFile, short, cannot, can, tooLong, undefined}
 
 -- the world of the example obeys every rule at each of its elements, and its element 0 is a member of the kit
 pub record Shows (f : RuleFile) (x : Example) : Type 0 where

@@ -3,14 +3,14 @@
 -- In order: what is lent; the answer; its numbers; the bytes of an example; the areas afterwards.
 -- Assumes nothing.
 use mathlib.Core.Bool.{Bool, true, false, _&&_}
-use mathlib.Core.List.{List, [], _∷_, _++_, map}
+use mathlib.Core.List.{List, [], _∷_, _++_}
 use mathlib.Core.Option.{Option, none, some}
 use Prim.Native.Nat.{ℕ, zero, suc, _*_, _/_, _%_, min}
 use lib.Dec.{leb}
 use lib.ListN.{length, drop, replicate}
 use Rattle.concepts.specs.Concept.{Table}
 use Rattle.concepts.specs.RowSet.{RowSet}
-use Rattle.rulefile.specs.Format.{Bytes, RuleFile, Reading, refused, accepted, reading}
+use Rattle.rulefile.specs.Format.{Bytes, Reading, refused, accepted, reading}
 use Rattle.procedure.specs.Status.{Status, unset, «open», sat, unsat, toosmall}
 use Rattle.procedure.specs.Graph.{Graph, Capacity, Area, Result, reached, noPlace, outOfFuel, nodeAt}
 use Rattle.procedure.specs.Tableau as Tableau
