@@ -14,7 +14,7 @@ use Rattle.procedure.specs.SetTests.{lacking, existentials}
 use Rattle.procedure.specs.Graph.{Link, unlinked, toState, lapsed, Node, Graph, nodeAt, nodeCount, children}
 use Rattle.procedure.specs.GraphLaws.{Child}
 use Rattle.procedure.proofs.Setting.{Setting}
-use Rattle.procedure.proofs.Grows.{Grows, grows-child, grows-there, grows-live}
+use Rattle.procedure.proofs.Grows.{Grows, grows-alternative-of, grows-child, grows-there, grows-live}
 use Rattle.procedure.proofs.Finished.{Under, Answers}
 use Rattle.procedure.proofs.Invariant.{Covered, StateSays, OpenSays, SatSays, BranchSays, AnswerAll, Expanded, LinkShape, KindFact, Fact}
 
@@ -64,7 +64,7 @@ module _ (S : Setting) where
       state-says-mono «open» same C = tt
       state-says-mono sat same C = λ y m. let k : Child g x y = rw (same tt) at m in status-stays y sat (ends x y k .1) tt (C y k)
       state-says-mono unsat same C = C
-      state-says-mono toosmall same C = λ d p. let (a, m, u) = C d p in (a, G .alternative x a m, u)
+      state-says-mono toosmall same C = λ d p. let (a, m, u) = C d p in (a, grows-alternative-of G x a m, u)
 
       open-says-mono : (l : Link) → OpenSays S g x n l → OpenSays S h x n l
       open-says-mono unlinked C = covered-mono x (n .rows) C
@@ -86,7 +86,7 @@ module _ (S : Setting) where
       branch-says-mono unsat hp L C = C
       branch-says-mono toosmall hp L C = λ l d e sd r se.
           let (a, m, u) = C (grows-live G (n .pst) hp l) d e (rw (G .node (n .pst) hp .rows) at sd) r se in
-          (a, G .alternative (n .pst) a m, u)
+          (a, grows-alternative-of G (n .pst) a m, u)
 
       link-mono : (l : Link) → (n .isState ≡ false → n .pst < nodeCount g) → LinkShape S g n l → LinkShape S h n l
       link-mono unlinked hp L = tt

@@ -25,7 +25,7 @@ use Rattle.procedure.specs.GraphLaws.{Sure, sure-map, sure-bind, sure-ad
 use Rattle.procedure.specs.Tableau.{Put, judge, judgeBy, judgeLinked, below, state, joinAlternatives, linkTo, linkFound, putSpecial, putNode, putBy, putWithin, put, noRole}
 use Rattle.procedure.proofs.Setting.{Setting, rowCount}
 use Rattle.procedure.proofs.Semantics.{clash-unsatisfied, lacking-satisfied}
-use Rattle.procedure.proofs.Grows.{Follows, Grows, grows-trans, grows-there, grows-node, grows-edge, grows-alternative, grows-replace}
+use Rattle.procedure.proofs.Grows.{Follows, Grows, grows-trans, grows-there, grows-node, grows-edge, grows-alternative, grows-alternative-of, grows-replace}
 use Rattle.procedure.proofs.Invariant.{Blocked, BranchSays, Linked, LinkShape, KindFact, Fact, EdgeFact, AlternativeFact, Inv, QuietBy, QuietBut}
 use Rattle.procedure.proofs.Operations.{inv-node, inv-edge, inv-alternative, inv-replace}
 use Rattle.procedure.proofs.Quiet.{quiet-node, quiet-edge, quiet-alternative, quiet-replace, quiet-weaken}
@@ -138,7 +138,7 @@ module _ (S : Setting) where
       let h = appendNode n k in
       let M = made-lapsed P k p ρ s (inv-alternative S p x g I (alternative-fact P g p ρ s I pl bd rl Q q)) (record { there = pl .there; isState = pl .isState; root = pl .root }) bd rl
       (quiet-alternative S P p x g Q) room
-      (λ _. blocks P g p ρ s I pl bd rl Q q h (grows-node n k .alternative p x (alternative-new p x g)) (ap (λ (b : Node). b .rows) (node-old n k p (pl .there)))) in
+      (λ _. blocks P g p ρ s I pl bd rl Q q h (grows-alternative-of (grows-node n k) p x (alternative-new p x g)) (ap (λ (b : Node). b .rows) (node-old n k p (pl .there)))) in
       record {
         inv = M .inv;
         grows = grows-trans (grows-alternative p x g) (M .grows);

@@ -99,6 +99,13 @@ pub children-edges : (g h : Graph) → g .edges ≡ h .edges → (x : ℕ) → c
 unfolding children
 children-edges g h e x = ap (λ (es : List Edge). map (λ (a : Edge). a .to) (select (λ (a : Edge). eqb (a .from) x) es)) e
 
+-- more edges, more children
+pub child-more : (g h : Graph) (more : List Edge) → h .edges ≡ g .edges ++ more → (x y : ℕ) → Child g x y → Child h x y
+unfolding children
+child-more g h more e x y m =
+    let f : Edge → Bool = λ a. eqb (a .from) x in
+    rw (e, select-append f (g .edges) more, map-append (λ (a : Edge). a .to) (select f (g .edges)) (select f more)) (Memᴰ·append-left (map (λ (a : Edge). a .to) (select f more)) m)
+
 pub children-own : (x y : ℕ) (g : Graph) → children (appendEdge x y g) x ≡ children g x ++ (y ∷ [])
 unfolding children
 children-own x y g =
@@ -147,6 +154,14 @@ AlternativeOf g x s = List·Memᴰ s (alternativesOf g x)
 pub alternatives-same : (g h : Graph) → g .alternatives ≡ h .alternatives → (x : ℕ) → alternativesOf g x ≡ alternativesOf h x
 unfolding alternativesOf
 alternatives-same g h e x = ap (λ (as′ : List Alternative). map (λ (a : Alternative). a .rows) (select (λ (a : Alternative). eqb (a .owner) x) as′)) e
+
+-- more alternatives stay alternatives
+pub alternative-more : (g h : Graph) (more : List Alternative) → h .alternatives ≡ g .alternatives ++ more → (x : ℕ) (s : RowSet) → AlternativeOf g x s → AlternativeOf h x s
+unfolding alternativesOf
+alternative-more g h more e x s m =
+    let f : Alternative → Bool = λ a. eqb (a .owner) x in
+    rw (e, select-append f (g .alternatives) more, map-append (λ (a : Alternative). a .rows) (select f (g .alternatives)) (select f more))
+    (Memᴰ·append-left (map (λ (a : Alternative). a .rows) (select f more)) m)
 
 alternatives-append : (x : ℕ) (s : RowSet) (g : Graph) (y : ℕ)
     → alternativesOf (appendAlternative x s g) y ≡ alternativesOf g y ++ map (λ (a : Alternative). a .rows) (select (λ (a : Alternative). eqb (a .owner) y) (record { owner = x; rows = s } ∷ []))
