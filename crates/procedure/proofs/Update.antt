@@ -15,7 +15,7 @@ use Rattle.procedure.specs.Status.{Status, «open», isUnset, isOpen, is
 use Rattle.procedure.specs.StatusLaws.{open-live, open-set, is-open, not-open-settled}
 use Rattle.procedure.specs.Graph.{Link, unlinked, toState, lapsed, Graph, reached, _>>=_, forEach, nodeAt, nodeCount, parents}
 use Rattle.procedure.specs.GraphLaws.{Sure, sure-map, sure-bind, sure-forEach, child-parent}
-use Rattle.procedure.specs.Tableau.{judge, judgeBy, judgeBranch, judgeState, put, updateParents, updateWithin}
+use Rattle.procedure.specs.Tableau.{judge, judgeBy, judgeBranch, judgeState, put, updateParents, updateChanged, updateWithin}
 use Rattle.procedure.proofs.Setting.{Setting, rowCount}
 use Rattle.procedure.proofs.Grows.{Grows, grows-refl, grows-trans}
 use Rattle.procedure.proofs.Invariant.{OpenSays, BranchSays, LinkShape, Inv, QuietBut}
@@ -119,17 +119,17 @@ module _ (S : Setting) where
   -- ---- an update
 
   pub update-right : (f : ℕ) → UpdateRight f
-  unfolding updateWithin
+  unfolding updateWithin updateChanged
   update-right zero P x g I Q enough = omega (arith, enough, I .fits, count-le (λ n. not (isLive (n .status))) (g .nodes))
   update-right (suc f) P x g I Q enough =
       by-test (Sure (Updated P g)) (isOpen (nodeAt g x .status))
-      (judge (put (S .table) (S .capacity)) x g >>= (λ h. elim (isOpen (nodeAt h x .status)) [ true ↦ reached h | false ↦ updateParents (S .table) (S .capacity) (λ y k. updateWithin (S .table) (S .capacity) f y k) x h ]))
+      (judge (put (S .table) (S .capacity)) x g >>= updateChanged (S .table) (S .capacity) (λ y k. updateWithin (S .table) (S .capacity) f y k) x)
       (reached g)
       (λ b.
       let e = is-open (nodeAt g x .status) b in
       let hx = set-there g x (open-set (nodeAt g x .status) e) in
       sure-bind (Judged S P g x) (Updated P g) (judge (put (S .table) (S .capacity)) x g)
-      (λ h. elim (isOpen (nodeAt h x .status)) [ true ↦ reached h | false ↦ updateParents (S .table) (S .capacity) (λ y k. updateWithin (S .table) (S .capacity) f y k) x h ])
+      (updateChanged (S .table) (S .capacity) (λ y k. updateWithin (S .table) (S .capacity) f y k) x)
       (open-judged P g x I hx e (quiet-weaken S (λ y. P y ⊎ Due (λ w. w ≡ x) g y) (λ y. P y ⊎ (y ≡ x)) g (λ y q. elim q [ inl p ↦ inl p | inr d ↦ inr (d .0) ]) Q))
       (λ h J′. by-test (Sure (Updated P g)) (isOpen (nodeAt h x .status)) (reached h) (updateParents (S .table) (S .capacity) (λ y k. updateWithin (S .table) (S .capacity) f y k) x h)
       (λ o. record {

@@ -6,5 +6,6 @@ pub mod SetTestLaws
 pub mod Graph
 pub mod GraphLaws
 pub mod Tableau
+pub mod TableauLaws
 pub mod Example
 pub mod ExampleLaws

@@ -115,20 +115,18 @@ module _ (t : Table) (c : Capacity) where
 
   -- ---- updates
 
-  -- "if its status changes, its parents at that moment are updated, each fully before the next"
+  -- each parent, in order of edges as they are now, "each fully before the next"
   unfoldable pub updateParents : (ℕ → Graph → Result) → ℕ → Graph → Result
   updateParents update x g = forEach update (parents g x) g
+
+  -- "if its status changes, its parents at that moment are updated": x was open
+  unfoldable pub updateChanged : (ℕ → Graph → Result) → ℕ → Graph → Result
+  updateChanged update x g = elim (isOpen (nodeAt g x .status)) [ true ↦ reached g | false ↦ updateParents update x g ]
 
   -- "An update acts only on an open node". Each round settles a node, so the places for nodes bound the depth
   unfoldable pub updateWithin : ℕ → ℕ → Graph → Result
   updateWithin zero x g = outOfFuel
-  updateWithin (suc f) x g = elim (isOpen (nodeAt g x .status)) [
-    | true ↦ judge put x g >>= (λ h. elim (isOpen (nodeAt h x .status)) [
-      | true ↦ reached h
-      | false ↦ updateParents (λ y k. updateWithin f y k) x h
-    ])
-    | false ↦ reached g
-  ]
+  updateWithin (suc f) x g = elim (isOpen (nodeAt g x .status)) [ true ↦ judge put x g >>= updateChanged (λ y k. updateWithin f y k) x | false ↦ reached g ]
 
   unfoldable pub update : ℕ → Graph → Result
   update x g = updateWithin (suc (c .nodeRoom)) x g
