@@ -11,6 +11,7 @@ pub mod Operations
 pub mod Quiet
 pub mod Judge
 pub mod Linked
+pub mod Special
 pub mod Put
 pub mod Measure
 pub mod Update

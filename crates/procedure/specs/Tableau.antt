@@ -73,21 +73,26 @@ module _ (t : Table) (c : Capacity) where
   unfoldable pub joinAlternatives : ℕ → RowSet → Graph → Result
   joinAlternatives p a g = elim (isLive (nodeAt g p .status)) [ true ↦ addAlternative c p a g | false ↦ reached g ]
 
-  -- "link z to the state .., then the edge from z, then set z's status"
-  unfoldable pub linkTo : Put → ℕ → ℕ → Graph → Result
-  linkTo put z y g = addEdge c z y (setLink z (toState y) g) >>= judge put z
+  -- "link z to the state .., then the edge from z"
+  unfoldable pub linkTo : ℕ → ℕ → Graph → Result
+  linkTo z y g = addEdge c z y (setLink z (toState y) g)
 
   -- ".. the state with this set, made if new"
-  unfoldable pub linkFound : Put → ℕ → RowSet → Option ℕ → Graph → Result
-  linkFound put z s (some y) g = linkTo put z y g
-  linkFound put z s none g = addNode c (state s) g >>= linkTo put z (nodeCount g)
+  unfoldable pub linkFound : ℕ → RowSet → Option ℕ → Graph → Result
+  linkFound z s (some y) g = linkTo z y g
+  linkFound z s none g = addNode c (state s) g >>= linkTo z (nodeCount g)
 
-  -- "make a special node z, and gather the arguments of kind 5 rows whose role is the turned one and which the state above lacks"
+  -- a special node that lacks nothing above, up to its edge
+  unfoldable pub linkSpecial : ℕ → ℕ → RowSet → Graph → Result
+  linkSpecial p ρ s g = addNode c (below p ρ s unset unlinked) g >>= (λ h. linkFound (nodeCount g) s (findState s h) h)
+
+  -- "make a special node z, and gather the arguments of kind 5 rows whose role is the turned one and which the state above lacks.
+  -- If there are any, z is lapsed and small, and .. they join that state's alternatives .. If there are none, link z .., then set z's status"
   unfoldable pub putSpecial : Put → ℕ → ℕ → RowSet → Graph → Result
   putSpecial put p ρ s g =
       let a = lacking t s (inverse ρ) (nodeAt g p .rows) in
       elim (eqb a empty) [
-        | true ↦ addNode c (below p ρ s unset unlinked) g >>= (λ h. linkFound put (nodeCount g) s (findState s h) h)
+        | true ↦ linkSpecial p ρ s g >>= judge put (nodeCount g)
         | false ↦ addNode c (below p ρ s toosmall lapsed) g >>= joinAlternatives p a
       ]
 

@@ -4,18 +4,18 @@
 -- In order: results; the start of a linked special node (`linkStart`); put; judging; updates; expansion; the rounds.
 -- Assumes nothing.
 use mathlib.Core.Path.{_≡_, refl, ap, _∙_}
-use mathlib.Core.Bool.{Bool, true, false}
+use mathlib.Core.Bool.{true, false}
 use mathlib.Core.List.{List, [], _∷_}
-use mathlib.Core.Option.{Option, none, some}
-use Prim.Native.Nat.{ℕ, zero, suc}
+use mathlib.Core.Option.{none, some}
+use Prim.Native.Nat.{ℕ, suc}
 use lib.Dec.{eqb}
 use Rattle.concepts.specs.Role.{inverse}
 use Rattle.concepts.specs.Concept.{Table}
-use Rattle.concepts.specs.RowSet.{RowSet, empty, insert}
-use Rattle.procedure.specs.Status.{Status, unset, «open», sat, unsat, toosmall, isOpen, isLive}
-use Rattle.procedure.specs.SetTests.{clash, unfinished, lacking, lowestConj, lowestDisj}
-use Rattle.procedure.specs.Graph.{Link, unlinked, toState, lapsed, Node, Graph, Capacity, Area, Result, reached, noPlace, outOfFuel, _>>=_, forEach, addNode, addEdge, nodeAt, nodeCount, findState, setLink, lowestUnset}
-use Rattle.procedure.specs.Tableau.{Put, judgeBranch, judgeState, judgeLinked, judgeBy, judge, below, state, joinAlternatives, linkTo, linkFound, putSpecial, putNode, putBy, putWithin, put, updateParents, updateChanged, updateWithin, expandState, expandDisj, expandConj, expand, loopWithin}
+use Rattle.concepts.specs.RowSet.{RowSet, empty}
+use Rattle.procedure.specs.Status.{unset, unsat, toosmall, isOpen, isLive}
+use Rattle.procedure.specs.SetTests.{clash, unfinished, lacking}
+use Rattle.procedure.specs.Graph.{Link, unlinked, toState, lapsed, Graph, Capacity, Area, Result, reached, noPlace, outOfFuel, _>>=_, forEach, addNode, addEdge, nodeAt, nodeCount, lowestUnset}
+use Rattle.procedure.specs.Tableau.{Put, judgeBranch, judgeState, judgeLinked, judgeBy, judge, below, joinAlternatives, linkSpecial, putSpecial, putNode, putBy, putWithin, put, updateParents, updateChanged, updateWithin, expand, loopWithin}
 
 -- ---- results
 
@@ -71,7 +71,7 @@ module _ (t : Table) (c : Capacity) where
     put-lapsed e u a = rw (e, u, a, putNode, putSpecial)
 
     pub put-linked : clash t s ≡ false → unfinished t s ≡ false → eqb lacked empty ≡ true
-        → putWithin t c (suc f) n p ρ s g ≡ (addNode c (below p ρ s unset unlinked) g >>= (λ h. linkFound t c again (nodeCount g) s (findState s h) h) >>= addEdge c n (nodeCount g))
+        → putWithin t c (suc f) n p ρ s g ≡ (linkSpecial t c p ρ s g >>= judge again (nodeCount g) >>= addEdge c n (nodeCount g))
     unfolding putWithin putBy putNode putSpecial
     put-linked e u a = rw (e, u, a, putNode, putSpecial)
 
