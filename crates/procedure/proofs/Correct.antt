@@ -1,6 +1,6 @@
 -- The procedure is right: what the end of a run means for a well-formed table.
 --
--- In order: the two settings, with no element and with a structure; "cannot" (`no-structure`, `no-model`); "can" (`example-there`);
+-- In order: a setting with a structure; "cannot" (`no-structure`, `no-model`); "can" (`example-there`);
 -- the root has a status at the end (`root-set`), and fuel never runs out (`no-fuel`).
 -- Assumes nothing.
 use mathlib.Core.Path.{_≡_, subst}
@@ -20,30 +20,17 @@ use Rattle.procedure.specs.Example.{Example, example}
 use Rattle.procedure.proofs.Structure.{Structure}
 use Rattle.procedure.proofs.FiniteStructure.{interpretation-structure}
 use Rattle.procedure.proofs.Setting.{Setting}
+use Rattle.procedure.proofs.Bare.{bare}
 use Rattle.procedure.proofs.Whole.{Ended, run-ends}
 use Rattle.procedure.proofs.Cannot.{root-refuted}
 use Rattle.procedure.proofs.Can.{goodIf, run-finished}
 use Rattle.procedure.proofs.Model.{ExampleRight, example-right}
 
--- the structure with no element
-empty-structure : (t : Table) → Structure t
-empty-structure t = record {
-  Element = ⊥;
-  At = λ k d. ⊥;
-  Leads = λ ρ d e. ⊥;
-  back = λ ρ d e l. l;
-  opposites = λ j k a d e f x y. x;
-  both = λ k l r d e x. absurd x;
-  either = λ k l r d e x. absurd x;
-  along = λ k ρ l d e f x y. x;
-  there = λ k ρ l d e x. absurd x;
-}
-
 module _ (t : Table) (c : Capacity) (tbox wanted : List ℕ) (W : WellFormed t tbox wanted) where
   abbrev pub runOf : Result
   runOf = run t c tbox wanted
 
-  -- ---- the two settings
+  -- ---- a setting with a structure
 
   -- a structure in which the rules hold and where there is a member as soon as there is an element
   abbrev setting : (M : Structure t) → ((k : ℕ) → List·Memᴰ k tbox → (d : M .Element) → M .At k d)
@@ -58,9 +45,6 @@ module _ (t : Table) (c : Capacity) (tbox wanted : List ℕ) (W : WellFormed t t
     rules = rules;
     kit = kit;
   }
-
-  no-element : Setting
-  no-element = setting (empty-structure t) (λ k m d. absurd (unfold empty-structure in d)) (λ d. absurd (unfold empty-structure in d))
 
   ended-at : (S : Setting) (g : Graph) → run (S .table) (S .capacity) (S .tbox) (S .wanted) ≡ reached g → Ended S g
   ended-at S g e = subst (λ (r : Result). Sure (Ended S) r) e (run-ends S)
@@ -82,20 +66,17 @@ module _ (t : Table) (c : Capacity) (tbox wanted : List ℕ) (W : WellFormed t t
 
   pub example-there : (g : Graph) → runOf ≡ reached g → (b : Bool) → (b ≡ true → T (isLive (nodeAt g 0 .status))) → T (goodIf b (nodeAt g 0 .status))
       → (x : Example) × (example t g ≡ some x) × ExampleRight t tbox wanted g x
-  unfolding no-element
   example-there g e b l q =
-      let S = no-element in
+      let S = bare t c tbox wanted W in
       let E = ended-at S g e in
       example-right t tbox wanted g (goodIf b) (W .ordered) (W .ruleRows) (W .wantedRows) (W .existRole)
       (run-finished S g (E .inv) (E .quiet) b (λ w x hx. lowestUnset-none g x (E .over (l w)) hx) q)
 
   -- the root has a status
   pub root-set : (g : Graph) → runOf ≡ reached g → nodeAt g 0 .status ≡ unset → ⊥
-  unfolding no-element
   root-set g e u =
-      let E = ended-at no-element g e in
+      let E = ended-at (bare t c tbox wanted W) g e in
       T-not (isUnset (nodeAt g 0 .status)) (lowestUnset-none g 0 (E .over (rw u tt)) (E .inv .root .0)) (rw u tt)
 
   pub no-fuel : runOf ≡ outOfFuel → ⊥
-  unfolding no-element
-  no-fuel e = subst (λ (r : Result). Sure (Ended no-element) r) e (run-ends no-element)
+  no-fuel e = subst (λ (r : Result). Sure (Ended (bare t c tbox wanted W)) r) e (run-ends (bare t c tbox wanted W))

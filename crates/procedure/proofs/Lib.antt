@@ -3,6 +3,7 @@ pub mod Structure
 pub mod Semantics
 pub mod FiniteStructure
 pub mod Setting
+pub mod Bare
 pub mod Grows
 pub mod Finished
 pub mod Invariant
@@ -13,6 +14,7 @@ pub mod Judge
 pub mod Linked
 pub mod Special
 pub mod Put
+pub mod Fit
 pub mod Measure
 pub mod Update
 pub mod Expand

@@ -140,7 +140,7 @@ module _ (S : Setting) where
 
   -- ---- put
 
-  within-right : (f : ℕ) → PutRight S (putWithin (S .table) (S .capacity) f) f
+  pub within-right : (f : ℕ) → PutRight S (putWithin (S .table) (S .capacity) f) f
   unfolding putWithin
   within-right zero P g n p ρ s I Q A few = absurd (not-suc-le-zero few)
   within-right (suc f) P g n p ρ s I Q A few = put-by (λ n′ p′ ρ′ s′ g′. putWithin (S .table) (S .capacity) f n′ p′ ρ′ s′ g′) f (within-right f) P g n p ρ s I Q A (omega arith)

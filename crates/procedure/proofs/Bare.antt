@@ -1,0 +1,33 @@
+-- The structure with no element, and the setting over it: the shape of the graph needs no world.
+-- Assumes nothing.
+use mathlib.Core.List.{List}
+use Prim.Native.Nat.{ℕ}
+use Rattle.concepts.specs.Concept.{Table, WellFormed}
+use Rattle.procedure.specs.Graph.{Capacity}
+use Rattle.procedure.proofs.Structure.{Structure}
+use Rattle.procedure.proofs.Setting.{Setting}
+
+abbrev pub empty-structure : (t : Table) → Structure t
+empty-structure t = record {
+  Element = ⊥;
+  At = λ k d. ⊥;
+  Leads = λ ρ d e. ⊥;
+  back = λ ρ d e l. l;
+  opposites = λ j k a d e f x y. x;
+  both = λ k l r d e x. absurd x;
+  either = λ k l r d e x. absurd x;
+  along = λ k ρ l d e f x y. x;
+  there = λ k ρ l d e x. absurd x
+}
+
+abbrev pub bare : (t : Table) (c : Capacity) (tbox wanted : List ℕ) → WellFormed t tbox wanted → Setting
+bare t c tbox wanted W = record {
+  table = t;
+  tbox = tbox;
+  wanted = wanted;
+  capacity = c;
+  wellFormed = W;
+  structure = empty-structure t;
+  rules = λ k m d. absurd d;
+  kit = λ d. absurd d
+}
