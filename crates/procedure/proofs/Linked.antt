@@ -18,7 +18,7 @@ use Rattle.procedure.specs.Tableau.{Put, judgeBranch, putAlternatives, j
 use Rattle.procedure.proofs.Setting.{Setting, rowCount, Element}
 use Rattle.procedure.proofs.Semantics.{satisfies-union}
 use Rattle.procedure.proofs.Grows.{Follows, Grows, grows-refl, grows-trans, grows-there, grows-child, grows-replace}
-use Rattle.procedure.proofs.Invariant.{Sat, Reach, Covered, StateSays, OpenSays, SatSays, BranchSays, Linked, LinkShape, KindFact, Fact, EdgeFact, Inv, QuietLink, QuietOpen, QuietBut}
+use Rattle.procedure.proofs.Invariant.{Sat, Reach, Covered, StateSays, OpenSays, SatSays, BranchSays, Linked, LinkShape, KindFact, Fact, EdgeFact, AlternativeFact, Inv, QuietLink, QuietOpen, QuietBut}
 use Rattle.procedure.proofs.Keeps.{covered-mono}
 use Rattle.procedure.proofs.Operations.{inv-replace}
 use Rattle.procedure.proofs.Quiet.{quiet-replace}
@@ -94,58 +94,75 @@ module _ (S : Setting) where
     -- ---- the alternatives of y, put under z
 
     -- those still to come are alternatives of y, and for each of the others z has a child
-    record Alternated (todo : List RowSet) (h : Graph) : Type 0 where
-      inv : Inv S h
-      grows : Grows g h
-      quiet : QuietBut S (λ x. P x ⊎ (x ≡ z)) h
-      kept : (x : ℕ) → x < nodeCount g → nodeAt h x ≡ nodeAt g x
-      otherChildren : (x : ℕ) → x < nodeCount g → x ≢ z → children h x ≡ children g x
-      some : (a : RowSet) → List·Memᴰ a todo → AlternativeOf g y a
-      done : (a : RowSet) → AlternativeOf g y a → List·Memᴰ a todo ⊎ ((i : ℕ) × Child h z i × (nodeAt h i .isState ≡ false) × (nodeAt h i .rows ≡ union a (nodeAt g y .rows)))
+    pub record Alternated (todo : List RowSet) (h : Graph) : Type 0 where
+      pub inv : Inv S h
+      pub grows : Grows g h
+      pub quiet : QuietBut S (λ x. P x ⊎ (x ≡ z)) h
+      pub kept : (x : ℕ) → x < nodeCount g → nodeAt h x ≡ nodeAt g x
+      pub otherChildren : (x : ℕ) → x < nodeCount g → x ≢ z → children h x ≡ children g x
+      pub some : (a : RowSet) → List·Memᴰ a todo → AlternativeOf g y a
+      pub done : (a : RowSet) → AlternativeOf g y a
+          → List·Memᴰ a todo ⊎ ((i : ℕ) × Child h z i × (nodeAt h i .isState ≡ false) × (nodeAt h i .rows ≡ union a (nodeAt g y .rows)))
+
+    pub alternated-none : Alternated (alternativesOf g y) g
+    alternated-none = record { inv = I; grows = grows-refl g; quiet = Q; kept = λ x hx. refl; otherChildren = λ x hx d. refl; some = λ a m. m; done = λ a m. inl m }
+
+    module _ (a : RowSet) (todo : List RowSet) (h : Graph) (A : Alternated (a ∷ todo) h) where
+      abbrev joined : RowSet
+      joined = union a (nodeAt g y .rows)
+
+      alternative-fact : AlternativeFact S g y a
+      alternative-fact = I .alternative y a (A .some a (List·Memᴰ·head refl))
+
+      -- the alternative may be put under z
+      pub alternate-pre : PutPre (λ x. P x ⊎ (x ≡ z)) h z (n .pst) (n .prl) joined
+      alternate-pre =
+          let K = shape .1 in
+          let pl = place in
+          let same = A .kept z hz in
+          record {
+            there = grows-there (A .grows) z hz;
+            place = record { there = grows-there (A .grows) (n .pst) (pl .there); isState = A .grows .node (n .pst) (pl .there) .isState ∙ pl .isState; root = pl .root };
+            bounded = union-lt (rowCount S) a (nodeAt g y .rows) (alternative-fact .bounded) (I .fact y (K .there) .bounded);
+            rules = λ r m. union-right a (nodeAt g y .rows) r (I .fact y (K .there) .rules (K .notRoot) r m);
+            excused = inr refl;
+            state = λ e. absurd (absurd-bool (nodeAt h z .isState) e (ap (λ (x : Node). x .isState) same ∙ noState));
+            branch = λ e. (ap (λ (x : Node). x .pst) same, ap (λ (x : Node). x .prl) same, λ r m. union-right a (nodeAt g y .rows) r (rw (K .rows) (rw same at m)))
+          }
+
+      -- it lacks fewer rows than z
+      pub alternate-fewer : missing (rowCount S) joined < missing (rowCount S) (n .rows)
+      alternate-fewer =
+          let (j, hj, ja, jy) = alternative-fact .extra in
+          omega (arith, missing-lt (rowCount S) (nodeAt g y .rows) joined j (union-right a (nodeAt g y .rows)) hj jy (union-left a (nodeAt g y .rows) j ja), ap (missing (rowCount S)) (shape .1 .rows))
+
+      pub alternate-done : (u : Graph) → PutPost (λ x. P x ⊎ (x ≡ z)) h z (n .pst) (n .prl) joined u → Alternated todo u
+      alternate-done u B = record {
+        inv = B .inv;
+        grows = grows-trans (A .grows) (B .grows);
+        quiet = B .quiet;
+        kept = λ x hx. B .kept x (grows-there (A .grows) x hx) ∙ A .kept x hx;
+        otherChildren = λ x hx d. B .otherChildren x (grows-there (A .grows) x hx) d ∙ A .otherChildren x hx d;
+        some = λ b m. A .some b (List·Memᴰ·tail m);
+        done = λ b m. elim (A .done b m) [
+          | inl q ↦ elim (List·Memᴰ·cases-cons q) [
+            | inl e ↦ inr (nodeCount h, rw (B .ownChildren) (Memᴰ·append-right (children h z) (List·Memᴰ·head refl)), B .fresh .noState, B .fresh .rows ∙ ap (λ (w : RowSet). union w (nodeAt g y .rows)) (sym e))
+            | inr v ↦ inl v
+          ]
+          | inr c ↦
+            let (i, ch, st, rs) = c in
+            let hi = A .inv .ends z i ch .1 in
+            inr (i, grows-child (B .grows) z i ch, B .grows .node i hi .isState ∙ st, B .grows .node i hi .rows ∙ rs)
+        ]
+      }
 
     alternate : (a : RowSet) (todo : List RowSet) (h : Graph) → Alternated (a ∷ todo) h → Sure (Alternated todo) (put z (n .pst) (n .prl) (union a (nodeAt g y .rows)) h)
     alternate a todo h A =
-        let K = shape .1 in
+        let P′ : ℕ → Type 0 = λ x. P x ⊎ (x ≡ z) in
         let s = union a (nodeAt g y .rows) in
-        let AF = I .alternative y a (A .some a (List·Memᴰ·head refl)) in
-        let (j, hj, ja, jy) = AF .extra in
-        let pl = place in
-        let pre : PutPre (λ x. P x ⊎ (x ≡ z)) h z (n .pst) (n .prl) s = record {
-          there = grows-there (A .grows) z hz;
-          place = record { there = grows-there (A .grows) (n .pst) (pl .there); isState = A .grows .node (n .pst) (pl .there) .isState ∙ pl .isState; root = pl .root };
-          bounded = union-lt (rowCount S) a (nodeAt g y .rows) (AF .bounded) (I .fact y (K .there) .bounded);
-          rules = λ r m. union-right a (nodeAt g y .rows) r (I .fact y (K .there) .rules (K .notRoot) r m);
-          excused = inr refl;
-          state = λ e. absurd (absurd-bool (nodeAt h z .isState) e (ap (λ (x : Node). x .isState) (A .kept z hz) ∙ noState));
-          branch = λ e.
-              let same = A .kept z hz in (
-                ap (λ (x : Node). x .pst) same,
-                ap (λ (x : Node). x .prl) same,
-                λ r m.
-                    union-right a (nodeAt g y .rows) r (rw (K .rows) (rw same at m)),
-              );
-        } in
-        let fewer : missing (rowCount S) s < k = omega (arith, missing-lt (rowCount S) (nodeAt g y .rows) s j (union-right a (nodeAt g y .rows)) hj jy (union-left a (nodeAt g y .rows) j ja), ap (missing (rowCount S)) (K .rows), few) in
-        sure-map (PutPost (λ x. P x ⊎ (x ≡ z)) h z (n .pst) (n .prl) s) (Alternated todo) (put z (n .pst) (n .prl) s h)
-        (right (λ x. P x ⊎ (x ≡ z)) h z (n .pst) (n .prl) s (A .inv) (A .quiet) pre fewer)
-        (λ u B. record {
-          inv = B .inv;
-          grows = grows-trans (A .grows) (B .grows);
-          quiet = B .quiet;
-          kept = λ x hx. B .kept x (grows-there (A .grows) x hx) ∙ A .kept x hx;
-          otherChildren = λ x hx d. B .otherChildren x (grows-there (A .grows) x hx) d ∙ A .otherChildren x hx d;
-          some = λ b m. A .some b (List·Memᴰ·tail m);
-          done = λ b m. elim (A .done b m) [
-            | inl q ↦ elim (List·Memᴰ·cases-cons q) [
-              | inl e ↦ inr (nodeCount h, rw (B .ownChildren) (Memᴰ·append-right (children h z) (List·Memᴰ·head refl)), B .fresh .noState, B .fresh .rows ∙ ap (λ (w : RowSet). union w (nodeAt g y .rows)) (sym e))
-              | inr v ↦ inl v
-            ]
-            | inr c ↦
-                let (i, ch, st, rs) = c in
-                let hi = A .inv .ends z i ch .1 in
-                inr (i, grows-child (B .grows) z i ch, B .grows .node i hi .isState ∙ st, B .grows .node i hi .rows ∙ rs)
-          ];
-        })
+        sure-map (PutPost P′ h z (n .pst) (n .prl) s) (Alternated todo) (put z (n .pst) (n .prl) s h)
+        (right P′ h z (n .pst) (n .prl) s (A .inv) (A .quiet) (alternate-pre a todo h A) (omega (arith, alternate-fewer a todo h A, few)))
+        (alternate-done a todo h A)
 
     -- ---- lapsing
 
@@ -241,5 +258,5 @@ module _ (S : Setting) where
         (forEach (λ a. put z (n .pst) (n .prl) (union a (nodeAt g y .rows))) (alternativesOf g y) g)
         (λ h. reached (judgeBranch z (setLink z lapsed h)))
         (sure-forEach Alternated (λ a. put z (n .pst) (n .prl) (union a (nodeAt g y .rows))) alternate (alternativesOf g y) g
-        (record { inv = I; grows = grows-refl g; quiet = Q; kept = λ x hx. refl; otherChildren = λ x hx d. refl; some = λ a m. m; done = λ a m. inl m }))
+        alternated-none)
         (λ h A. lapse e h A)

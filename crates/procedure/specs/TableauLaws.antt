@@ -11,11 +11,11 @@ use Prim.Native.Nat.{ℕ, suc}
 use lib.Dec.{eqb}
 use Rattle.concepts.specs.Role.{inverse}
 use Rattle.concepts.specs.Concept.{Table}
-use Rattle.concepts.specs.RowSet.{RowSet, empty}
-use Rattle.procedure.specs.Status.{unset, unsat, toosmall, isOpen, isLive}
+use Rattle.concepts.specs.RowSet.{RowSet, empty, union}
+use Rattle.procedure.specs.Status.{unset, «open», sat, unsat, toosmall, isOpen, isLive}
 use Rattle.procedure.specs.SetTests.{clash, unfinished, lacking}
-use Rattle.procedure.specs.Graph.{Link, unlinked, toState, lapsed, Graph, Capacity, Area, Result, reached, noPlace, outOfFuel, _>>=_, forEach, addNode, addEdge, nodeAt, nodeCount, lowestUnset}
-use Rattle.procedure.specs.Tableau.{Put, judgeBranch, judgeState, judgeLinked, judgeBy, judge, below, joinAlternatives, linkSpecial, putSpecial, putNode, putBy, putWithin, put, updateParents, updateChanged, updateWithin, expand, loopWithin}
+use Rattle.procedure.specs.Graph.{Link, unlinked, toState, lapsed, Graph, Capacity, Area, Result, reached, noPlace, outOfFuel, _>>=_, forEach, addNode, addEdge, nodeAt, nodeCount, lowestUnset, setStatus, setLink, alternativesOf}
+use Rattle.procedure.specs.Tableau.{Put, judgeBranch, judgeState, judgeLinked, judgeBy, judge, below, joinAlternatives, linkSpecial, putSpecial, putNode, putBy, putWithin, put, updateParents, updateChanged, updateWithin, expand, loopWithin, putAlternatives}
 
 -- ---- results
 
@@ -128,3 +128,29 @@ module _ (put : Put) (x : ℕ) (g : Graph) where
   pub judge-branch : nodeAt g x .link ≡ unlinked → nodeAt g x .isState ≡ false → judge put x g ≡ reached (judgeBranch x g)
   unfolding judge judgeBy
   judge-branch e s = ap (λ (l : Link). judgeBy put x l g) e ∙ rw (s, judgeBy)
+
+module _ (put : Put) (z y : ℕ) (g : Graph) where
+  pub linked-sat : judgeLinked put z y sat g ≡ reached (setStatus z sat g)
+  unfolding judgeLinked
+  linked-sat = refl
+
+  pub linked-unsat : judgeLinked put z y unsat g ≡ reached (setStatus z unsat g)
+  unfolding judgeLinked
+  linked-unsat = refl
+
+  pub linked-unset : judgeLinked put z y unset g ≡ reached (setStatus z «open» g)
+  unfolding judgeLinked
+  linked-unset = refl
+
+  pub linked-open : judgeLinked put z y «open» g ≡ reached (setStatus z «open» g)
+  unfolding judgeLinked
+  linked-open = refl
+
+  pub linked-toosmall : judgeLinked put z y toosmall g ≡ putAlternatives put z y g
+  unfolding judgeLinked
+  linked-toosmall = refl
+
+  pub alternatives-put : putAlternatives put z y g
+      ≡ (forEach (λ a. put z (nodeAt g z .pst) (nodeAt g z .prl) (union a (nodeAt g y .rows))) (alternativesOf g y) g >>= (λ h. reached (judgeBranch z (setLink z lapsed h))))
+  unfolding putAlternatives
+  alternatives-put = refl
