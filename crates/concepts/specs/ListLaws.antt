@@ -146,6 +146,14 @@ module _ {A : Type 0} where
       go true p = ap (λ (l : List A). x ∷ l) p
       go false p = p
 
+  pub select-in : (f : A → Bool) (x : A) (xs : List A) → f x ≡ true → select f (x ∷ xs) ≡ x ∷ select f xs
+  unfolding select
+  select-in f x xs e = rw (e, select)
+
+  pub select-out : (f : A → Bool) (x : A) (xs : List A) → f x ≡ false → select f (x ∷ xs) ≡ select f xs
+  unfolding select
+  select-out f x xs e = rw (e, select)
+
   pub select-pass : (f : A → Bool) (x : A) → T (f x) → select f (x ∷ []) ≡ x ∷ []
   unfolding select
   select-pass f x t = by-test (λ (l : List A). l ≡ x ∷ []) (f x) (x ∷ []) [] (λ _. refl) (λ n. absurd (T-not (f x) n t))
@@ -259,6 +267,11 @@ module _ {A B : Type 0} where
         | inr v ↦ let (x, u, q) = ih v in (x, List·Memᴰ·tail u, q)
       ]
 
+  pub answers-same : (f g : A → Option B) (xs : List A) → ((x : A) → f x ≡ g x) → answers f xs ≡ answers g xs
+  unfolding answers
+  answers-same f g [] h = refl
+  answers-same f g (x ∷ xs) h = ap₂ (λ (o : Option B) (ys : List B). consAnswer o ys) (h x) (answers-same f g xs h)
+
   -- ---- first
 
   pub first-some : (f : A → Option B) (xs : List A) (y : B) → first f xs ≡ some y → (x : A) × List·Memᴰ x xs × (f x ≡ some y)
@@ -280,6 +293,12 @@ module _ {A B : Type 0} where
           → _≡_ {A = Option B} (elim o [ none ↦ first f zs | some w ↦ some w ]) none → f x ≡ none
       from none p ih q = elim (List·Memᴰ·cases-cons m) [ inl u ↦ ap f u ∙ p | inr v ↦ ih q v ]
       from (some w) p ih q = let z : _≡_ {A = ℕ} 0 1 = cc in absurd (omega arith)
+
+  pub first-same : (f g : A → Option B) (xs : List A) → ((x : A) → f x ≡ g x) → first f xs ≡ first g xs
+  unfolding first
+  first-same f g [] h = refl
+  first-same f g (x ∷ xs) h =
+      ap₂ (λ (o : Option B) (r : Option B). elim o as (λ _. Option B) [ none ↦ r | some y ↦ some y ]) (h x) (first-same f g xs h)
 
   -- the first answer stands at k if nothing before k has one
   pub first-at : (f : A → Option B) (xs : List A) (d : A) (k : ℕ) (y : B) → k < length xs → ((j : ℕ) → j < k → f (getD xs j d) ≡ none)

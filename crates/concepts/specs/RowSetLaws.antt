@@ -1,23 +1,27 @@
 -- Laws of RowSet, for any width.
 --
--- In order: membership in each set (`mem-empty`, `mem-union`, `mem-single`, `mem-insert`, `mem-fromList`), `members`,
--- `missing`, sets of rows below n (`fromList-lt`, `mem-lt`).
+-- In order: membership in each set (`mem-empty`, `mem-union`, `mem-single`, `mem-insert`, `mem-common`, `mem-minus`), a set is its
+-- rows (`set-ext`), union, `mem-fromList`, `members`, `missing`, sets of rows below n (`fromList-lt`, `mem-lt`).
 -- Assumes nothing.
 use mathlib.Core.Path.{_≡_, refl, sym, ap, _∙_}
-use mathlib.Core.Bool.{Bool, true, false, not, _||_, cond}
+use mathlib.Core.Bool.{Bool, true, false, not, _&&_, _||_, cond}
 use mathlib.Core.List.{List, [], _∷_, List·Memᴰ, List·Memᴰ·head, List·Memᴰ·tail, List·Memᴰ·cases-cons, List·Memᴰ·not-nil}
 use mathlib.Core.Logic.{_⊎_, inl, inr}
-use Prim.Native.Nat.{ℕ, zero, suc, _/_, _%_, _^_, _≤_, _<_}
+use Prim.Native.Nat.{ℕ, zero, suc, _+_, _-_, _/_, _%_, _^_, _≤_, _<_, min}
 use native.Mathlib.Nat.{not-suc-le-zero, zero-div, mod-lt, div-eq-of-lt, lt-of-lt-of-le}
 use native.Mathlib.Decide.{ℕ-discrete}
+use native.Mathlib.Numerals.{add-one}
 use native.Mathlib.Omega.{arith}
 use lib.Dec.{T, T-not, eqb, eqb→eq, eqb-refl, lit<, ltb, ltb→lt, nltb→le, eqb·zero-suc, eqb·suc-zero, eqb·suc-suc}
-use lib.Bits.{bitOr, or-shr, or-mod, or-lt}
+use lib.Arith.{bin-ind}
+use lib.Bits.{bitOr, bitAnd, or-shr, or-mod, or-lt, or-comm, or-zero-l, or-zero-r, and-shr, and-mod, and-step, and-le-l}
+use lib.ListN.{length, getD, drop, drop-of-length-le}
 use lib.Pow.{shr-shr, pow-pos, pow-lt, pow-mono}
-use Rattle.concepts.specs.Tests.{or-cases, or-left, or-right, decide}
+use lib.Seq.{drop-cons}
+use Rattle.concepts.specs.Tests.{or-cases, or-left, or-right, or-assoc, decide}
 use Rattle.concepts.specs.Lists.{range}
 use Rattle.concepts.specs.ListLaws.{mem-range, range-mem, select-mem, mem-select}
-use Rattle.concepts.specs.RowSet.{RowSet, mem, empty, single, union, insert, fromList, members, missing, Subset}
+use Rattle.concepts.specs.RowSet.{RowSet, mem, empty, single, union, common, minus, insert, fromList, members, missing, Subset}
 
 -- ---- membership
 
@@ -25,15 +29,18 @@ pub mem-empty : (k : ℕ) → mem k empty ≡ false
 unfolding mem
 mem-empty k = ap (λ (x : ℕ). eqb (x % 2) 1) (zero-div (2 ^ k))
 
+-- what holds of each two binary digits
+digits : (P : ℕ → ℕ → Type 0) → P 0 0 → P 0 1 → P 1 0 → P 1 1 → (u v : ℕ) → u < 2 → v < 2 → P u v
+digits P a b c d zero zero hu hv = a
+digits P a b c d zero (suc zero) hu hv = b
+digits P a b c d (suc zero) zero hu hv = c
+digits P a b c d (suc zero) (suc zero) hu hv = d
+digits P a b c d zero (suc (suc v)) hu hv = absurd (omega arith)
+digits P a b c d (suc zero) (suc (suc v)) hu hv = absurd (omega arith)
+digits P a b c d (suc (suc u)) v hu hv = absurd (omega arith)
+
 or-bit : (u v : ℕ) → u < 2 → v < 2 → eqb (bitOr u v) 1 ≡ (eqb u 1 || eqb v 1)
-or-bit zero zero hu hv = refl
-or-bit zero (suc zero) hu hv = refl
-or-bit (suc zero) zero hu hv = refl
-or-bit (suc zero) (suc zero) hu hv = refl
-or-bit zero (suc (suc v)) hu hv = absurd (omega arith)
-or-bit (suc zero) (suc (suc v)) hu hv = absurd (omega arith)
-or-bit (suc (suc u)) zero hu hv = absurd (omega arith)
-or-bit (suc (suc u)) (suc v) hu hv = absurd (omega arith)
+or-bit = digits (λ u v. eqb (bitOr u v) 1 ≡ (eqb u 1 || eqb v 1)) refl refl refl refl
 
 pub mem-union : (k : ℕ) (a b : RowSet) → mem k (union a b) ≡ (mem k a || mem k b)
 unfolding mem union
@@ -75,6 +82,92 @@ union-right a b k h = rw (mem-union k a b) (or-right (mem k a) (mem k b) h)
 pub union-cases : (k : ℕ) (a b : RowSet) → T (mem k (union a b)) → T (mem k a) ⊎ T (mem k b)
 union-cases k a b h = or-cases (mem k a) (mem k b) (rw (mem-union k a b) at h)
 
+-- ---- membership in what two sets have in common, and in what is left of one
+
+and-bit : (u v : ℕ) → u < 2 → v < 2 → eqb (bitAnd u v) 1 ≡ (eqb u 1 && eqb v 1)
+and-bit = digits (λ u v. eqb (bitAnd u v) 1 ≡ (eqb u 1 && eqb v 1)) refl refl refl refl
+
+pub mem-common : (k : ℕ) (a b : RowSet) → mem k (common a b) ≡ (mem k a && mem k b)
+unfolding mem common
+mem-common k a b =
+    ap (λ (x : ℕ). eqb (x % 2) 1) (and-shr a b k) ∙ ap (λ (x : ℕ). eqb x 1) (and-mod (a / 2 ^ k) (b / 2 ^ k) 1)
+    ∙ and-bit (a / 2 ^ k % 2) (b / 2 ^ k % 2) (mod-lt (a / 2 ^ k) (lit< tt)) (mod-lt (b / 2 ^ k) (lit< tt))
+
+minus-bit : (u v : ℕ) → u < 2 → v < 2 → eqb (u - min u v) 1 ≡ (eqb u 1 && not (eqb v 1))
+minus-bit = digits (λ u v. eqb (u - min u v) 1 ≡ (eqb u 1 && not (eqb v 1))) refl refl refl refl
+
+minus-half : (a b : RowSet) → minus a b / 2 ≡ minus (a / 2) (b / 2)
+unfolding minus
+minus-half a b = omega (arith, and-step a b, and-le-l (a / 2) (b / 2))
+
+mem-zero : (s : RowSet) → mem 0 s ≡ eqb (s % 2) 1
+unfolding mem
+mem-zero s = let e : s / 2 ^ 0 ≡ s = omega arith in ap (λ (x : ℕ). eqb (x % 2) 1) e
+
+minus-low : (a b : RowSet) → minus a b % 2 ≡ a % 2 - min (a % 2) (b % 2)
+unfolding minus
+minus-low a b = omega (arith, and-step a b, and-le-l (a / 2) (b / 2))
+
+pub mem-minus : (k : ℕ) (a b : RowSet) → mem k (minus a b) ≡ (mem k a && not (mem k b))
+mem-minus zero a b =
+    mem-zero (minus a b) ∙ ap (λ (x : ℕ). eqb x 1) (minus-low a b)
+    ∙ minus-bit (a % 2) (b % 2) (omega arith) (omega arith)
+    ∙ sym (ap (λ x. x && not (mem 0 b)) (mem-zero a) ∙ ap (λ x. eqb (a % 2) 1 && not x) (mem-zero b))
+mem-minus (suc k) a b =
+    mem-suc k (minus a b) ∙ ap (mem k) (minus-half a b) ∙ mem-minus k (a / 2) (b / 2)
+    ∙ sym (ap (λ x. x && not (mem (suc k) b)) (mem-suc k a) ∙ ap (λ x. mem k (a / 2) && not x) (mem-suc k b))
+
+-- ---- a set is its rows
+
+bit-same : (u v : ℕ) → u < 2 → v < 2 → eqb u 1 ≡ eqb v 1 → u ≡ v
+bit-same = digits (λ u v. eqb u 1 ≡ eqb v 1 → u ≡ v) (λ e. refl) (λ e. cc) (λ e. cc) (λ e. refl)
+
+low-same : (a b : RowSet) → mem 0 a ≡ mem 0 b → a % 2 ≡ b % 2
+low-same a b e = bit-same (a % 2) (b % 2) (omega arith) (omega arith) (sym (mem-zero a) ∙ e ∙ mem-zero b)
+
+half-same : (a b : RowSet) → ((k : ℕ) → mem k a ≡ mem k b) → (k : ℕ) → mem k (a / 2) ≡ mem k (b / 2)
+half-same a b h k = sym (mem-suc k a) ∙ h (suc k) ∙ mem-suc k b
+
+empty-ext : (b : RowSet) → ((k : ℕ) → mem k empty ≡ mem k b) → empty ≡ b
+empty-ext =
+    bin-ind (λ (b : RowSet). ((k : ℕ) → mem k empty ≡ mem k b) → empty ≡ b) (λ h. refl)
+    (λ b ih h. omega (arith, low-same empty b (h 0), ih (half-same empty b h)))
+
+pub set-ext : (a b : RowSet) → ((k : ℕ) → mem k a ≡ mem k b) → a ≡ b
+set-ext =
+    bin-ind (λ (a : RowSet). (b : RowSet) → ((k : ℕ) → mem k a ≡ mem k b) → a ≡ b) empty-ext
+    (λ a ih b h. omega (arith, low-same a b (h 0), ih (b / 2) (half-same a b h)))
+
+pub set-witness : (a : RowSet) → (a ≡ empty → ⊥) → (k : ℕ) × T (mem k a)
+set-witness = bin-ind (λ (a : RowSet). (a ≡ empty → ⊥) → (k : ℕ) × T (mem k a)) (λ h. absurd (h refl)) (λ a ih h. here a ih h (ℕ-discrete (a % 2) 1))
+  where
+    here : (a : RowSet) → ((a / 2 ≡ empty → ⊥) → (k : ℕ) × T (mem k (a / 2))) → (a ≡ empty → ⊥) → Dec (a % 2 ≡ 1) → (k : ℕ) × T (mem k a)
+    here a ih h (yes e) = (0, rw (mem-zero a, e) tt)
+    here a ih h (no d) = let (k, m) = ih (λ e. h (omega arith)) in (suc k, rw (mem-suc k a) m)
+
+-- ---- union
+
+pub union-comm : (a b : RowSet) → union a b ≡ union b a
+unfolding union
+union-comm a b = or-comm a b
+
+pub union-empty : (a : RowSet) → union a empty ≡ a
+unfolding union
+union-empty a = or-zero-r a
+
+pub empty-union : (a : RowSet) → union empty a ≡ a
+unfolding union
+empty-union a = or-zero-l a
+
+pub union-assoc : (a b c : RowSet) → union (union a b) c ≡ union a (union b c)
+union-assoc a b c = set-ext (union (union a b) c) (union a (union b c)) (λ k.
+    mem-union k (union a b) c ∙ ap (λ x. x || mem k c) (mem-union k a b) ∙ or-assoc (mem k a) (mem k b) (mem k c)
+    ∙ sym (mem-union k a (union b c) ∙ ap (λ x. mem k a || x) (mem-union k b c)))
+
+-- a row may join either part
+pub insert-union : (k : ℕ) (a b : RowSet) → union (insert k a) b ≡ union a (insert k b)
+insert-union k a b = ap (λ (x : RowSet). union x b) (union-comm (single k) a) ∙ union-assoc a (single k) b
+
 -- ---- the set of a list
 
 pub mem-fromList : (k : ℕ) (ks : List ℕ) → List·Memᴰ k ks → T (mem k (fromList ks))
@@ -102,6 +195,17 @@ pub fromList-witness : (ks : List ℕ) → T (not (eqb (fromList ks) empty)) →
 unfolding fromList
 fromList-witness [] h = absurd (T-not (eqb 0 0) h (eqb-refl 0))
 fromList-witness (j ∷ js) h = (j, List·Memᴰ·head refl)
+
+-- a set that takes the elements of a list one after the other
+
+pub fromList-drop : (xs : List ℕ) (i : ℕ) (s : RowSet) → i < length xs
+    → union s (fromList (drop i xs)) ≡ union (insert (getD xs i 0) s) (fromList (drop (i + 1) xs))
+unfolding fromList
+fromList-drop xs i s h = rw (add-one i, drop-cons xs i 0 h) (sym (insert-union (getD xs i 0) s (fromList (drop (suc i) xs))))
+
+pub fromList-end : (xs : List ℕ) (i : ℕ) (s : RowSet) → length xs ≤ i → s ≡ union s (fromList (drop i xs))
+unfolding fromList
+fromList-end xs i s h = rw (drop-of-length-le xs h) (sym (union-empty s))
 
 -- ---- the members of a set, rising
 

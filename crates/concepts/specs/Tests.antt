@@ -32,6 +32,10 @@ pub or-neither : (a b : Bool) → (a || b) ≡ false → (a ≡ false) × (b ≡
 or-neither true b e = let z : _≡_ {A = ℕ} 0 1 = cc in absurd (omega arith)
 or-neither false b e = (refl, e)
 
+pub or-assoc : (a b c : Bool) → ((a || b) || c) ≡ (a || (b || c))
+or-assoc true b c = refl
+or-assoc false b c = refl
+
 -- ---- both of two
 
 pub and-both : (a b : Bool) → T (a && b) → T a × T b
@@ -61,6 +65,13 @@ from-true b e = rw e tt
 
 pub from-false : (b : Bool) → b ≡ false → T (not b)
 from-false b e = rw e tt
+
+-- two tests that pass together are the same
+pub same-test : (a b : Bool) → (T a → T b) → (T b → T a) → a ≡ b
+same-test true true f g = refl
+same-test false false f g = refl
+same-test true false f g = absurd (f tt)
+same-test false true f g = absurd (g tt)
 
 -- ---- a choice by a test
 

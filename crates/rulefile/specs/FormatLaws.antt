@@ -82,7 +82,7 @@ pub record Admitted (f : RuleFile) : Type 0 where
   pub wellFormed : WellFormed (f .table) (f .tbox) (f .wanted)
 
 module _ (b : Bytes) (passed : Passed b 9) where
-  row-formed : (k : ℕ) → k < rowCount b → badRow b k ≡ false
+  pub row-formed : (k : ℕ) → k < rowCount b → badRow b k ≡ false
   unfolding checks
   row-formed = none-any-range (badRow b) (rowCount b) (passed 5 (omega arith))
 

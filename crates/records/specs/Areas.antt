@@ -1,0 +1,51 @@
+-- An area of bytes as a list of records, whatever the kind of record. Laws are in AreaLaws.
+-- Assumes nothing.
+use mathlib.Core.Path.{_≡_}
+use mathlib.Core.Bool.{Bool, true, false}
+use mathlib.Core.List.{List, map}
+use mathlib.Core.Logic.{_≢_}
+use Prim.Native.Nat.{ℕ, _+_, _*_, _/_, _≤_, _<_, min}
+use lib.Dec.{eqb}
+use lib.ListN.{length, drop}
+use Rattle.concepts.specs.Lists.{range, select}
+use Rattle.words.specs.Words.{leAt}
+
+abbrev pub Bytes : Type 0
+Bytes = List ℕ
+
+-- how many records of a size an area holds: "whole records count, and at most 4,096 of each" (01, Areas)
+abbrev pub roomOf : ℕ → Bytes → ℕ
+roomOf size b = min 4096 (length b / size)
+
+-- the area has record x
+abbrev pub Fits : ℕ → Bytes → ℕ → Type 0
+Fits size b x = (x < 4096) × (size * x + size ≤ length b)
+
+-- the number in the n bytes at place o of record x
+abbrev pub field : ℕ → Bytes → ℕ → ℕ → ℕ → ℕ
+field size b x o n = leAt b (size * x + o) n
+
+module _ {A : Type 0} (read : Bytes → ℕ → A) where
+  -- the first n records
+  abbrev pub recordsIn : Bytes → ℕ → List A
+  recordsIn b n = map (read b) (range 0 n)
+
+  -- b′ is b with v as record x
+  pub record Stored (b b′ : Bytes) (x : ℕ) (v : A) : Type 0 where
+    pub size : length b′ ≡ length b
+    pub here : read b′ x ≡ v
+    pub others : (y : ℕ) → y ≢ x → read b′ y ≡ read b y
+
+-- the number at place o of record i, of 16 bytes, is x
+unfoldable pub numberIs : Bytes → ℕ → ℕ → ℕ → Bool
+numberIs b o x i = eqb (field 16 b i o 2) x
+
+-- i is the first number from `from` on that passes, or none below n does
+pub record FirstAt (f : ℕ → Bool) (from n i : ℕ) : Type 0 where
+  pub start : from ≤ i
+  pub before : (k : ℕ) → from ≤ k → k < i → f k ≡ false
+  pub found : i < n → f i ≡ true
+
+-- what the elements that pass are worth, from place i on
+unfoldable pub chosenFrom : {A B : Type 0} → (A → Bool) → (A → B) → List A → ℕ → List B
+chosenFrom pass worth xs i = map worth (select pass (drop i xs))

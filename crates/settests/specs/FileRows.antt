@@ -1,0 +1,70 @@
+-- The rows of an accepted rule file: what the tests of a set require of them holds, and their table is the file's.
+-- Assumes nothing.
+use mathlib.Core.Path.{_≡_, refl, sym, ap, _∙_, subst}
+use mathlib.Core.Bool.{false}
+use mathlib.Core.List.{List, map}
+use Prim.Native.Nat.{ℕ, _+_, _*_, _≤_, _<_}
+use native.Mathlib.Omega.{arith}
+use lib.ListN.{length, getD, take, drop, length-drop}
+use lib.Seq.{length-take-le, getD-take, getD-drop}
+use Rattle.concepts.specs.Lists.{range}
+use Rattle.concepts.specs.ListLaws.{range-mem, map-same}
+use Rattle.concepts.specs.Concept.{Ordered}
+use Rattle.rulefile.specs.Format as Format
+use Rattle.rulefile.specs.Checks.{Parted, Passed}
+use Rattle.rulefile.specs.CheckLaws.{parted, accepted-contents, accepted-passed}
+use Rattle.rulefile.specs.FormatLaws.{row-formed, contents-admitted}
+use Rattle.settests.specs.Rows.{rowByte, rowCount, conceptIn, tableOf, Rows}
+
+-- the part of a file that has the rows
+abbrev pub rowsPart : Format.Bytes → List ℕ
+rowsPart b = take (4 * Format.rowCount b) (drop (Format.firstRow b) b)
+
+module _ (b : Format.Bytes) (p : Parted b) where
+  pub rowCount-rowsPart : rowCount (rowsPart b) ≡ Format.rowCount b
+  rowCount-rowsPart =
+      let n = 4 * Format.rowCount b in
+      let l : n ≤ length (drop (Format.firstRow b) b) = omega (arith, length-drop (Format.firstRow b) b, p .parts) in
+      omega (arith, length-take-le n (drop (Format.firstRow b) b) l)
+
+  pub rowByte-rowsPart : (k i : ℕ) → k < Format.rowCount b → i < 4 → rowByte (rowsPart b) k i ≡ Format.rowByte b k i
+  rowByte-rowsPart k i h j =
+      let q : Format.firstRow b + (4 * k + i) ≡ Format.firstRow b + 4 * k + i = omega arith in
+      getD-take (4 * Format.rowCount b) (drop (Format.firstRow b) b) (4 * k + i) 0 (omega arith)
+      ∙ getD-drop (Format.firstRow b) b (4 * k + i) 0 ∙ ap (λ (x : ℕ). getD b x 0) q
+
+  -- what holds of the bytes of row k in the file holds of those in the part
+  four-bytes : (P : ℕ → ℕ → ℕ → ℕ → Type 0) (k : ℕ) → k < Format.rowCount b
+      → P (Format.rowByte b k 0) (Format.rowByte b k 1) (Format.rowByte b k 2) (Format.rowByte b k 3)
+      → P (rowByte (rowsPart b) k 0) (rowByte (rowsPart b) k 1) (rowByte (rowsPart b) k 2) (rowByte (rowsPart b) k 3)
+  four-bytes P k h =
+      let at : (i : ℕ) → i < 4 → rowByte (rowsPart b) k i ≡ Format.rowByte b k i = λ i j. rowByte-rowsPart k i h j in
+      λ holds. rw (at 0 (omega arith), at 1 (omega arith), at 2 (omega arith), at 3 (omega arith)) holds
+
+  pub table-rowsPart : tableOf (rowsPart b) ≡ Format.contents b .table
+  unfolding tableOf
+  table-rowsPart =
+      ap (λ (n : ℕ). map (conceptIn (rowsPart b)) (range 0 n)) rowCount-rowsPart
+      ∙ map-same (conceptIn (rowsPart b)) (Format.conceptIn b) (range 0 (Format.rowCount b)) (λ k m.
+      let h : k < Format.rowCount b = omega (arith, range-mem 0 (Format.rowCount b) k m .1) in
+      four-bytes (λ kind role left right. Format.conceptOf kind role left right ≡ Format.conceptIn b k) k h refl)
+
+module _ (b : Format.Bytes) (passed : Passed b 9) where
+  rows-rowsPart : Rows (rowsPart b)
+  rows-rowsPart =
+      let p : Parted b = parted passed (omega arith) in
+      record {
+        few = omega (arith, rowCount-rowsPart b p, p .fewRows);
+        formed = λ k h.
+            let l : k < Format.rowCount b = omega (arith, rowCount-rowsPart b p) in
+            four-bytes b p (λ kind role left right. Format.malformed kind role left right ≡ false) k l (unfold Format.badRow in row-formed b passed k l);
+        ordered = subst Ordered (sym (table-rowsPart b p)) (contents-admitted b passed .wellFormed .ordered);
+      }
+
+-- an accepted file
+module _ (b : Format.Bytes) (f : Format.RuleFile) (e : Format.reading b ≡ Format.accepted f) where
+  pub accepted-rows : Rows (rowsPart b)
+  accepted-rows = rows-rowsPart b (accepted-passed b f e 9 (omega arith))
+
+  pub accepted-table : tableOf (rowsPart b) ≡ f .table
+  accepted-table = rw (accepted-contents b f e) (table-rowsPart b (parted (accepted-passed b f e 9 (omega arith)) (omega arith)))

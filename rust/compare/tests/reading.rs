@@ -1,0 +1,28 @@
+//! The text of a file, and the order of the checks.
+
+use compare::encode;
+use plain::RuleFile;
+
+const ROWS: [[u8; 4]; 3] = [[1, 0, 0, 0], [5, 31, 0, 0], [6, 0, 1, 0]];
+
+#[test]
+fn the_text_is_the_leading_part_of_the_file() {
+    let bytes = encode(b"flush valve", &ROWS, &[1, 1], 2);
+    let file = RuleFile::read(&bytes).expect("the file is accepted");
+    assert_eq!(file.text, b"flush valve");
+    assert_eq!(file.text.as_ptr(), bytes.as_ptr(), "uncopied");
+    assert_eq!((file.tbox, file.wanted), (vec![1, 1], 2));
+}
+
+#[test]
+fn each_check_covers_all_rows_before_the_next() {
+    let refusal = |rows: &[[u8; 4]], rules: &[u8], wanted: u8| RuleFile::read(&encode(b"", rows, rules, wanted)).err();
+    let name = [1, 0, 0, 0];
+    // An argument that isn't lower in row 0, but a bad kind in row 1; a repeat before an argument that isn't lower; and so on.
+    assert_eq!(refusal(&[[3, 0, 0, 0], [7, 0, 0, 0]], &[9], 9), Some(5));
+    assert_eq!(refusal(&[name, name, [3, 0, 2, 0]], &[9], 9), Some(6));
+    assert_eq!(refusal(&[name, name], &[9], 9), Some(7));
+    assert_eq!(refusal(&[name], &[1], 0), Some(8));
+    assert_eq!(refusal(&[name], &[0], 1), Some(8));
+    assert_eq!(refusal(&[name], &[0], 0), None);
+}

@@ -1,0 +1,125 @@
+//! The whole run: from the bytes of a file and the lengths of the areas to the answer, and its printing.
+
+use crate::example::{example, Example, RoleLink};
+use crate::graph::{Area, Capacity, Graph};
+use crate::rulefile::RuleFile;
+use crate::status::Status;
+use crate::tableau::{run, ROOT};
+use std::fmt::Write;
+
+const NODE: usize = 64;
+const EDGE: usize = 16;
+const ALTERNATIVE: usize = 16;
+const ELEMENT: usize = 8;
+const LINK: usize = 6;
+const MOST_RECORDS: usize = 4096;
+
+/// The lengths of the five lent areas, in bytes. What the areas hold has no say in the answer.
+#[derive(Clone, Copy, Debug, PartialEq, Eq)]
+pub struct Lent {
+    pub nodes: usize,
+    pub edges: usize,
+    pub alternatives: usize,
+    pub elements: usize,
+    pub links: usize,
+}
+
+impl Lent {
+    /// Work areas for so many records, example areas of so many bytes.
+    pub fn records(nodes: usize, edges: usize, alternatives: usize, elements: usize, links: usize) -> Lent {
+        Lent { nodes: nodes * NODE, edges: edges * EDGE, alternatives: alternatives * ALTERNATIVE, elements, links }
+    }
+
+    /// What the printing program lends.
+    pub fn by_program() -> Lent {
+        Lent::records(1024, 4096, 4096, 8192, 49152)
+    }
+
+    /// Whole records count, and at most 4,096 of each.
+    pub fn capacity(&self) -> Capacity {
+        Capacity {
+            nodes: MOST_RECORDS.min(self.nodes / NODE),
+            edges: MOST_RECORDS.min(self.edges / EDGE),
+            alternatives: MOST_RECORDS.min(self.alternatives / ALTERNATIVE),
+        }
+    }
+
+    fn holds(&self, example: &Example) -> bool {
+        example.elements.len() * ELEMENT <= self.elements && example.links.len() * LINK <= self.links
+    }
+}
+
+/// How many records a run used.
+#[derive(Clone, Copy, Debug, PartialEq, Eq)]
+pub struct Used {
+    pub nodes: usize,
+    pub edges: usize,
+    pub alternatives: usize,
+}
+
+/// What a run answers.
+#[derive(Clone, Debug, PartialEq, Eq)]
+pub enum Answer {
+    /// A file check refuses the file: 1 to 9.
+    Refused(u8),
+    /// Refusal 10: the procedure's next record has no place in this area.
+    Short(Area),
+    /// Refusal 11: the verdict is "can" and an example area is too short for so many.
+    TooLong { elements: usize, links: usize },
+    /// The wanted row cannot hold anywhere.
+    Cannot { used: Used },
+    /// It can, and this is an example.
+    Can { used: Used, elements: Vec<u64>, links: Vec<RoleLink> },
+}
+
+/// The answer to a file, given the lengths of the areas.
+pub fn answer(file: &[u8], lent: &Lent) -> Answer {
+    let file = match RuleFile::read(file) {
+        Ok(file) => file,
+        Err(number) => return Answer::Refused(number),
+    };
+    match run(&file, lent.capacity()) {
+        Ok(graph) => verdict(&file, &graph, lent),
+        Err(area) => Answer::Short(area),
+    }
+}
+
+/// Root yes or open means "can"; never or small means "cannot".
+fn verdict(file: &RuleFile, graph: &Graph, lent: &Lent) -> Answer {
+    let used = Used { nodes: graph.nodes.len(), edges: graph.edges.len(), alternatives: graph.alternatives.len() };
+    if matches!(graph.nodes[ROOT].status, Status::Unsat | Status::TooSmall) {
+        return Answer::Cannot { used };
+    }
+    let example = example(&file.concepts, graph);
+    if !lent.holds(&example) {
+        return Answer::TooLong { elements: example.elements.len(), links: example.links.len() };
+    }
+    let elements = example.elements.iter().map(|rows| rows.0).collect();
+    Answer::Can { used, elements, links: example.links }
+}
+
+/// The lines that the printing program prints.
+pub fn print(answer: &Answer) -> String {
+    match answer {
+        Answer::Refused(number) => format!("REFUSED {number}\n"),
+        Answer::Short(_) => "REFUSED 10\n".to_string(),
+        Answer::TooLong { elements, links } => format!("REFUSED 11 {elements} {links}\n"),
+        Answer::Cannot { used } => format!("CANNOT\n{}", print_used(used)),
+        Answer::Can { used, elements, links } => print_can(used, elements, links),
+    }
+}
+
+fn print_can(used: &Used, elements: &[u64], links: &[RoleLink]) -> String {
+    let mut text = format!("CAN {} {}\n{}", elements.len(), links.len(), print_used(used));
+    for (number, rows) in elements.iter().enumerate() {
+        writeln!(text, "E {number} {rows:016x}").expect("writing to a string does not fail");
+    }
+    for (from, role, to) in links {
+        writeln!(text, "L {from} {role} {to}").expect("writing to a string does not fail");
+    }
+    text
+}
+
+fn print_used(used: &Used) -> String {
+    format!("USED {} {} {}\n", used.nodes, used.edges, used.alternatives)
+}

@@ -1,0 +1,90 @@
+//! The rule file and its checks, refusals 1 to 9 (document 01, "The rule file" and "Refusals, in checking order").
+
+use crate::concept::Concept;
+
+const TRAILER: usize = 8;
+const LONGEST_FILE: usize = 4096;
+const MARK: [u8; 3] = [0x46, 0x49, 0x54];
+const MOST_ROWS: usize = 64;
+const MOST_RULES: usize = 64;
+const ROW: usize = 4;
+
+/// What an accepted file holds.
+#[derive(Clone, Debug, PartialEq, Eq)]
+pub struct RuleFile<'a> {
+    /// The text before the rows.
+    pub text: &'a [u8],
+    /// The rows.
+    pub concepts: Vec<Concept>,
+    /// The rules: numbers of rows, repeats allowed.
+    pub tbox: Vec<usize>,
+    /// The number of the wanted row.
+    pub wanted: usize,
+}
+
+impl<'a> RuleFile<'a> {
+    /// Reads a file, or gives the number of the first check that refuses it.
+    pub fn read(bytes: &'a [u8]) -> Result<RuleFile<'a>, u8> {
+        let parts = Parts::of(bytes)?;
+        let concepts = check_rows(&parts.rows)?;
+        check_rules(&parts, concepts.len())?;
+        // Row 0 has no lower row to name, so check 9 never fires; document 01 lists it, and so it stands here.
+        require(concepts.iter().any(|c| c.is_literal()), 9)?;
+        Ok(RuleFile {
+            text: parts.text,
+            concepts,
+            tbox: parts.rules.iter().map(|&rule| usize::from(rule)).collect(),
+            wanted: usize::from(parts.wanted),
+        })
+    }
+}
+
+/// The parts of a file that passes checks 1 to 4.
+struct Parts<'a> {
+    text: &'a [u8],
+    rows: Vec<[u8; ROW]>,
+    rules: &'a [u8],
+    wanted: u8,
+}
+
+impl<'a> Parts<'a> {
+    /// Checks 1 to 4: the trailer points back to the rows.
+    fn of(bytes: &'a [u8]) -> Result<Parts<'a>, u8> {
+        require((TRAILER..=LONGEST_FILE).contains(&bytes.len()), 1)?;
+        let (body, trailer) = bytes.split_at(bytes.len() - TRAILER);
+        require(trailer[5..] == MARK, 2)?;
+        let first_row = usize::from(u16::from_le_bytes([trailer[0], trailer[1]]));
+        let (rows, rules) = (usize::from(trailer[2]), usize::from(trailer[3]));
+        require((1..=MOST_ROWS).contains(&rows) && rules <= MOST_RULES, 3)?;
+        require(first_row + ROW * rows + rules == body.len(), 4)?;
+        let (text, rest) = body.split_at(first_row);
+        let (table, rules) = rest.split_at(ROW * rows);
+        let rows = table.chunks_exact(ROW).map(|r| [r[0], r[1], r[2], r[3]]).collect();
+        Ok(Parts { text, rows, rules, wanted: trailer[4] })
+    }
+}
+
+/// Checks 5 to 7, each over all rows before the next.
+fn check_rows(rows: &[[u8; ROW]]) -> Result<Vec<Concept>, u8> {
+    let concepts: Option<Vec<Concept>> = rows.iter().map(|&row| Concept::of_row(row)).collect();
+    let concepts = concepts.ok_or(5)?;
+    let lower = |(k, c): (usize, &Concept)| c.highest_argument().is_none_or(|argument| argument < k);
+    require(concepts.iter().enumerate().all(lower), 6)?;
+    require(rows.iter().enumerate().all(|(k, row)| !rows[..k].contains(row)), 7)?;
+    Ok(concepts)
+}
+
+/// Check 8: the rules and the wanted row are rows.
+fn check_rules(parts: &Parts, rows: usize) -> Result<(), u8> {
+    let is_row = |&row: &u8| usize::from(row) < rows;
+    require(parts.rules.iter().all(is_row) && is_row(&parts.wanted), 8)
+}
+
+/// Refuses with the number unless the condition holds.
+fn require(condition: bool, number: u8) -> Result<(), u8> {
+    if condition {
+        Ok(())
+    } else {
+        Err(number)
+    }
+}

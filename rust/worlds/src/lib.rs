@@ -1,0 +1,14 @@
+//! The meaning of ALCI over finite worlds (document 01, "The meaning of ALCI"), and a search through small worlds.
+//!
+//! Nothing here comes from the tableau or its graph: rows are judged by what they mean. [`ontology`] decodes an accepted
+//! rule file, [`world`] holds finite interpretations and evaluates rows over them, [`search`](mod@search) looks for a small
+//! world that obeys every rule and has a member of the kit.
+
+pub mod ontology;
+mod partial;
+pub mod search;
+pub mod world;
+
+pub use ontology::{Concept, Ontology};
+pub use search::search;
+pub use world::World;
