@@ -108,6 +108,12 @@ module _ {A : Type 0} where
   take-length-take (suc n) [] = refl
   take-length-take (suc n) (x ∷ xs) = ap (λ ys. x ∷ ys) (take-length-take n xs)
 
+  pub take-map-range : (f : ℕ → A) (i n k : ℕ) → k ≤ n → take k (map f (range i n)) ≡ map f (range i k)
+  unfolding range
+  take-map-range f i n zero h = refl
+  take-map-range f i zero (suc k) h = absurd (not-suc-le-zero h)
+  take-map-range f i (suc n) (suc k) h = ap (λ (l : List A). f i ∷ l) (take-map-range f (suc i) n k (le-of-suc-le-suc h))
+
   -- ---- select
 
   pub select-mem : (f : A → Bool) (xs : List A) (x : A) → List·Memᴰ x (select f xs) → List·Memᴰ x xs × T (f x)

@@ -259,7 +259,6 @@ pub fn successor(rows: &[u8], s: RowSet, role: u8, argument: usize, rules: RowSe
 
 // The inverse of a role: one more than an even code, one less than an odd code.
 pub fn inverse(role: u8) -> u8
-    requires { ⌜ role < 254 ⌝ }
     ensures { λ r. ⌜ r ≡ Role.inverse role ⌝ }
 {
     if role % 2 == 0 {
