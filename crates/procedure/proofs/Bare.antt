@@ -17,7 +17,7 @@ empty-structure t = record {
   both = λ k l r d e x. absurd x;
   either = λ k l r d e x. absurd x;
   along = λ k ρ l d e f x y. x;
-  there = λ k ρ l d e x. absurd x
+  there = λ k ρ l d e x. absurd x;
 }
 
 abbrev pub bare : (t : Table) (c : Capacity) (tbox wanted : List ℕ) → WellFormed t tbox wanted → Setting
@@ -29,5 +29,5 @@ bare t c tbox wanted W = record {
   wellFormed = W;
   structure = empty-structure t;
   rules = λ k m d. absurd d;
-  kit = λ d. absurd d
+  kit = λ d. absurd d;
 }

@@ -127,7 +127,7 @@ module _ (S : Setting) where
             rules = λ r m. union-right a (nodeAt g y .rows) r (I .fact y (K .there) .rules (K .notRoot) r m);
             excused = inr refl;
             state = λ e. absurd (absurd-bool (nodeAt h z .isState) e (ap (λ (x : Node). x .isState) same ∙ noState));
-            branch = λ e. (ap (λ (x : Node). x .pst) same, ap (λ (x : Node). x .prl) same, λ r m. union-right a (nodeAt g y .rows) r (rw (K .rows) (rw same at m)))
+            branch = λ e. (ap (λ (x : Node). x .pst) same, ap (λ (x : Node). x .prl) same, λ r m. union-right a (nodeAt g y .rows) r (rw (K .rows) (rw same at m)));
           }
 
       -- it lacks fewer rows than z
@@ -150,10 +150,10 @@ module _ (S : Setting) where
             | inr v ↦ inl v
           ]
           | inr c ↦
-            let (i, ch, st, rs) = c in
-            let hi = A .inv .ends z i ch .1 in
-            inr (i, grows-child (B .grows) z i ch, B .grows .node i hi .isState ∙ st, B .grows .node i hi .rows ∙ rs)
-        ]
+              let (i, ch, st, rs) = c in
+              let hi = A .inv .ends z i ch .1 in
+              inr (i, grows-child (B .grows) z i ch, B .grows .node i hi .isState ∙ st, B .grows .node i hi .rows ∙ rs)
+        ];
       }
 
     alternate : (a : RowSet) (todo : List RowSet) (h : Graph) → Alternated (a ∷ todo) h → Sure (Alternated todo) (put z (n .pst) (n .prl) (union a (nodeAt g y .rows)) h)

@@ -1,0 +1,256 @@
+// The steps of the tableau that do not recur, on the graph in three lent areas (01, The procedure).
+//
+// In order: a node with the edge to it; a special node that is linked; one that is lapsed; the two tables of statuses; judging by them.
+ghost use mathlib.Core.Path.{_≡_};
+ghost use Prim.Native.Nat.{_≤_, _<_};
+ghost use Rattle.procedure.specs.Status as Procedure;
+ghost use Rattle.procedure.specs.Graph as Graph;
+ghost use Rattle.procedure.specs.Tableau as Tableau;
+ghost use Rattle.records.specs.Areas.{roomOf};
+ghost use Rattle.records.specs.Codes as Codes;
+ghost use Rattle.records.specs.Records as Records;
+ghost use Rattle.records.specs.Graphs.{graphOf, capacityOf, Held, Added};
+ghost use Rattle.steps.specs.Steps as Steps;
+ghost use Rattle.steps.specs.Tables as Tables;
+use records::Counts;
+use records::FoundState;
+use records::Link;
+use records::Next;
+use records::Node;
+use records::Status;
+use records::Step;
+use records::add_alternative;
+use records::add_edge;
+use records::add_node;
+use records::find_state;
+use records::load_node;
+use records::next_child;
+use records::set_link;
+use records::set_status;
+
+// Adds a node, and the edge to it.
+pub fn add_child(nodes: &mut [u8], edges: &mut [u8], c: Counts, from: u16, node: Node) -> Step
+    requires { ⌜ c .nodes ≤ 4096 ⌝ }
+    ensures { λ r. ⌜ Steps.AddsBelow (now (nodes .entry)) (now (nodes .exit)) (now (edges .entry)) (now (edges .exit)) c r (Steps.addChild from (Records.nodeOf node)) ⌝ }
+{
+    match add_node(nodes, c, node) {
+        Step::Done(d) => add_edge(edges, d, from, c.nodes as u16),
+        Step::Full(area) => Step::Full(area),
+    }
+}
+
+// Links node z to state y, and adds the edge from z.
+fn link_to(nodes: &mut [u8], edges: &mut [u8], c: Counts, z: u16, y: u16) -> Step
+    requires { ⌜ (z < c .nodes) × (c .nodes ≤ roomOf 64 (now nodes)) ⌝ }
+    ensures { λ r. ⌜ ((t : Steps.Table) → Steps.AddsBelow (now (nodes .entry)) (now (nodes .exit)) (now (edges .entry)) (now (edges .exit)) c r (λ k g. Tableau.linkTo t k z y g)) ⌝ }
+{
+    set_link(nodes, c, z as usize, Link::State(y));
+    add_edge(edges, c, z, y)
+}
+
+// Links node z to the state with this set, made if new.
+fn link_found(nodes: &mut [u8], edges: &mut [u8], c: Counts, z: u16, rows: u64) -> Step
+    requires { ⌜ (z < c .nodes) × Steps.Holds (now nodes) (now edges) c ⌝ }
+    ensures { λ r. ⌜ ((t : Steps.Table) → Steps.AddsBelow (now (nodes .entry)) (now (nodes .exit)) (now (edges .entry)) (now (edges .exit)) c r (λ k g. Tableau.linkFound t k z rows (Graph.findState rows g) g)) ⌝ }
+{
+    match find_state(nodes, c, rows) {
+        FoundState::At(y) => link_to(nodes, edges, c, z, y),
+        FoundState::Nothing => {
+            let state = Node {
+                rows,
+                status: Status::Unset,
+                is_state: true,
+                pst: 0,
+                prl: 0,
+                link: Link::Unlinked,
+            };
+            match add_node(nodes, c, state) {
+                Step::Done(d) => link_to(nodes, edges, d, z, c.nodes as u16),
+                Step::Full(area) => Step::Full(area),
+            }
+        }
+    }
+}
+
+// Adds a special node that lacks nothing above, and links it.
+pub fn link_special(
+    nodes: &mut [u8],
+    edges: &mut [u8],
+    c: Counts,
+    p: u16,
+    role: u8,
+    rows: u64,
+) -> Step
+    requires { ⌜ Steps.Holds (now nodes) (now edges) c ⌝ }
+    ensures { λ r. ⌜ ((t : Steps.Table) → Steps.AddsBelow (now (nodes .entry)) (now (nodes .exit)) (now (edges .entry)) (now (edges .exit)) c r (λ k g. Tableau.linkSpecial t k p role rows g)) ⌝ }
+{
+    let special = Node {
+        rows,
+        status: Status::Unset,
+        is_state: false,
+        pst: p,
+        prl: role,
+        link: Link::Unlinked,
+    };
+    match add_node(nodes, c, special) {
+        Step::Done(d) => link_found(nodes, edges, d, c.nodes as u16, rows),
+        Step::Full(area) => Step::Full(area),
+    }
+}
+
+// Whether a status is none or open.
+fn is_live(s: Status) -> bool
+    ensures { λ r. ⌜ r ≡ Procedure.isLive (Codes.statusOf s) ⌝ }
+{
+    match s {
+        Status::Unset => true,
+        Status::Open => true,
+        Status::Sat => false,
+        Status::Unsat => false,
+        Status::TooSmall => false,
+    }
+}
+
+// What a set lacks joins the alternatives of state p while its status is none or open.
+fn join(nodes: &[u8], alternatives: &mut [u8], c: Counts, p: u16, lacked: u64) -> Step
+    requires { ⌜ (p < c .nodes) × (c .nodes ≤ roomOf 64 (now nodes)) × (c .alternatives ≤ roomOf 16 (now alternatives)) ⌝ }
+    ensures { λ r. ⌜ ((t : Steps.Table) → Steps.Joins (now (nodes .entry)) (now (alternatives .entry)) (now (alternatives .exit)) c r (λ k g. Tableau.joinAlternatives t k p lacked g)) ⌝ }
+{
+    let above = load_node(nodes, p as usize);
+    let status = above.status;
+    if is_live(status) {
+        add_alternative(alternatives, c, p, lacked)
+    } else {
+        Step::Done(c)
+    }
+}
+
+// Adds a special node that lacks something above: lapsed and small. What it lacks joins the alternatives there; the edge comes last.
+pub fn add_lapsed(
+    nodes: &mut [u8],
+    edges: &mut [u8],
+    alternatives: &mut [u8],
+    c: Counts,
+    from: u16,
+    p: u16,
+    role: u8,
+    rows: u64,
+    lacked: u64,
+) -> Step
+    requires { ⌜ (p < c .nodes) × Held (now nodes) (now edges) (now alternatives) c ⌝ }
+    ensures { λ r. ⌜ ((t : Steps.Table) → Added c (now (nodes .exit)) (now (edges .exit)) (now (alternatives .exit)) r (Steps.addLapsed t from p role rows lacked (capacityOf (now (nodes .entry)) (now (edges .entry)) (now (alternatives .entry))) (graphOf (now (nodes .entry)) (now (edges .entry)) (now (alternatives .entry)) c))) ⌝ }
+{
+    let lapsed = Node {
+        rows,
+        status: Status::TooSmall,
+        is_state: false,
+        pst: p,
+        prl: role,
+        link: Link::Lapsed,
+    };
+    match add_node(nodes, c, lapsed) {
+        Step::Done(d) => match join(nodes, alternatives, d, p, lacked) {
+            Step::Done(b) => add_edge(edges, b, from, c.nodes as u16),
+            Step::Full(area) => Step::Full(area),
+        },
+        Step::Full(area) => Step::Full(area),
+    }
+}
+
+// Which of the two tables of status pairs.
+enum Pairs {
+    Branch,
+    State,
+}
+
+// The tables: rows and columns are yes, open, small, never.
+const BRANCH: [[Status; 4]; 4] = [
+    [Status::Sat, Status::Sat, Status::Sat, Status::Sat],
+    [Status::Sat, Status::Open, Status::Open, Status::Open],
+    [
+        Status::Sat,
+        Status::Open,
+        Status::TooSmall,
+        Status::TooSmall,
+    ],
+    [Status::Sat, Status::Open, Status::TooSmall, Status::Unsat],
+];
+
+const STATE: [[Status; 4]; 4] = [
+    [Status::Sat, Status::Open, Status::TooSmall, Status::Unsat],
+    [Status::Open, Status::Open, Status::TooSmall, Status::Unsat],
+    [
+        Status::TooSmall,
+        Status::TooSmall,
+        Status::TooSmall,
+        Status::Unsat,
+    ],
+    [Status::Unsat, Status::Unsat, Status::Unsat, Status::Unsat],
+];
+
+// The place of a status in the tables: "none counts as open".
+fn rank(s: Status) -> usize
+    ensures { λ r. ⌜ (r ≡ Procedure.rank (Codes.statusOf s)) × (r < 4) ⌝ }
+{
+    match s {
+        Status::Unset => 1,
+        Status::Open => 1,
+        Status::Sat => 0,
+        Status::Unsat => 3,
+        Status::TooSmall => 2,
+    }
+}
+
+// The entry of a pair of statuses.
+fn entry(by: Pairs, a: Status, b: Status) -> Status
+    ensures { λ r. ⌜ Codes.statusOf r ≡ Procedure.entry (Tables.tableOf by) (Codes.statusOf a) (Codes.statusOf b) ⌝ }
+{
+    let i = rank(a);
+    let j = rank(b);
+    match by {
+        Pairs::Branch => {
+            let row = BRANCH[i];
+            row[j]
+        }
+        Pairs::State => {
+            let row = STATE[i];
+            row[j]
+        }
+    }
+}
+
+// The statuses of the children of x, folded from `start` on.
+fn fold(nodes: &[u8], edges: &[u8], c: Counts, x: u16, by: Pairs, start: Status) -> Status
+    requires { ⌜ Tables.Judges (now nodes) (now edges) c x ⌝ }
+    ensures { λ r. ⌜ Codes.statusOf r ≡ Procedure.foldStatus (Tables.tableOf by) (Codes.statusOf start) (Tables.statusesFrom (now (nodes .entry)) (now (edges .entry)) c x 0) ⌝ }
+{
+    let mut v = start;
+    let mut i = 0;
+    loop {
+        let Next::At { index, node } = next_child(edges, c, x, i) else {
+            return v;
+        };
+        let child = load_node(nodes, node as usize);
+        let status = child.status;
+        v = entry(by, v, status);
+        i = index + 1;
+    }
+}
+
+// Judges x as a branch or a lapsed special node.
+pub fn judge_branch(nodes: &mut [u8], edges: &[u8], c: Counts, x: u16)
+    requires { ⌜ Tables.Judges (now nodes) (now edges) c x ⌝ }
+    ensures { λ _. ⌜ Tables.JudgesAs (now (nodes .entry)) (now (nodes .exit)) (now (edges .entry)) c (Tableau.judgeBranch x) ⌝ }
+{
+    let v = fold(nodes, edges, c, x, Pairs::Branch, Status::Unsat);
+    set_status(nodes, c, x as usize, v);
+}
+
+// Judges x as a state.
+pub fn judge_state(nodes: &mut [u8], edges: &[u8], c: Counts, x: u16)
+    requires { ⌜ Tables.Judges (now nodes) (now edges) c x ⌝ }
+    ensures { λ _. ⌜ Tables.JudgesAs (now (nodes .entry)) (now (nodes .exit)) (now (edges .entry)) c (Tableau.judgeState x) ⌝ }
+{
+    let v = fold(nodes, edges, c, x, Pairs::State, Status::Sat);
+    set_status(nodes, c, x as usize, v);
+}
