@@ -14,7 +14,7 @@ use Rattle.concepts.specs.RowSetLaws.{missing-all}
 use Rattle.procedure.specs.Status.{Status, «open», isUnset, isOpen, isLive}
 use Rattle.procedure.specs.StatusLaws.{open-live, open-set, is-open, not-open-settled}
 use Rattle.procedure.specs.Graph.{Link, unlinked, toState, lapsed, Graph, reached, _>>=_, forEach, nodeAt, nodeCount, parents}
-use Rattle.procedure.specs.GraphLaws.{Sure, sure-map, sure-bind, sure-forEach, child-parent}
+use Rattle.procedure.specs.GraphLaws.{Sure, sure-map, sure-bind, sure-forEach, Child, child-parent}
 use Rattle.procedure.specs.Tableau.{judge, judgeBy, judgeBranch, judgeState, put, updateParents, updateChanged, updateWithin}
 use Rattle.procedure.proofs.Setting.{Setting, rowCount}
 use Rattle.procedure.proofs.Grows.{Grows, grows-refl, grows-trans}
@@ -51,7 +51,13 @@ module _ (S : Setting) where
         kind true e = state-judged S P g x I hx e (state-fact S g I x hx e .0 .expanded (open-set (nodeAt g x .status) isOpen′)) (open-live (nodeAt g x .status) isOpen′) Q
         kind false e = by-children e unlinked f (λ y q. let z : _≡_ {A = ℕ} 0 1 = cc in omega arith)
 
-    open-judged : Sure (Judged S P g x) (judge (put (S .table) (S .capacity)) x g)
+    -- it has the edge to its state
+    pub open-edge : (y : ℕ) → nodeAt g x .link ≡ toState y → Child g x y
+    open-edge y f =
+        let L : LinkShape S g (nodeAt g x) (toState y) = subst (λ (l : Link). LinkShape S g (nodeAt g x) l) f (I .fact x hx .link) in
+        subst (λ (l : Link). OpenSays S g x (nodeAt g x) l) f (open-branch (L .0))
+
+    pub open-judged : Sure (Judged S P g x) (judge (put (S .table) (S .capacity)) x g)
     unfolding judge
     open-judged = judged-by (nodeAt g x .link) refl
 

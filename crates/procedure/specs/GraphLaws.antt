@@ -146,6 +146,15 @@ child-parent g x y m =
     subst (λ (z : ℕ). List·Memᴰ z (map (λ (a : Edge). a .from) (select (λ (a : Edge). eqb (a .to) y) (g .edges)))) (eqb→eq (e .from) x q)
     (mem-map (λ (a : Edge). a .from) (select (λ (a : Edge). eqb (a .to) y) (g .edges)) e (mem-select (λ (a : Edge). eqb (a .to) y) (g .edges) e v k))
 
+pub parent-child : (g : Graph) (x y : ℕ) → List·Memᴰ x (parents g y) → Child g x y
+unfolding children parents
+parent-child g x y m =
+    let (e, u, p) = map-mem (λ (a : Edge). a .from) (select (λ (a : Edge). eqb (a .to) y) (g .edges)) x m in
+    let (v, q) = select-mem (λ (a : Edge). eqb (a .to) y) (g .edges) e u in
+    let k : T (eqb (e .from) x) = subst (λ (z : ℕ). T (eqb (e .from) z)) (sym p) (eqb-refl (e .from)) in
+    subst (λ (z : ℕ). List·Memᴰ z (map (λ (a : Edge). a .to) (select (λ (a : Edge). eqb (a .from) x) (g .edges)))) (eqb→eq (e .to) y q)
+    (mem-map (λ (a : Edge). a .to) (select (λ (a : Edge). eqb (a .from) x) (g .edges)) e (mem-select (λ (a : Edge). eqb (a .from) x) (g .edges) e v k))
+
 -- ---- alternatives
 
 abbrev pub AlternativeOf : Graph → ℕ → RowSet → Type 0

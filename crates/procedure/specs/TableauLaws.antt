@@ -14,7 +14,7 @@ use Rattle.concepts.specs.Concept.{Table}
 use Rattle.concepts.specs.RowSet.{RowSet, empty, union}
 use Rattle.procedure.specs.Status.{unset, «open», sat, unsat, toosmall, isOpen, isLive}
 use Rattle.procedure.specs.SetTests.{clash, unfinished, lacking}
-use Rattle.procedure.specs.Graph.{Link, unlinked, toState, lapsed, Graph, Capacity, Area, Result, reached, noPlace, outOfFuel, _>>=_, forEach, addNode, addEdge, nodeAt, nodeCount, lowestUnset, setStatus, setLink, alternativesOf}
+use Rattle.procedure.specs.Graph.{Link, unlinked, toState, lapsed, Graph, Capacity, Area, Result, reached, noPlace, outOfFuel, _>>=_, forEach, addNode, addEdge, nodeAt, nodeCount, lowestUnset, setStatus, setLink, alternativesOf, parents}
 use Rattle.procedure.specs.Tableau.{Put, judgeBranch, judgeState, judgeLinked, judgeBy, judge, below, joinAlternatives, linkSpecial, putSpecial, putNode, putBy, putWithin, put, updateParents, updateChanged, updateWithin, expand, loopWithin, putAlternatives}
 
 -- ---- results
@@ -87,6 +87,10 @@ module _ (t : Table) (c : Capacity) where
     update-open e = rw (e, updateWithin)
 
   module _ (update : ℕ → Graph → Result) (x : ℕ) (g : Graph) where
+    pub parents-each : updateParents t c update x g ≡ forEach update (parents g x) g
+    unfolding updateParents
+    parents-each = refl
+
     pub changed-not : isOpen (nodeAt g x .status) ≡ true → updateChanged t c update x g ≡ reached g
     unfolding updateChanged
     changed-not e = rw (e, updateChanged)
