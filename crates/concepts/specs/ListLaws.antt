@@ -14,7 +14,8 @@ use native.Mathlib.Nat.{not-suc-le-zero, le-of-suc-le-suc}
 use native.Mathlib.Decide.{ℕ-discrete}
 use native.Mathlib.Omega.{arith}
 use lib.Dec.{T, T-not, not-T}
-use lib.ListN.{length, getD, take, length-map}
+use lib.ListN.{length, getD, take, drop, length-map, length-drop}
+use lib.Seq.{length-take-le, getD-take, getD-drop, ext-getD}
 use Rattle.concepts.specs.Lists.{range, NoneBelow, select, any, every, consAnswer, answers, first}
 use Rattle.concepts.specs.Tests.{or-cases, or-left, or-right, and-both, by-test, as-true, as-false, from-true, from-false}
 
@@ -100,6 +101,30 @@ module _ {A : Type 0} where
 
   pub length-map-range : (f : ℕ → A) (i n : ℕ) → length (map f (range i n)) ≡ n
   length-map-range f i n = length-map (range i n) f ∙ length-range i n
+
+  pub range-snoc : (f : ℕ → A) (i n : ℕ) → map f (range i (suc n)) ≡ map f (range i n) ++ f (i + n) ∷ []
+  unfolding range
+  range-snoc f i zero = ap (λ (k : ℕ). f k ∷ []) (omega arith)
+  range-snoc f i (suc n) =
+      let e : suc i + n ≡ i + suc n = omega arith in
+      ap (λ (l : List A). f i ∷ l) (range-snoc f (suc i) n) ∙ ap (λ (k : ℕ). f i ∷ map f (range (suc i) n) ++ f k ∷ []) e
+
+  -- one more at the end
+  pub range-more : (f : ℕ → A) (n : ℕ) → map f (range 0 (n + 1)) ≡ map f (range 0 n) ++ f n ∷ []
+  range-more f n =
+      let s : n + 1 ≡ suc n = omega arith in
+      let z : 0 + n ≡ n = omega arith in
+      ap (λ (k : ℕ). map f (range 0 k)) s ∙ range-snoc f 0 n ∙ ap (λ (k : ℕ). map f (range 0 n) ++ f k ∷ []) z
+
+  -- the n elements from place p on
+  pub map-getD-range : (xs : List A) (p n : ℕ) (d : A) → p + n ≤ length xs → map (λ i. getD xs (p + i) d) (range 0 n) ≡ take n (drop p xs)
+  map-getD-range xs p n d h =
+      let f : ℕ → A = λ i. getD xs (p + i) d in
+      let long : n ≤ length (drop p xs) = omega (arith, length-drop p xs) in
+      ext-getD d (map f (range 0 n)) (take n (drop p xs)) (length-map-range f 0 n ∙ sym (length-take-le n (drop p xs) long)) (λ i b.
+      let l : i < n = omega (arith, length-map-range f 0 n) in
+      let z : 0 + i ≡ i = omega arith in
+      getD-map-range f 0 n i d l ∙ ap f z ∙ sym (getD-take n (drop p xs) i d l ∙ getD-drop p xs i d))
 
   -- ---- take
 

@@ -1,6 +1,6 @@
 -- The procedure is right: what the end of a run means for a well-formed table.
 --
--- In order: a setting with a structure; "cannot" (`no-structure`, `no-model`); "can" (`example-there`);
+-- In order: a setting with a structure; "cannot" (`no-structure`, `no-model`); "can" (`finished-at`, `example-there`);
 -- the root has a status at the end (`root-set`), and fuel never runs out (`no-fuel`).
 -- Assumes nothing.
 use mathlib.Core.Path.{_≡_, subst}
@@ -21,6 +21,7 @@ use Rattle.procedure.proofs.Structure.{Structure}
 use Rattle.procedure.proofs.FiniteStructure.{interpretation-structure}
 use Rattle.procedure.proofs.Setting.{Setting}
 use Rattle.procedure.proofs.Bare.{bare}
+use Rattle.procedure.proofs.Finished.{Finished}
 use Rattle.procedure.proofs.Whole.{Ended, run-ends}
 use Rattle.procedure.proofs.Cannot.{root-refuted}
 use Rattle.procedure.proofs.Can.{goodIf, run-finished}
@@ -64,13 +65,16 @@ module _ (t : Table) (c : Capacity) (tbox wanted : List ℕ) (W : WellFormed t t
 
   -- ---- "can": the example is there and right
 
-  pub example-there : (g : Graph) → runOf ≡ reached g → (b : Bool) → (b ≡ true → T (isLive (nodeAt g 0 .status))) → T (goodIf b (nodeAt g 0 .status))
-      → (x : Example) × (example t g ≡ some x) × ExampleRight t tbox wanted g x
-  example-there g e b l q =
+  -- the graph is one that a walk may go over
+  pub finished-at : (g : Graph) → runOf ≡ reached g → (b : Bool) → (b ≡ true → T (isLive (nodeAt g 0 .status))) → T (goodIf b (nodeAt g 0 .status)) → Finished t tbox wanted g (goodIf b)
+  finished-at g e b l q =
       let S = bare t c tbox wanted W in
       let E = ended-at S g e in
-      example-right t tbox wanted g (goodIf b) (W .ordered) (W .ruleRows) (W .wantedRows) (W .existRole)
-      (run-finished S g (E .inv) (E .quiet) b (λ w x hx. lowestUnset-none g x (E .over (l w)) hx) q)
+      run-finished S g (E .inv) (E .quiet) b (λ w x hx. lowestUnset-none g x (E .over (l w)) hx) q
+
+  pub example-there : (g : Graph) → runOf ≡ reached g → (b : Bool) → (b ≡ true → T (isLive (nodeAt g 0 .status))) → T (goodIf b (nodeAt g 0 .status))
+      → (x : Example) × (example t g ≡ some x) × ExampleRight t tbox wanted g x
+  example-there g e b l q = example-right t tbox wanted g (goodIf b) (W .ordered) (W .ruleRows) (W .wantedRows) (W .existRole) (finished-at g e b l q)
 
   -- the root has a status
   pub root-set : (g : Graph) → runOf ≡ reached g → nodeAt g 0 .status ≡ unset → ⊥

@@ -61,6 +61,10 @@ module _ (S : Setting) (g : Graph) (x : ℕ) (I : Inv S g) (Q : QuietBut S None 
     kept = λ y hy. B .kept y (grows-there (A .grows) y hy) ∙ A .kept y hy;
   }
 
+  -- a put under x
+  pub put-expanding : (h : Graph) → Grown h → (p ρ : ℕ) (s : RowSet) → PutPre S Busy h x p ρ s → Sure (PutPost S Busy h x p ρ s) (put (S .table) (S .capacity) x p ρ s h)
+  put-expanding h A p ρ s pre = put-right S Busy h x p ρ s (A .inv) (A .quiet) pre (few-missing S s)
+
   -- ---- a node that is no state
 
   module _ (noState : n .isState ≡ false) where
@@ -82,9 +86,6 @@ module _ (S : Setting) (g : Graph) (x : ℕ) (I : Inv S g) (Q : QuietBut S None 
           branch = λ e. (ap (λ (a : Node). a .pst) same, ap (λ (a : Node). a .prl) same, rw same sub);
         }
 
-    put-branch : (h : Graph) → Grown h → (s : RowSet) → Subset (n .rows) s → s < 2 ^ rowCount S → Sure (PutPost S Busy h x (n .pst) (n .prl) s) (put (S .table) (S .capacity) x (n .pst) (n .prl) s h)
-    put-branch h A s sub bd = put-right S Busy h x (n .pst) (n .prl) s (A .inv) (A .quiet) (branch-pre h A s sub bd) (few-missing S s)
-
     pub record Branched (h : Graph) : Type 0 where
       pub grown : Grown h
       pub covered : Covered S h x (n .rows)
@@ -93,14 +94,26 @@ module _ (S : Setting) (g : Graph) (x : ℕ) (I : Inv S g) (Q : QuietBut S None 
         → (y : ℕ) × Child k x y × (nodeAt k y .isState ≡ false) × Sat S (nodeAt k y .rows) d
     new-child h s k B d q = (nodeCount h, rw (B .ownChildren) (Memᴰ·append-right (children h x) (List·Memᴰ·head refl)), B .fresh .noState, rw (B .fresh .rows) q)
 
+    -- what the puts of a conjunction and of a disjunction may rely on
+    pub conj-pre : (lr : ℕ × ℕ) → lowestConj (S .table) (n .rows) ≡ some lr → PutPre S Busy g x (n .pst) (n .prl) (insert (lr .0) (insert (lr .1) (n .rows)))
+    conj-pre lr e =
+        let (a, b) = lowestConj-lt (S .table) (n .rows) (S .wellFormed .ordered) lr e in
+        branch-pre g grown-refl (insert (lr .0) (insert (lr .1) (n .rows))) (λ k m. insert-more (lr .0) (insert (lr .1) (n .rows)) k (insert-more (lr .1) (n .rows) k m))
+        (insert-lt (rowCount S) (lr .0) (insert (lr .1) (n .rows)) a (insert-lt (rowCount S) (lr .1) (n .rows) b (I .fact x hx .bounded)))
+
+    pub disj-pre : (lr : ℕ × ℕ) → lowestDisj (S .table) (n .rows) ≡ some lr → (h : Graph) → Grown h
+        → PutPre S Busy h x (n .pst) (n .prl) (insert (lr .0) (n .rows)) × PutPre S Busy h x (n .pst) (n .prl) (insert (lr .1) (n .rows))
+    disj-pre lr e h A =
+        let (a, b) = lowestDisj-lt (S .table) (n .rows) (S .wellFormed .ordered) lr e in (
+          branch-pre h A (insert (lr .0) (n .rows)) (insert-more (lr .0) (n .rows)) (insert-lt (rowCount S) (lr .0) (n .rows) a (I .fact x hx .bounded)),
+          branch-pre h A (insert (lr .1) (n .rows)) (insert-more (lr .1) (n .rows)) (insert-lt (rowCount S) (lr .1) (n .rows) b (I .fact x hx .bounded)),
+        )
+
     conj-expanded : (lr : ℕ × ℕ) → lowestConj (S .table) (n .rows) ≡ some lr → Sure Branched (expandConj (S .table) (S .capacity) (S .tbox) (S .wanted) x (some lr) g)
     unfolding expandConj
     conj-expanded lr e =
         let s = insert (lr .0) (insert (lr .1) (n .rows)) in
-        let (a, b) = lowestConj-lt (S .table) (n .rows) (S .wellFormed .ordered) lr e in
-        sure-map (PutPost S Busy g x (n .pst) (n .prl) s) Branched (put (S .table) (S .capacity) x (n .pst) (n .prl) s g)
-        (put-branch g grown-refl s (λ k m. insert-more (lr .0) (insert (lr .1) (n .rows)) k (insert-more (lr .1) (n .rows) k m))
-        (insert-lt (rowCount S) (lr .0) (insert (lr .1) (n .rows)) a (insert-lt (rowCount S) (lr .1) (n .rows) b (I .fact x hx .bounded))))
+        sure-map (PutPost S Busy g x (n .pst) (n .prl) s) Branched (put (S .table) (S .capacity) x (n .pst) (n .prl) s g) (put-expanding g grown-refl (n .pst) (n .prl) s (conj-pre lr e))
         (λ h B. record {
           grown = grown-put g grown-refl (n .pst) (n .prl) s h B;
           covered = λ d q. new-child g s h B d (conj-satisfied (S .table) (S .structure) (n .rows) d q lr e);
@@ -111,13 +124,11 @@ module _ (S : Setting) (g : Graph) (x : ℕ) (I : Inv S g) (Q : QuietBut S None 
     disj-expanded lr e =
         let l = insert (lr .0) (n .rows) in
         let r = insert (lr .1) (n .rows) in
-        let (a, b) = lowestDisj-lt (S .table) (n .rows) (S .wellFormed .ordered) lr e in
         sure-bind (PutPost S Busy g x (n .pst) (n .prl) l) Branched (put (S .table) (S .capacity) x (n .pst) (n .prl) l g) (put (S .table) (S .capacity) x (n .pst) (n .prl) r)
-        (put-branch g grown-refl l (insert-more (lr .0) (n .rows)) (insert-lt (rowCount S) (lr .0) (n .rows) a (I .fact x hx .bounded)))
+        (put-expanding g grown-refl (n .pst) (n .prl) l (disj-pre lr e g grown-refl .0))
         (λ h B.
         let A = grown-put g grown-refl (n .pst) (n .prl) l h B in
-        sure-map (PutPost S Busy h x (n .pst) (n .prl) r) Branched (put (S .table) (S .capacity) x (n .pst) (n .prl) r h)
-        (put-branch h A r (insert-more (lr .1) (n .rows)) (insert-lt (rowCount S) (lr .1) (n .rows) b (I .fact x hx .bounded)))
+        sure-map (PutPost S Busy h x (n .pst) (n .prl) r) Branched (put (S .table) (S .capacity) x (n .pst) (n .prl) r h) (put-expanding h A (n .pst) (n .prl) r (disj-pre lr e h A .1))
         (λ k C. record {
           grown = grown-put h A (n .pst) (n .prl) r k C;
           covered = λ d q. elim (disj-satisfied (S .table) (S .structure) (n .rows) d q lr e) [

@@ -26,9 +26,8 @@ use Rattle.procedure.proofs.Invariant.{Sat, Reach, Covered, AnswerAll, 
 use Rattle.procedure.proofs.Keeps.{answer-all-mono}
 use Rattle.procedure.proofs.Judge.{state-fact, Judged, branch-judged, state-judged}
 use Rattle.procedure.proofs.Linked.{absurd-bool, PutPre, Fresh, PutPost}
-use Rattle.procedure.proofs.Put.{put-right, few-missing}
 use Rattle.procedure.proofs.Update.{Updated, parents-updated, update-right}
-use Rattle.procedure.proofs.Expand.{None, Busy, ready, Grown, grown-refl, grown-put, Branched, branch-expanded}
+use Rattle.procedure.proofs.Expand.{None, Busy, ready, Grown, grown-refl, grown-put, put-expanding, Branched, branch-expanded}
 
 module _ (S : Setting) where
   -- one answer more, at the end
@@ -73,12 +72,10 @@ module _ (S : Setting) where
 
     -- ---- the root
 
-    kit-put : x ≡ 0 → (st : n .isState ≡ true) → Sure (Met st) (putKit (S .table) (S .capacity) (S .tbox) (S .wanted) g)
-    unfolding putKit
-    kit-put e st =
+    pub kit-pre : x ≡ 0 → n .isState ≡ true → PutPre S (Busy S g x I Q hx fresh) g x x noRole (union (fromList (S .wanted)) (fromList (S .tbox)))
+    kit-pre e st =
         let s = union (fromList (S .wanted)) (fromList (S .tbox)) in
-        let B : ℕ → Type 0 = Busy S g x I Q hx fresh in
-        let pre = state-pre st g (grown-refl S g x I Q hx fresh) noRole s (λ _. refl)
+        state-pre st g (grown-refl S g x I Q hx fresh) noRole s (λ _. refl)
         (union-lt (rowCount S) (fromList (S .wanted)) (fromList (S .tbox)) (fromList-lt (rowCount S) (S .wanted) (S .wellFormed .wantedRows)) (fromList-lt (rowCount S) (S .tbox) (S .wellFormed .ruleRows)))
         (union-right (fromList (S .wanted)) (fromList (S .tbox)))
         (λ d q. let (m, w) = S .kit d in (
@@ -86,10 +83,16 @@ module _ (S : Setting) where
           inl e,
           satisfies-union (S .table) (S .structure) (fromList (S .wanted)) (fromList (S .tbox)) m
               (satisfies-fromList (S .table) (S .structure) (S .wanted) m w) (satisfies-fromList (S .table) (S .structure) (S .tbox) m (λ k u. S .rules k u m)),
-        )) in
+        ))
+
+    kit-put : x ≡ 0 → (st : n .isState ≡ true) → Sure (Met st) (putKit (S .table) (S .capacity) (S .tbox) (S .wanted) g)
+    unfolding putKit
+    kit-put e st =
+        let s = union (fromList (S .wanted)) (fromList (S .tbox)) in
+        let B : ℕ → Type 0 = Busy S g x I Q hx fresh in
         subst (λ (y : ℕ). Sure (Met st) (put (S .table) (S .capacity) y y noRole s g)) e
         (sure-map (PutPost S B g x x noRole s) (Met st) (put (S .table) (S .capacity) x x noRole s g)
-        (put-right S B g x x noRole s I (grown-refl S g x I Q hx fresh .quiet) pre (few-missing S s))
+        (put-expanding S g x I Q hx fresh g (grown-refl S g x I Q hx fresh) x noRole s (kit-pre e st))
         (λ h P. record {
           grown = grown-put S g x I Q hx fresh g (grown-refl S g x I Q hx fresh) x noRole s h P;
           expanded = root-expanded h P e;
@@ -131,21 +134,24 @@ module _ (S : Setting) where
                 (mem-fromList l (box (S .table) (n .rows) (e .0)) (mem-box (S .table) (n .rows) (e .0) l r hr (rw same at m) q))));
           }
 
-      turn : (e : ℕ × ℕ) (todo : List (ℕ × ℕ)) (h : Graph) → Turn (e ∷ todo) h → Sure (Turn todo) (put (S .table) (S .capacity) x x (e .0) (c (n .rows) e) h)
+      pub successor-pre : (h : Graph) → Grown S g x I Q hx fresh h → (e : ℕ × ℕ) → List·Memᴰ e (existentials (S .table) (n .rows)) → PutPre S (Busy S g x I Q hx fresh) h x x (e .0) (c (n .rows) e)
       unfolding successor
-      turn e todo h A =
-          let B : ℕ → Type 0 = Busy S g x I Q hx fresh in
-          let s = c (n .rows) e in
+      successor-pre h A e there =
           let boxed = fromList (box (S .table) (n .rows) (e .0)) in
-          let there : List·Memᴰ e (existentials (S .table) (n .rows)) = rw (A .split) (Memᴰ·append-right (A .done) (List·Memᴰ·head refl)) in
-          let pre = state-pre st h (A .grown) (e .0) s (λ q. absurd (x0 q))
+          state-pre st h A (e .0) (c (n .rows) e) (λ q. absurd (x0 q))
           (union-lt (rowCount S) (insert (e .1) boxed) (fromList (S .tbox))
           (insert-lt (rowCount S) (e .1) boxed (existentials-lt (S .table) (n .rows) (S .wellFormed .ordered) e there) (fromList-box-lt (S .table) (n .rows) (S .wellFormed .ordered) (e .0)))
           (fromList-lt (rowCount S) (S .tbox) (S .wellFormed .ruleRows)))
           (union-right (insert (e .1) boxed) (fromList (S .tbox)))
-          (λ d q. let (b, r, w) = successor-satisfied (S .table) (S .structure) (n .rows) d q (S .capacity) (S .tbox) (S .wanted) (S .rules) e there in (b, inr r, w)) in
+          (λ d q. let (b, r, w) = successor-satisfied (S .table) (S .structure) (n .rows) d q (S .capacity) (S .tbox) (S .wanted) (S .rules) e there in (b, inr r, w))
+
+      turn : (e : ℕ × ℕ) (todo : List (ℕ × ℕ)) (h : Graph) → Turn (e ∷ todo) h → Sure (Turn todo) (put (S .table) (S .capacity) x x (e .0) (c (n .rows) e) h)
+      turn e todo h A =
+          let B : ℕ → Type 0 = Busy S g x I Q hx fresh in
+          let s = c (n .rows) e in
+          let there : List·Memᴰ e (existentials (S .table) (n .rows)) = rw (A .split) (Memᴰ·append-right (A .done) (List·Memᴰ·head refl)) in
           sure-map (PutPost S B h x x (e .0) s) (Turn todo) (put (S .table) (S .capacity) x x (e .0) s h)
-          (put-right S B h x x (e .0) s (A .grown .inv) (A .grown .quiet) pre (few-missing S s))
+          (put-expanding S g x I Q hx fresh h (A .grown) x (e .0) s (successor-pre h (A .grown) e there))
           (λ k P. record {
             grown = grown-put S g x I Q hx fresh h (A .grown) x (e .0) s k P;
             done = A .done ++ (e ∷ []);
@@ -195,14 +201,17 @@ module _ (S : Setting) where
       pub set : T (not (isUnset (nodeAt h x .status)))
 
     -- the children are put, and what is judged is right
-    record Judging (h : Graph) : Type 0 where
-      grows : Grows g h
-      judged : Sure (Judged S None h x) (judge (put (S .table) (S .capacity)) x h)
+    pub record Judging (h : Graph) : Type 0 where
+      pub inv : Inv S h
+      pub grows : Grows g h
+      pub live : T (isLive (nodeAt h x .status))
+      pub link : nodeAt h x .link ≡ unlinked
+      pub judged : Sure (Judged S None h x) (judge (put (S .table) (S .capacity)) x h)
 
-    live : (h : Graph) → nodeAt h x ≡ n → T (isLive (nodeAt h x .status))
-    live h e = rw (e, fresh) tt
+    still-live : (h : Graph) → nodeAt h x ≡ n → T (isLive (nodeAt h x .status))
+    still-live h e = rw (e, fresh) tt
 
-    judging : Sure Judging (expandConj (S .table) (S .capacity) (S .tbox) (S .wanted) x (lowestConj (S .table) (n .rows)) g)
+    pub judging : Sure Judging (expandConj (S .table) (S .capacity) (S .tbox) (S .wanted) x (lowestConj (S .table) (n .rows)) g)
     unfolding judge judgeBy
     judging = kind (n .isState) refl
       where
@@ -215,10 +224,13 @@ module _ (S : Setting) where
             let hs : nodeAt h x .isState ≡ true = ap (λ (a : Node). a .isState) same ∙ st in
             let lk : nodeAt h x .link ≡ unlinked = ap (λ (a : Node). a .link) same ∙ shape st .link in
             record {
+              inv = B .inv;
               grows = B .grows;
+              live = still-live h same;
+              link = lk;
               judged = subst (λ (l : Link). Sure (Judged S None h x) (judgeBy (put (S .table) (S .capacity)) x l h)) (sym lk)
                   (subst (λ (b : Bool). Sure (Judged S None h x) (elim b [ true ↦ reached (judgeState x h) | false ↦ reached (judgeBranch x h) ])) (sym hs)
-                  (state-judged S None h x (B .inv) (grows-there (B .grows) x hx) hs (subst (λ (s : RowSet). Expanded S h x s) (sym (ap (λ (a : Node). a .rows) same)) (A .expanded)) (live h same) (B .quiet)));
+                  (state-judged S None h x (B .inv) (grows-there (B .grows) x hx) hs (subst (λ (s : RowSet). Expanded S h x s) (sym (ap (λ (a : Node). a .rows) same)) (A .expanded)) (still-live h same) (B .quiet)));
             })
         kind false ns =
             sure-map (Branched S g x I Q hx fresh ns) Judging (expandConj (S .table) (S .capacity) (S .tbox) (S .wanted) x (lowestConj (S .table) (n .rows)) g) (branch-expanded S g x I Q hx fresh ns)
@@ -228,11 +240,14 @@ module _ (S : Setting) where
             let hs : nodeAt h x .isState ≡ false = ap (λ (a : Node). a .isState) same ∙ ns in
             let lk : nodeAt h x .link ≡ unlinked = ap (λ (a : Node). a .link) same ∙ ready S g x I Q hx fresh false ns .0 in
             record {
+              inv = B .inv;
               grows = B .grows;
+              live = still-live h same;
+              link = lk;
               judged = subst (λ (l : Link). Sure (Judged S None h x) (judgeBy (put (S .table) (S .capacity)) x l h)) (sym lk)
                   (subst (λ (b : Bool). Sure (Judged S None h x) (elim b [ true ↦ reached (judgeState x h) | false ↦ reached (judgeBranch x h) ])) (sym hs)
                   (branch-judged S None h x (B .inv) (grows-there (B .grows) x hx) hs (λ y e. let z : _≡_ {A = ℕ} 0 1 = cc (lk, e) in omega arith)
-                  (subst (λ (s : RowSet). Covered S h x s) (sym (ap (λ (a : Node). a .rows) same)) (A .covered)) (live h same) (B .quiet)));
+                  (subst (λ (s : RowSet). Covered S h x s) (sym (ap (λ (a : Node). a .rows) same)) (A .covered)) (still-live h same) (B .quiet)));
             })
 
     pub expand-right : Sure Rounded (expand (S .table) (S .capacity) (S .tbox) (S .wanted) x g)

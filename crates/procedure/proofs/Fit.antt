@@ -35,6 +35,10 @@ Anyone x = Unit {0}
 pub anyone-quiet : (S : Setting) (g : Graph) → QuietBut S Anyone g
 anyone-quiet S g x hx = inl tt
 
+-- a put that any node's excuse allows needs none
+pub pre-anyone : (S : Setting) (P : ℕ → Type 0) (g : Graph) (m p ρ : ℕ) (s : RowSet) → PutPre S P g m p ρ s → PutPre S Anyone g m p ρ s
+pre-anyone S P g m p ρ s A = record { there = A .there; place = A .place; bounded = A .bounded; rules = A .rules; excused = tt; state = A .state; branch = A .branch }
+
 -- ---- graphs that fit
 
 module _ (t : Table) (c : Capacity) where

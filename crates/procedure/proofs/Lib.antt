@@ -19,11 +19,13 @@ pub mod Measure
 pub mod Update
 pub mod Expand
 pub mod ExpandState
+pub mod ExpandFit
 pub mod Whole
 pub mod Cannot
 pub mod Can
 pub mod Truth
 pub mod Descend
 pub mod Walk
+pub mod Way
 pub mod Model
 pub mod Correct

@@ -223,7 +223,7 @@ module _ (t : Table) (tbox wanted : List ℕ) (g : Graph) (good : Status → Boo
   -- ---- over a finished graph
 
   -- each child of a usable state is put for a row, and the walk may go down from it
-  rowsOf-good : (x : ℕ) → Usable g good x → (r : ℕ × ℕ) → List·Memᴰ r (rowsOf t g x) → GoodChild t g good x (r .0) (r .1)
+  pub rowsOf-good : (x : ℕ) → Usable g good x → (r : ℕ × ℕ) → List·Memᴰ r (rowsOf t g x) → GoodChild t g good x (r .0) (r .1)
   rowsOf-good x U r m =
       let (i, h, k, p, q) = rowsOf-mem t g x r m in
       let rs = existentials t (nodeAt g x .rows) in

@@ -43,10 +43,10 @@ empty-finished t = elim (decide (unfinished t empty)) [ inr n ↦ n | inl u ↦ 
 module _ (S : Setting) where
   -- ---- the first graph
 
-  abbrev nothing : Graph
+  abbrev pub nothing : Graph
   nothing = record { nodes = []; edges = []; alternatives = [] }
 
-  abbrev rootOnly : Graph
+  abbrev pub rootOnly : Graph
   rootOnly = appendNode (state empty) nothing
 
   no-children : (x : ℕ) → children rootOnly x ≡ []
@@ -60,7 +60,7 @@ module _ (S : Setting) where
   only-root : (x : ℕ) → x < 1 → x ≡ 0
   only-root x h = omega arith
 
-  first-inv : 0 < S .capacity .nodeRoom → Inv S rootOnly
+  pub first-inv : 0 < S .capacity .nodeRoom → Inv S rootOnly
   first-inv room = record {
     fits = omega arith;
     root = (omega arith, refl);
@@ -75,7 +75,7 @@ module _ (S : Setting) where
     alternative = λ x a m. absurd (List·Memᴰ·not-nil (rw (no-alternatives x) at m));
   }
 
-  first-quiet : QuietBut S None rootOnly
+  pub first-quiet : QuietBut S None rootOnly
   first-quiet x hx = inr (subst (λ (y : ℕ). Quiet S rootOnly y) (sym (only-root x hx)) (no-children 0))
 
   -- ---- the rounds

@@ -9,3 +9,4 @@ pub mod Tableau
 pub mod TableauLaws
 pub mod Example
 pub mod ExampleLaws
+pub mod WalkLaws

@@ -3,19 +3,20 @@
 --
 -- In order: results; the start of a linked special node (`linkStart`); put; judging; updates; expansion; the rounds.
 -- Assumes nothing.
-use mathlib.Core.Path.{_≡_, refl, ap, _∙_}
+use mathlib.Core.Path.{_≡_, refl, sym, ap, _∙_}
 use mathlib.Core.Bool.{true, false}
 use mathlib.Core.List.{List, [], _∷_}
-use mathlib.Core.Option.{none, some}
-use Prim.Native.Nat.{ℕ, suc}
+use mathlib.Core.Logic.{_≢_}
+use mathlib.Core.Option.{Option, none, some}
+use Prim.Native.Nat.{ℕ, zero, suc}
 use lib.Dec.{eqb}
 use Rattle.concepts.specs.Role.{inverse}
 use Rattle.concepts.specs.Concept.{Table}
-use Rattle.concepts.specs.RowSet.{RowSet, empty, union}
+use Rattle.concepts.specs.RowSet.{RowSet, empty, union, insert, fromList}
 use Rattle.procedure.specs.Status.{unset, «open», sat, unsat, toosmall, isOpen, isLive}
-use Rattle.procedure.specs.SetTests.{clash, unfinished, lacking}
-use Rattle.procedure.specs.Graph.{Link, unlinked, toState, lapsed, Graph, Capacity, Area, Result, reached, noPlace, outOfFuel, _>>=_, forEach, addNode, addEdge, nodeAt, nodeCount, lowestUnset, setStatus, setLink, alternativesOf, parents}
-use Rattle.procedure.specs.Tableau.{Put, judgeBranch, judgeState, judgeLinked, judgeBy, judge, below, joinAlternatives, linkSpecial, putSpecial, putNode, putBy, putWithin, put, updateParents, updateChanged, updateWithin, expand, loopWithin, putAlternatives}
+use Rattle.procedure.specs.SetTests.{clash, unfinished, lacking, lowestConj, lowestDisj, existentials}
+use Rattle.procedure.specs.Graph.{Link, unlinked, toState, lapsed, Node, Graph, Capacity, Area, Result, reached, noPlace, outOfFuel, _>>=_, forEach, addNode, addEdge, nodeAt, nodeCount, lowestUnset, setStatus, setLink, alternativesOf, parents}
+use Rattle.procedure.specs.Tableau.{Put, judgeBranch, judgeState, judgeLinked, judgeBy, judge, below, joinAlternatives, linkSpecial, putSpecial, putNode, putBy, putWithin, put, updateParents, updateChanged, updateWithin, update, noRole, successor, putSuccessors, putKit, expandState, expandDisj, expandConj, expand, loopWithin, putAlternatives}
 
 -- ---- results
 
@@ -98,6 +99,44 @@ module _ (t : Table) (c : Capacity) where
     pub changed-parents : isOpen (nodeAt g x .status) ≡ false → updateChanged t c update x g ≡ updateParents t c update x g
     unfolding updateChanged
     changed-parents e = rw (e, updateChanged)
+
+  -- ---- expansion
+
+  module _ (tbox wanted : List ℕ) (x : ℕ) (g : Graph) where
+    abbrev n : Node
+    n = nodeAt g x
+
+    pub expand-conj : (lr : ℕ × ℕ) → lowestConj t (n .rows) ≡ some lr
+        → expandConj t c tbox wanted x (lowestConj t (n .rows)) g ≡ put t c x (n .pst) (n .prl) (insert (lr .0) (insert (lr .1) (n .rows))) g
+    unfolding expandConj
+    expand-conj lr e = ap (λ (o : Option (ℕ × ℕ)). expandConj t c tbox wanted x o g) e
+
+    pub expand-disj : (lr : ℕ × ℕ) → lowestConj t (n .rows) ≡ none → lowestDisj t (n .rows) ≡ some lr
+        → expandConj t c tbox wanted x (lowestConj t (n .rows)) g ≡ (put t c x (n .pst) (n .prl) (insert (lr .0) (n .rows)) g >>= put t c x (n .pst) (n .prl) (insert (lr .1) (n .rows)))
+    unfolding expandConj expandDisj
+    expand-disj lr e f = ap (λ (o : Option (ℕ × ℕ)). expandConj t c tbox wanted x o g) e ∙ ap (λ (o : Option (ℕ × ℕ)). expandDisj t c tbox wanted x o g) f
+
+    expand-state : lowestConj t (n .rows) ≡ none → lowestDisj t (n .rows) ≡ none → expandConj t c tbox wanted x (lowestConj t (n .rows)) g ≡ expandState t c tbox wanted x g
+    unfolding expandConj expandDisj
+    expand-state e f = ap (λ (o : Option (ℕ × ℕ)). expandConj t c tbox wanted x o g) e ∙ ap (λ (o : Option (ℕ × ℕ)). expandDisj t c tbox wanted x o g) f
+
+    pub expand-kit : lowestConj t (n .rows) ≡ none → lowestDisj t (n .rows) ≡ none → x ≡ 0
+        → expandConj t c tbox wanted x (lowestConj t (n .rows)) g ≡ put t c x x noRole (union (fromList wanted) (fromList tbox)) g
+    unfolding expandState putKit
+    expand-kit e f z = expand-state e f ∙ ap (λ (y : ℕ). expandState t c tbox wanted y g) z ∙ ap (λ (y : ℕ). put t c y y noRole (union (fromList wanted) (fromList tbox)) g) (sym z)
+
+    pub expand-successors : lowestConj t (n .rows) ≡ none → lowestDisj t (n .rows) ≡ none → x ≢ 0
+        → expandConj t c tbox wanted x (lowestConj t (n .rows)) g ≡ forEach (λ e. put t c x x (e .0) (successor t c tbox wanted (n .rows) e)) (existentials t (n .rows)) g
+    unfolding putSuccessors expandState
+    expand-successors e f z = expand-state e f ∙ other x z
+      where
+        other : (y : ℕ) → y ≢ 0 → expandState t c tbox wanted y g ≡ putSuccessors t c tbox wanted y g
+        other zero d = absurd (d refl)
+        other (suc y) d = refl
+
+    pub expand-is : expand t c tbox wanted x g ≡ (expandConj t c tbox wanted x (lowestConj t (n .rows)) g >>= judge (put t c) x >>= updateParents t c (update t c) x)
+    unfolding expand
+    expand-is = refl
 
   -- ---- the rounds
 

@@ -68,7 +68,7 @@ role-tests role left right names false false false false false true e =
     omega (arith, ltb-false 31 role (or-neither (not (eqb right 0)) (ltb 31 role) e .1))
 role-tests role left right names false false false false false false e = let z : _≡_ {A = ℕ} 0 1 = cc in absurd (omega arith)
 
-role-small : (kind role left right : ℕ) → malformed kind role left right ≡ false → roleOf (conceptOf kind role left right) < 32
+pub role-small : (kind role left right : ℕ) → malformed kind role left right ≡ false → roleOf (conceptOf kind role left right) < 32
 unfolding malformed conceptOf
 role-small kind role left right e =
     role-tests role left right (not (eqb role 0) || (not (eqb right 0) || ltb 63 left)) (eqb kind 1) (eqb kind 2) (eqb kind 3) (eqb kind 4)

@@ -99,7 +99,7 @@ pub fn link_special(
 }
 
 // Whether a status is none or open.
-fn is_live(s: Status) -> bool
+pub fn is_live(s: Status) -> bool
     ensures { λ r. ⌜ r ≡ Procedure.isLive (Codes.statusOf s) ⌝ }
 {
     match s {

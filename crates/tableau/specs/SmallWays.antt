@@ -19,9 +19,9 @@ use Rattle.procedure.specs.TableauLaws.{bind-reached, bind-noPlace, forEach-non
 use Rattle.procedure.proofs.Bare.{bare}
 use Rattle.procedure.proofs.Setting.{Setting}
 use Rattle.procedure.proofs.Invariant.{QuietBut}
-use Rattle.procedure.proofs.Linked.{PutPre, PutPost, Alternated, alternated-none, alternate-pre, alternate-fewer, alternate-done}
+use Rattle.procedure.proofs.Linked.{PutPost, Alternated, alternated-none, alternate-pre, alternate-fewer, alternate-done}
 use Rattle.procedure.proofs.Put.{within-right}
-use Rattle.procedure.proofs.Fit.{Anyone, Fit, PutFit}
+use Rattle.procedure.proofs.Fit.{Anyone, pre-anyone, Fit, PutFit}
 use Rattle.records.specs.Areas.{Bytes, chosenFrom}
 use Rattle.records.specs.Records.{alternativeIn, nodeOf, nodeIn}
 use Rattle.records.specs.Graphs.{graphOf, capacityOf, Held, Grown, areaOf, Added, Changed, WithAlternatives, alternativesFrom, IsNextAlternative}
@@ -37,10 +37,6 @@ use Rattle.settests.specs.Rows.{tableOf}
 use Rattle.tableau.specs.Contracts.{lacks, PutAsks, PutGives, SmallAsks, SmallGives}
 use Rattle.tableau.specs.JudgeWays.{judge-state-there}
 use Rattle.tableau.specs.StepLaws.{grown-refl, grown-trans}
-
--- a put that any node's excuse allows needs none
-pre-anyone : (S : Setting) (P : ℕ → Type 0) (g : Graph) (m p ρ : ℕ) (s : RowSet) → PutPre S P g m p ρ s → PutPre S Anyone g m p ρ s
-pre-anyone S P g m p ρ s A = record { there = A .there; place = A .place; bounded = A .bounded; rules = A .rules; excused = tt; state = A .state; branch = A .branch }
 
 module _ (rows n e a : Bytes) (c : Counts) (z y : ℕ) (A : SmallAsks rows n e a c z y) where
   abbrev g : Graph

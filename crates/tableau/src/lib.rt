@@ -2,7 +2,6 @@
 //
 // In order: putting a set; judging a node; the alternatives of a small state. They call each other: the rows missing from the set fall.
 ghost use mathlib.Core.Path.{_≡_};
-ghost use Prim.Native.Nat.{_<_, _≤_};
 ghost use Rattle.procedure.specs.Graph as Graph;
 ghost use Rattle.procedure.specs.Tableau as Tableau;
 ghost use Rattle.records.specs.Codes.{statusOf};

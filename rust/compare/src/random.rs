@@ -1,6 +1,7 @@
-//! Random rule files from fixed seeds.
+//! Random rule files from fixed seeds, damage to them, and areas of random lengths.
 
 use crate::files::{encode, Row};
+use plain::Lent;
 
 /// SplitMix64: small, and the same numbers on every machine.
 pub struct Prng(u64);
@@ -25,6 +26,13 @@ impl Prng {
     /// A byte below `bound`.
     pub fn byte_below(&mut self, bound: usize) -> u8 {
         u8::try_from(self.below(bound)).expect("a bound of at most 256")
+    }
+
+    /// Fills a slice.
+    pub fn fill(&mut self, bytes: &mut [u8]) {
+        for chunk in bytes.chunks_mut(8) {
+            chunk.copy_from_slice(&self.next_u64().to_le_bytes()[..chunk.len()]);
+        }
     }
 }
 
@@ -81,4 +89,32 @@ fn random_row(prng: &mut Prng, shape: Shape, number: usize) -> Row {
 /// A lower row, rather a late one: so rows nest.
 fn argument(prng: &mut Prng, number: usize) -> u8 {
     prng.byte_below(number).max(prng.byte_below(number))
+}
+
+/// Some byte changes, rather near the end where the trailer is, and now and then a cut or an added byte.
+pub fn damage(prng: &mut Prng, file: &mut Vec<u8>) {
+    for _ in 0..1 + prng.below(3) {
+        if file.is_empty() {
+            return;
+        }
+        let at = prng.below(file.len()).max(prng.below(file.len()));
+        match prng.below(12) {
+            0 => drop(file.remove(at)),
+            1 => file.insert(at, prng.byte_below(8)),
+            2 => file.truncate(at),
+            3..8 => file[at] = prng.byte_below(8),
+            _ => file[at] = prng.byte_below(256),
+        }
+    }
+}
+
+/// Areas of odd lengths: a broken last record doesn't count.
+pub fn random_lent(prng: &mut Prng) -> Lent {
+    Lent {
+        nodes: prng.below(64 * 60),
+        edges: prng.below(16 * 80),
+        alternatives: prng.below(16 * 6),
+        elements: prng.below(8 * 6),
+        links: prng.below(6 * 8),
+    }
 }

@@ -1,6 +1,6 @@
 //! Runs on one file with different areas never contradict each other.
 
-use compare::{random_file, Prng, Shape};
+use compare::{random_file, random_lent, Prng, Shape};
 use plain::graph::Capacity;
 use plain::{answer, Answer, Area, Lent, Used};
 
@@ -41,17 +41,6 @@ fn different_areas_never_contradict() {
     }
     println!("same answer {same}, short {short}, too long {too_long}");
     assert!(same > 1000 && short > 1000 && too_long > 1000);
-}
-
-/// Areas of odd lengths: a broken last record doesn't count.
-fn random_lent(prng: &mut Prng) -> Lent {
-    Lent {
-        nodes: prng.below(64 * 60),
-        edges: prng.below(16 * 80),
-        alternatives: prng.below(16 * 6),
-        elements: prng.below(8 * 6),
-        links: prng.below(6 * 8),
-    }
 }
 
 fn sizes(answer: &Answer) -> Option<(usize, usize)> {

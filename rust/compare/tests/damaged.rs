@@ -1,8 +1,7 @@
 //! Damaged files get an answer, never a panic; and a file that is accepted all the same gets a right one.
 
-use compare::{cases, random_file, Prng, Shape};
-use plain::{answer, print, Answer, Lent, RuleFile};
-use worlds::{Ontology, World};
+use compare::{cases, check_example, damage, random_file, Prng, Shape};
+use plain::{answer, print, Lent, RuleFile};
 
 const SHAPE: Shape = Shape { names: 2, roles: 2, compound: 12, rules: 4 };
 
@@ -12,36 +11,8 @@ type Refusals = [usize; 10];
 fn check(file: &[u8], lent: &Lent, refusals: &mut Refusals) {
     let answer = answer(file, lent);
     assert!(print(&answer).ends_with('\n'));
-    // The two crates read files apart: they must agree on which are accepted.
-    let ontology = Ontology::decode(file);
-    let number = RuleFile::read(file).err().unwrap_or(0);
-    assert_eq!(ontology.is_some(), number == 0, "{file:02x?}");
-    refusals[usize::from(number)] += 1;
-    match (answer, ontology) {
-        (Answer::Refused(refused), None) => assert_eq!(refused, number),
-        (Answer::Can { elements, links, .. }, Some(ontology)) => {
-            let world = World::of_example(&ontology, &elements, &links);
-            assert!(world.is_model(&ontology, 0), "the example is no model: {file:02x?}");
-        }
-        (_, ontology) => assert!(ontology.is_some(), "a verdict about a refused file: {file:02x?}"),
-    }
-}
-
-/// Some byte changes, rather near the end where the trailer is, and now and then a cut or an added byte.
-fn damage(prng: &mut Prng, file: &mut Vec<u8>) {
-    for _ in 0..1 + prng.below(3) {
-        if file.is_empty() {
-            return;
-        }
-        let at = prng.below(file.len()).max(prng.below(file.len()));
-        match prng.below(12) {
-            0 => drop(file.remove(at)),
-            1 => file.insert(at, prng.byte_below(8)),
-            2 => file.truncate(at),
-            3..8 => file[at] = prng.byte_below(8),
-            _ => file[at] = prng.byte_below(256),
-        }
-    }
+    check_example(file, &answer);
+    refusals[usize::from(RuleFile::read(file).err().unwrap_or(0))] += 1;
 }
 
 #[test]

@@ -1,0 +1,190 @@
+// The engine's call (00, demands 1 to 3): a rule file and five lent areas in, the answer out, through the C convention too.
+//
+// In order: the answer's numbers; the parts of an accepted file; an accepted file; the call.
+ghost use mathlib.Core.Path.{_≡_};
+ghost use Rattle.answers.specs.Numbers.{numbersOf};
+ghost use Rattle.rulefile.specs.Format.{contents};
+ghost use Rattle.run.specs.Run.{refusedWith};
+ghost use Rattle.run.specs.Promise.{Promise};
+ghost use Rattle.conclusion.specs.Contracts.{areasOf, SmallCounts, SmallSizes, Small};
+ghost use Rattle.settests.specs.FileRows.{rowsPart};
+ghost use Rattle.engine.specs.Contracts.{Laid, verdictWith, tooLongWith, decidedNumbers, Answered};
+use answers::Answer;
+use conclusion::Decision;
+use conclusion::decide;
+use marks::Sizes;
+use records::Counts;
+use records::clear;
+use rulefile::Layout;
+use rulefile::Outcome;
+use rulefile::read;
+
+// The numbers of a verdict.
+const CAN: u32 = 1;
+
+const CANNOT: u32 = 2;
+
+// The refusals of a file that is accepted: "a record has no place", "an example area is too short".
+const SHORT: u32 = 10;
+
+const TOO_LONG: u32 = 11;
+
+// "A row is four bytes"; the wanted row stands four bytes before the end of a file.
+const ROW: usize = 4;
+
+const WANTED: usize = 4;
+
+// A refusal: "Each gives its number and zeros elsewhere".
+fn refused(n: u32) -> Answer
+    ensures { λ r. ⌜ numbersOf r ≡ refusedWith n ⌝ }
+{
+    Answer {
+        verdict: 0,
+        refusal: n,
+        nodes: 0,
+        edges: 0,
+        alternatives: 0,
+        elements: 0,
+        links: 0,
+    }
+}
+
+// A verdict, with the records used and the example's sizes.
+fn verdict(n: u32, c: Counts, s: Sizes) -> Answer
+    requires { ⌜ SmallCounts c × SmallSizes s ⌝ }
+    ensures { λ r. ⌜ numbersOf r ≡ verdictWith n c s ⌝ }
+{
+    Answer {
+        verdict: n,
+        refusal: 0,
+        nodes: c.nodes as u32,
+        edges: c.edges as u32,
+        alternatives: c.alternatives as u32,
+        elements: s.elements as u32,
+        links: s.links as u32,
+    }
+}
+
+// Refusal 11, with the example's sizes.
+fn too_long(s: Sizes) -> Answer
+    requires { ⌜ SmallSizes s ⌝ }
+    ensures { λ r. ⌜ numbersOf r ≡ tooLongWith s ⌝ }
+{
+    Answer {
+        verdict: 0,
+        refusal: TOO_LONG,
+        nodes: 0,
+        edges: 0,
+        alternatives: 0,
+        elements: s.elements as u32,
+        links: s.links as u32,
+    }
+}
+
+// The numbers of a decision.
+fn answer_of(d: Decision) -> Answer
+    requires { ⌜ Small d ⌝ }
+    ensures { λ r. ⌜ numbersOf r ≡ decidedNumbers d ⌝ }
+{
+    match d {
+        Decision::Short(_) => refused(SHORT),
+        Decision::Cannot(c) => verdict(
+            CANNOT,
+            c,
+            Sizes {
+                elements: 0,
+                links: 0,
+            },
+        ),
+        Decision::Can(c, s) => verdict(CAN, c, s),
+        Decision::TooLong(s) => too_long(s),
+    }
+}
+
+// The rows of an accepted file.
+fn rows_of(file: &[u8], layout: Layout) -> &[u8]
+    requires { ⌜ Laid (now file) layout ⌝ }
+    ensures { λ r. ⌜ now r ≡ rowsPart (now (file .entry)) ⌝ }
+{
+    let from = layout.text;
+    let to = from + ROW * layout.rows;
+    &file[from..to]
+}
+
+// The rules of an accepted file, a list of row numbers.
+fn rules_of(file: &[u8], layout: Layout) -> &[u8]
+    requires { ⌜ Laid (now file) layout ⌝ }
+    ensures { λ r. ⌜ now r ≡ contents (now (file .entry)) .tbox ⌝ }
+{
+    let from = layout.text + ROW * layout.rows;
+    let to = from + layout.rules;
+    &file[from..to]
+}
+
+// The wanted rows of an accepted file: a list of one.
+fn wanted_of(file: &[u8], layout: Layout) -> &[u8]
+    requires { ⌜ Laid (now file) layout ⌝ }
+    ensures { λ r. ⌜ now r ≡ contents (now (file .entry)) .wanted ⌝ }
+{
+    let from = file.len() - WANTED;
+    let to = from + 1;
+    &file[from..to]
+}
+
+// Decides an accepted file; then "every byte of all three is zero".
+fn fit_accepted(
+    file: &[u8],
+    layout: Layout,
+    nodes: &mut [u8],
+    edges: &mut [u8],
+    alternatives: &mut [u8],
+    elements: &mut [u8],
+    links: &mut [u8],
+) -> Answer
+    requires { ⌜ Laid (now file) layout ⌝ }
+    ensures { λ r. ⌜ Answered (now (file .entry)) (areasOf (now (nodes .entry)) (now (edges .entry)) (now (alternatives .entry)) (now (elements .entry)) (now (links .entry))) (numbersOf r) (areasOf (now (nodes .exit)) (now (edges .exit)) (now (alternatives .exit)) (now (elements .exit)) (now (links .exit))) ⌝ }
+{
+    let rows = rows_of(file, layout);
+    let tbox = rules_of(file, layout);
+    let wanted = wanted_of(file, layout);
+    let d = decide(
+        rows,
+        tbox,
+        wanted,
+        nodes,
+        edges,
+        alternatives,
+        elements,
+        links,
+    );
+    clear(nodes);
+    clear(edges);
+    clear(alternatives);
+    answer_of(d)
+}
+
+// Whether the kit that the rule file wants can exist. What is promised of the answer and of all five areas is `Promise`, for every file.
+#[no_mangle]
+pub extern "C" fn gumbyra_fit(
+    file: &[u8],
+    nodes: &mut [u8],
+    edges: &mut [u8],
+    alternatives: &mut [u8],
+    elements: &mut [u8],
+    links: &mut [u8],
+) -> Answer
+    ensures { λ r. ⌜ Promise (now (file .entry)) (areasOf (now (nodes .entry)) (now (edges .entry)) (now (alternatives .entry)) (now (elements .entry)) (now (links .entry))) (numbersOf r) (areasOf (now (nodes .exit)) (now (edges .exit)) (now (alternatives .exit)) (now (elements .exit)) (now (links .exit))) ⌝ }
+{
+    match read(file) {
+        Outcome::Refused(n) => refused(n as u32),
+        Outcome::Accepted(layout) => fit_accepted(
+            file,
+            layout,
+            nodes,
+            edges,
+            alternatives,
+            elements,
+            links,
+        ),
+    }
+}

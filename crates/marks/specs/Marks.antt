@@ -1,0 +1,28 @@
+-- What the walk of the example keeps in the spare bytes of the records (01, The example): the state of each element, the element of
+-- each state, and the links in the order in which they are written.
+-- Assumes nothing.
+use mathlib.Core.List.{map}
+use Prim.Native.Nat.{ℕ}
+use Rattle.concepts.specs.Lists.{range}
+use Rattle.procedure.specs.Example.{RoleLink, Example}
+use Rattle.records.specs.Areas.{Bytes, field}
+use Rattle.records.specs.Records.{nodeIn}
+
+-- 0, or one more than the number of the element that stands for state y: bytes 16 and 17 of node record y
+unfoldable pub numberIn : Bytes → ℕ → ℕ
+numberIn n y = field 64 n y 16 2
+
+-- the state for which element d stands: bytes 18 and 19 of node record d
+unfoldable pub stateIn : Bytes → ℕ → ℕ
+stateIn n d = field 64 n d 18 2
+
+-- link k: bytes 4 to 9 of edge record k
+unfoldable pub roleLinkIn : Bytes → ℕ → RoleLink
+roleLinkIn e k = record { from = field 16 e k 4 2; role = field 16 e k 6 2; to = field 16 e k 8 2 }
+
+-- the example that the spare bytes hold, of so many elements and links
+abbrev pub exampleHeld : Bytes → Bytes → ℕ → ℕ → Example
+exampleHeld n e elements links = record {
+  elements = map (λ d. nodeIn n (stateIn n d) .rows) (range 0 elements);
+  links = map (roleLinkIn e) (range 0 links);
+}

@@ -1,0 +1,90 @@
+-- Laws of Writing: the ways through the loops of the two writers.
+--
+-- In order: one record more; a writer's start and end; an element; a link.
+-- Assumes nothing.
+use mathlib.Core.Path.{_≡_, refl, sym, ap, _∙_}
+use mathlib.Core.List.{[], _++_, map, append-assoc}
+use Prim.Native.Nat.{ℕ, _+_, _*_, _≤_, _<_}
+use native.Mathlib.Omega.{arith}
+use lib.ListN.{length, length-append}
+use Rattle.concepts.specs.Lists.{range}
+use Rattle.concepts.specs.ListLaws.{length-map-range, range-more}
+use Rattle.procedure.specs.Example.{RoleLink}
+use Rattle.run.specs.Run.{littleEndian, elementBytes, linkBytes, overwrite}
+use Rattle.run.specs.ExampleBytesLaws.{length-littleEndian, putLe-overwrite, length-elementBytes, elementBytes-snoc, linkRecord, length-linkBytes, linkBytes-snoc}
+use Rattle.words.specs.Words.{putLe}
+use Rattle.words.specs.WordLaws.{length-putLe}
+use Rattle.words.specs.Fields.{putFields}
+use Rattle.words.specs.FieldLaws.{length-putFields}
+use Rattle.records.specs.Areas.{Bytes}
+use Rattle.marks.specs.Marks.{roleLinkIn}
+use Rattle.writing.specs.Writing.{setIn, elementsTo, linksTo, linkFields, Written}
+
+-- ---- one record more
+
+elements-more : (n : Bytes) (d : ℕ) → elementsTo n (d + 1) ≡ elementsTo n d ++ littleEndian 8 (setIn n d)
+elements-more n d = ap elementBytes (range-more (setIn n) d) ∙ elementBytes-snoc (map (setIn n) (range 0 d)) (setIn n d)
+
+links-more : (e : Bytes) (k : ℕ) → linksTo e (k + 1) ≡ linksTo e k ++ linkRecord (roleLinkIn e k)
+links-more e k = ap linkBytes (range-more (roleLinkIn e) k) ∙ linkBytes-snoc (map (roleLinkIn e) (range 0 k)) (roleLinkIn e k)
+
+length-elementsTo : (n : Bytes) (d : ℕ) → length (elementsTo n d) ≡ 8 * d
+length-elementsTo n d = length-elementBytes (map (setIn n) (range 0 d)) ∙ ap (λ (k : ℕ). 8 * k) (length-map-range (setIn n) 0 d)
+
+length-linksTo : (e : Bytes) (k : ℕ) → length (linksTo e k) ≡ 6 * k
+length-linksTo e k = length-linkBytes (map (roleLinkIn e) (range 0 k)) ∙ ap (λ (i : ℕ). 6 * i) (length-map-range (roleLinkIn e) 0 k)
+
+-- ---- a writer's start and end
+
+pub written-none : (upTo : ℕ → Bytes) (count : ℕ) (area : Bytes) → upTo 0 ≡ [] → Written upTo count area area 0
+written-none upTo count area nil = record { within = omega arith; size = refl; here = ap (λ (b : Bytes). overwrite b area) (sym nil) }
+
+pub written-all : {upTo : ℕ → Bytes} {count : ℕ} {area area′ : Bytes} {i : ℕ} → Written upTo count area area′ i → count ≤ i → area′ ≡ overwrite (upTo count) area
+written-all {upTo} {count} {area} w h = w .here ∙ ap (λ (k : ℕ). overwrite (upTo k) area) (omega (arith, w .within))
+
+pub elements-none : (n : Bytes) → elementsTo n 0 ≡ []
+unfolding elementBytes range
+elements-none n = refl
+
+pub links-none : (e : Bytes) → linksTo e 0 ≡ []
+unfolding linkBytes range
+links-none e = refl
+
+-- ---- an element
+
+pub element-written : (n : Bytes) {count : ℕ} {area area′ area″ : Bytes} {d : ℕ} → Written (elementsTo n) count area area′ d → d < count → 8 * count ≤ length area
+    → area″ ≡ putLe area′ (8 * d) 8 (setIn n d) → Written (elementsTo n) count area area″ (d + 1)
+element-written n {count} {area} {area′} {area″} {d} w h room e =
+    record {
+      within = omega arith;
+      size = ap length e ∙ length-putLe area′ (8 * d) 8 (setIn n d) ∙ w .size;
+      here =
+          e ∙ ap (λ (b : Bytes). putLe b (8 * d) 8 (setIn n d)) (w .here)
+          ∙ putLe-overwrite (elementsTo n d) area (8 * d) 8 (setIn n d) (length-elementsTo n d) (omega arith)
+          ∙ ap (λ (b : Bytes). overwrite b area) (sym (elements-more n d));
+    }
+
+-- ---- a link
+
+-- a link written right after the bytes that are written over
+link-overwrite : (bs area : Bytes) (at : ℕ) (l : RoleLink) → length bs ≡ at → at + 6 ≤ length area → putFields (overwrite bs area) at (linkFields l) ≡ overwrite (bs ++ linkRecord l) area
+link-overwrite bs area at l e h =
+    let f : Bytes = littleEndian 2 (l .from) in
+    let r : Bytes = littleEndian 2 (l .role) in
+    let from = putLe-overwrite bs area (at + 0) 2 (l .from) (omega arith) (omega arith) in
+    let role = putLe-overwrite (bs ++ f) area (at + 2) 2 (l .role) (simp (length-append, length-littleEndian) (omega arith)) (omega arith) in
+    let to = putLe-overwrite (bs ++ f ++ r) area (at + 4) 2 (l .to) (simp (length-append, length-littleEndian) (omega arith)) (omega arith) in
+    let joined : bs ++ f ++ r ++ littleEndian 2 (l .to) ≡ bs ++ linkRecord l = simp append-assoc in
+    cc
+
+pub link-written : (e : Bytes) {count : ℕ} {area area′ area″ : Bytes} {k : ℕ} → Written (linksTo e) count area area′ k → k < count → 6 * count ≤ length area
+    → area″ ≡ putFields area′ (6 * k) (linkFields (roleLinkIn e k)) → Written (linksTo e) count area area″ (k + 1)
+link-written e {count} {area} {area′} {area″} {k} w h room put =
+    record {
+      within = omega arith;
+      size = ap length put ∙ length-putFields area′ (6 * k) (linkFields (roleLinkIn e k)) ∙ w .size;
+      here =
+          put ∙ ap (λ (b : Bytes). putFields b (6 * k) (linkFields (roleLinkIn e k))) (w .here)
+          ∙ link-overwrite (linksTo e k) area (6 * k) (roleLinkIn e k) (length-linksTo e k) (omega arith)
+          ∙ ap (λ (b : Bytes). overwrite b area) (sym (links-more e k));
+    }

@@ -1,0 +1,121 @@
+//! Files whose graphs have long ways, so that a cascade of updates nests deep; and files with many alternatives.
+//!
+//! In order: a shift register with feedback, the longest way; a delay line, with more states but shorter ways; alternatives.
+
+use crate::files::{encode, Table};
+
+/// The two rows that say of a bit that it is not set, or set.
+type Bit = [u8; 2];
+
+/// Bits of the register: its contents but zero come in one cycle, since x^7 + x + 1 is primitive.
+const BITS: usize = 7;
+/// How many contents there are before one comes again.
+pub const CONTENTS: usize = (1 << BITS) - 1;
+/// The content after the one in which all bits are set; lowest bit first.
+const START: [usize; BITS] = [1, 1, 1, 1, 1, 1, 0];
+/// Kind 3 rows that every set must be finished for: with these a file has 64 rows.
+const PADDING: usize = 16;
+
+/// A shift register: each element has a successor along role 0 that holds the next content. If `forbid`, a run of seven set
+/// bits is forbidden. It comes last of all, and "never" goes back state by state to the root, by way of some three thousand
+/// nodes in a graph of 3,600.
+pub fn shift_register(forbid: bool) -> Vec<u8> {
+    let mut table = Table::default();
+    let (lowest, second) = (literals(&mut table, 0), literals(&mut table, 1));
+    let places = places(&mut table, lowest, second);
+    let mut rules = feedback_rules(&mut table, lowest, second, places[BITS]);
+    rules.push(table.some(0, rules[0]));
+    rules.push(padding(&mut table));
+    if forbid {
+        rules.push(no_run(&mut table, lowest[0]));
+    }
+    let bits = (0..BITS).map(|k| places[k][START[k]]).collect::<Vec<u8>>();
+    let wanted = bits.into_iter().reduce(|l, r| table.both(l, r)).expect("seven bits");
+    encode(b"", &table.rows, &rules, wanted)
+}
+
+fn literals(table: &mut Table, name: u8) -> Bit {
+    [table.not_name(name), table.name(name)]
+}
+
+/// The bit at each place of the register, and the bit that enters it. A bit goes down one place with each step; at the lowest
+/// two places a name tells it.
+fn places(table: &mut Table, lowest: Bit, second: Bit) -> Vec<Bit> {
+    let next = lowest.map(|bit| table.all(0, bit));
+    let mut places = vec![lowest, [0, 1].map(|set| table.both(second[set], next[set]))];
+    for k in 1..BITS {
+        places.push(places[k].map(|bit| table.all(0, bit)));
+    }
+    places
+}
+
+/// Rules: the bit that enters is the exclusive or of the two lowest bits.
+fn feedback_rules(table: &mut Table, lowest: Bit, second: Bit, entering: Bit) -> Vec<u8> {
+    let pairs = [(0, 0), (0, 1), (1, 0), (1, 1)];
+    let rule = |(a, b): (usize, usize)| {
+        let rest = table.either(second[1 - b], entering[a ^ b]);
+        table.either(lowest[1 - a], rest)
+    };
+    pairs.map(rule).to_vec()
+}
+
+/// Rule: names that hold anyway, nested so that each set takes many branch nodes to finish.
+fn padding(table: &mut Table) -> u8 {
+    let (name, last) = (table.name(2), table.name(3));
+    (0..PADDING).fold(last, |rest, _| table.both(name, rest))
+}
+
+/// Rule: now or at one of the next elements the lowest bit is not set.
+fn no_run(table: &mut Table, not_set: u8) -> u8 {
+    (1..BITS).fold(not_set, |rest, _| {
+        let later = table.all(0, rest);
+        table.either(not_set, later)
+    })
+}
+
+/// The lengths of a delay line.
+#[derive(Clone, Copy, Debug)]
+pub struct Delay {
+    /// Steps along role 0 from a signal's start to its end.
+    pub line: usize,
+    /// Steps along role 0 from a step without a signal to the place where one may start.
+    pub pause: usize,
+    /// Steps along role 1 that the end of a signal asks for.
+    pub tail: usize,
+}
+
+/// A thousand states and more in 4,096 edges.
+pub const THOUSAND_STATES: Delay = Delay { line: 11, pause: 6, tail: 36 };
+
+/// Each element has a successor along role 0, and now and then a second one in which a signal starts. A state's set tells
+/// where on the line signals are, so there are about as many states as ways to place them. The end of a signal asks for a tail
+/// of elements along role 1; if `forbid`, the tail's last element clashes. By then the states are all there and lead to each
+/// other, and "never" goes from one to the next through more than half of them.
+pub fn delay_line(delay: Delay, forbid: bool) -> Vec<u8> {
+    let (step, tail) = (0, 2);
+    let mut table = Table::default();
+    let (name, not_name) = (table.name(0), table.not_name(0));
+    let last = if forbid { not_name } else { name };
+    let end = (0..delay.tail).fold(last, |row, _| table.some(tail, row));
+    let signal = (0..delay.line).fold(end, |row, _| table.all(step, row));
+    let start = table.some(step, signal);
+    let pause = (0..delay.pause).fold(start, |row, _| table.all(step, row));
+    let next = table.some(step, pause);
+    encode(b"", &table.rows, &[next, name], name)
+}
+
+/// An element with so many successors along role 0, each of which asks for another name where it comes from. Each name is an
+/// alternative of every state that lacks it, so there is a state for each set of names.
+pub fn alternatives(names: u8) -> Vec<u8> {
+    let (forward, inverse) = (0, 1);
+    let mut table = Table::default();
+    let successors: Vec<u8> = (0..names)
+        .map(|name| {
+            let name = table.name(name);
+            let all = table.all(inverse, name);
+            table.some(forward, all)
+        })
+        .collect();
+    let wanted = successors.into_iter().reduce(|l, r| table.both(l, r)).expect("one name or more");
+    encode(b"", &table.rows, &[], wanted)
+}

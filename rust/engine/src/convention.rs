@@ -1,0 +1,55 @@
+//! The engine's call by the C convention, as in include/gumbyra.h. The only unsafe code.
+
+use crate::Areas;
+
+/// The numbers of an answer: verdict 1 for "can", 2 for "cannot", 0 with a refusal.
+#[repr(C)]
+#[derive(Debug)]
+pub struct Answer {
+    pub verdict: u32,
+    pub refusal: u32,
+    pub nodes: u32,
+    pub edges: u32,
+    pub alternatives: u32,
+    pub elements: u32,
+    pub links: u32,
+}
+
+extern "C" {
+    fn gumbyra_fit(
+        file: *const u8,
+        file_len: usize,
+        nodes: *mut u8,
+        nodes_len: usize,
+        edges: *mut u8,
+        edges_len: usize,
+        alternatives: *mut u8,
+        alternatives_len: usize,
+        elements: *mut u8,
+        elements_len: usize,
+        links: *mut u8,
+        links_len: usize,
+    ) -> Answer;
+}
+
+/// Calls the engine.
+pub fn call(file: &[u8], areas: &mut Areas) -> Answer {
+    // SAFETY: each pointer comes with the length of its slice. The slices are borrowed until the call ends, the areas alone,
+    // so no two overlap. The engine keeps no pointer and has no state of its own.
+    unsafe {
+        gumbyra_fit(
+            file.as_ptr(),
+            file.len(),
+            areas.nodes.as_mut_ptr(),
+            areas.nodes.len(),
+            areas.edges.as_mut_ptr(),
+            areas.edges.len(),
+            areas.alternatives.as_mut_ptr(),
+            areas.alternatives.len(),
+            areas.elements.as_mut_ptr(),
+            areas.elements.len(),
+            areas.links.as_mut_ptr(),
+            areas.links.len(),
+        )
+    }
+}

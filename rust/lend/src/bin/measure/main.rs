@@ -1,0 +1,83 @@
+//! `measure [ROUNDS]`: the engine's time over the plain Rust program's, per group of files, and how it grows with the nodes used.
+
+mod groups;
+mod timing;
+
+use groups::{groups, rising, Group, Subject};
+use plain::Lent;
+use timing::{least, times, Times};
+
+const ROUNDS: usize = 15;
+/// No group should be above this ratio.
+const AIM: f64 = 1.0;
+
+const NOTE: &str = "\
+Engine time over plain Rust time, in one run, by turns. No buffer is cleared before a run: the engine's areas hold what the run
+before left. It leaves its work areas zero, all of them, and that is in its time; so is the plain program's allocation in its own.
+Areas: what a program lends (1,024 nodes, 4,096 edges and alternatives; for a thousand states 4,096 of each), or just enough.
+Times are the least of all rounds, the mean of the group's files. ratio: engine over plain; rounds, files: its lowest and highest over them.
+";
+
+fn main() {
+    let rounds = std::env::args().nth(1).map_or(ROUNDS, |word| word.parse().expect("ROUNDS is a number"));
+    println!("{NOTE}\nrounds: {rounds}\n");
+    println!("{:<18} {:<12} files   engine µs    plain µs   ratio   rounds         files", "group", "areas");
+    let mut above = Vec::new();
+    for group in groups() {
+        let by_program = print_group(&group, "as a program", rounds, |_| group.lent);
+        let enough = print_group(&group, "just enough", rounds, |subject| subject.enough);
+        above.extend([by_program, enough].iter().any(|&ratio| ratio > AIM).then_some(group.name));
+    }
+    println!("\nabove {AIM:.1}: {}", if above.is_empty() { "none".to_string() } else { above.join(", ") });
+    println!("\nGrowth, in areas just enough. power: of the nodes, since the line before.");
+    println!(" nodes   engine µs  power    plain µs  power   ratio");
+    print_growth(rounds);
+}
+
+/// Prints a group's line and gives its ratio.
+fn print_group(group: &Group, areas: &str, rounds: usize, lent: impl Fn(&Subject) -> Lent) -> f64 {
+    let all: Vec<Times> = group.subjects.iter().map(|subject| times(subject, &lent(subject), rounds)).collect();
+    let by_round: Vec<f64> = (0..rounds).map(|round| ratio(&all, |times| times[round])).collect();
+    let by_file: Vec<f64> = all.iter().map(Times::ratio).collect();
+    let (files, ratio) = (all.len() as f64, ratio(&all, least));
+    let mean = |times: f64| times * 1e6 / files;
+    println!(
+        "{:<18} {areas:<12} {files:>5} {:>11.1} {:>11.1} {ratio:>7.2}   {:<12}   {}",
+        group.name,
+        mean(all.iter().map(|times| least(&times.engine)).sum()),
+        mean(all.iter().map(|times| least(&times.plain)).sum()),
+        spread(&by_round),
+        spread(&by_file)
+    );
+    ratio
+}
+
+/// Engine over plain of a whole group, with one time chosen of each file's rounds.
+fn ratio(all: &[Times], choose: impl Fn(&[f64]) -> f64) -> f64 {
+    let engine: f64 = all.iter().map(|times| choose(&times.engine)).sum();
+    let plain: f64 = all.iter().map(|times| choose(&times.plain)).sum();
+    engine / plain
+}
+
+/// The lowest and the highest.
+fn spread(values: &[f64]) -> String {
+    let (low, high) = values.iter().fold((f64::MAX, f64::MIN), |(low, high), &v| (low.min(v), high.max(v)));
+    format!("{low:.2}-{high:.2}")
+}
+
+fn print_growth(rounds: usize) {
+    let mut last: Option<[f64; 3]> = None;
+    for subject in rising() {
+        let times = times(&subject, &subject.enough, rounds);
+        let now = [subject.used.nodes as f64, least(&times.engine), least(&times.plain)];
+        let power = |of: usize| match last {
+            Some(last) => format!("{:.2}", (now[of] / last[of]).ln() / (now[0] / last[0]).ln()),
+            None => "-".to_string(),
+        };
+        let [nodes, engine, plain] = now;
+        let (engine, plain) = (engine * 1e6, plain * 1e6);
+        let (engine_power, plain_power) = (power(1), power(2));
+        println!("{nodes:>6} {engine:>11.1} {engine_power:>6} {plain:>11.1} {plain_power:>6} {:>7.2}", engine / plain);
+        last = Some(now);
+    }
+}
