@@ -1,7 +1,9 @@
--- The whole run of document 01, its known runs, and its example read back from its bytes.
+-- The whole run of document 01, its known runs, its example read back from its bytes, what the engine promises, and the answer as it is printed.
 pub mod Run
 pub mod Claim
 pub mod KnownRuns
 pub mod ExampleBytes
 pub mod ExampleBytesLaws
 pub mod Promise
+pub mod Printed
+pub mod PrintedLaws

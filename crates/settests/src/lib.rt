@@ -98,7 +98,10 @@ fn gather_row(rows: &[u8], s: RowSet, kind: u8, role: u8, k: usize, gathered: Ro
     requires { ⌜ Rows (now rows) × (k < rowCount (now rows)) ⌝ }
     ensures { λ r. ⌜ valueOf r ≡ insertAnswer (rowAnswer (tableOf (now (rows .entry))) (valueOf s) (leftAlong kind role) k) (valueOf gathered) ⌝ }
 {
-    if rowset::has(s, k) & ((kind_at(rows, k) == kind) & (role_at(rows, k) == role)) {
+    if !rowset::has(s, k) {
+        return gathered;
+    }
+    if (kind_at(rows, k) == kind) & (role_at(rows, k) == role) {
         return rowset::with(gathered, left_at(rows, k));
     }
     gathered
@@ -162,9 +165,12 @@ fn unfinished_row(rows: &[u8], s: RowSet, kind: u8, k: usize) -> Found
     requires { ⌜ Rows (now rows) × (k < rowCount (now rows)) ⌝ }
     ensures { λ r. ⌜ foundOf r ≡ rowAnswer (tableOf (now (rows .entry))) (valueOf s) (unfinishedOf kind (valueOf s)) k ⌝ }
 {
+    if !rowset::has(s, k) {
+        return Found::Nothing;
+    }
     let left = left_at(rows, k);
     let right = right_at(rows, k);
-    if rowset::has(s, k) & ((kind_at(rows, k) == kind) & !is_finished(s, kind, left, right)) {
+    if (kind_at(rows, k) == kind) & !is_finished(s, kind, left, right) {
         return Found::Rows(left, right);
     }
     Found::Nothing

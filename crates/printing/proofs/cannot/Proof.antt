@@ -1,0 +1,30 @@
+-- `printing::cannot` meets its contract: its two lines are those of the definition.
+-- Assumes nothing.
+use Rattle.answers.specs.Numbers.{numbersOf}
+use Rattle.printing.specs.PrintingLaws.{wrote-cannot}
+use borrow.Author.Needs.{needs}
+use Rattle.printing.proofs.cannot.Statement.{statement}
+use Rattle.printing.proofs.cannot.Tie as tie
+
+slice-aggregate-word : tie.Need-slice-aggregate-word
+slice-aggregate-word c = search needs
+
+word-requires : tie.Need-word-requires
+word-requires c κs = search needs
+
+used-line-requires : tie.Need-used-line-requires
+used-line-requires c κs = search needs
+
+same-length : tie.Need-same-length
+same-length c = search needs
+
+returns : tie.Need-returns
+returns c =
+    let at-used-line = c .before .before in
+    let at-word = at-used-line .before .before .before .before in
+    let start = at-word .before .before .before .before in
+    wrote-cannot (numbersOf (start .args .answer)) (at-word .word .ensures) (at-used-line .used-line .ensures)
+
+pub cannot-spec : {M : Type 1} → statement M
+cannot-spec =
+    tie.close (tie.spec slice-aggregate-word word-requires used-line-requires same-length returns)

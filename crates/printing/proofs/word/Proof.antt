@@ -1,0 +1,65 @@
+-- `printing::word` meets its contract: the invariant is that the first `i` bytes are written.
+-- Assumes nothing.
+use mathlib.Core.Path.{refl}
+use Prim.Native.Nat.{ℕ, _-_}
+use native.Mathlib.Omega.{arith}
+use lib.ListN.{length, take}
+use borrow.Author.Needs.{needs}
+use Rattle.printing.specs.Printing.{Pieces}
+use Rattle.printing.specs.PrintingLaws.{wrote-size, pieces-none, pieces-more, pieces-all, take-more, wrote-word}
+use Rattle.printing.proofs.word.Statement.{statement}
+use Rattle.printing.proofs.word.Tie as tie
+
+abbrev Inv-loop : tie.InvT-loop
+Inv-loop out₀ at w next₀ i₀ out next i = Pieces (λ (i : ℕ). take i w) 1 (length w) out₀ at out next i
+
+abbrev μ-loop : tie.MeasureT-loop
+μ-loop out₀ at w next₀ i₀ out next i = length w - i
+
+loop-holds : tie.Need-loop-holds Inv-loop μ-loop
+loop-holds c =
+    let a = c .before .before .args in
+    pieces-none (λ (i : ℕ). take i (a .w .now)) 1 (length (a .w .now)) (a .out .now) (a .at) refl
+
+shared-slice-read-put : tie.Need-shared-slice-read-put Inv-loop μ-loop
+shared-slice-read-put c = search needs
+
+put-requires : tie.Need-put-requires Inv-loop μ-loop
+put-requires c κs =
+    omega (arith, c .before .before .before .loop .inv .wrote .after, c .before .before .before .loop .inv .wrote .bounded)
+
+add-i : tie.Need-add-i Inv-loop μ-loop
+add-i c = omega arith
+
+loop-less : tie.Need-loop-less Inv-loop μ-loop
+loop-less c = omega arith
+
+loop-again : tie.Need-loop-again Inv-loop μ-loop
+loop-again c =
+    let l = c .before .before .before .before .before .before in
+    let w = l .before .before .before .args .w .now in
+    let here = c .before .before .before .before .before .loop-test .taken in
+    pieces-more (λ (i : ℕ). take i w) 1 (length w) (l .loop .inv) here (take-more w (l .loop .i) here) (c .before .before .put .ensures)
+
+same-length : tie.Need-same-length Inv-loop μ-loop
+same-length c = wrote-size (c .before .loop .inv .wrote)
+
+returns : tie.Need-returns Inv-loop μ-loop
+returns c =
+    let w = c .before .before .before .before .args .w .now in
+    wrote-word (pieces-all (λ (i : ℕ). take i w) 1 (length w) (c .before .loop .inv) (c .loop-test .left))
+
+pub word-spec : {M : Type 1} → statement M
+word-spec =
+    tie.close
+    (tie.spec
+    Inv-loop
+    μ-loop
+    loop-holds
+    shared-slice-read-put
+    put-requires
+    add-i
+    loop-less
+    loop-again
+    same-length
+    returns)
