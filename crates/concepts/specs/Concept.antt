@@ -1,4 +1,6 @@
 -- Concepts: the rows of a rule file, decoded (01, The rule file). A row is a concept whose arguments are numbers of lower rows.
+--
+-- In order: a concept; a table of them; the arguments and the role of one; well-formed tables.
 -- Assumes nothing.
 use mathlib.Core.Path.{_≡_}
 use mathlib.Core.List.{List, [], _∷_, List·Memᴰ}
@@ -29,6 +31,15 @@ arguments (conj l r) = l ∷ r ∷ []
 arguments (disj l r) = l ∷ r ∷ []
 arguments (univ ρ l) = l ∷ []
 arguments (exist ρ l) = l ∷ []
+
+-- the role that a row names, 0 if it names none
+unfoldable pub roleOf : Concept → ℕ
+roleOf (atomic a) = 0
+roleOf (negated a) = 0
+roleOf (conj l r) = 0
+roleOf (disj l r) = 0
+roleOf (univ ρ l) = ρ
+roleOf (exist ρ l) = ρ
 
 -- arguments are lower rows, so each row is settled by lower ones
 abbrev pub Ordered : Table → Type 0

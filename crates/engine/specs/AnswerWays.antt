@@ -8,22 +8,21 @@ use Prim.Native.Nat.{ℕ}
 use native.Mathlib.Omega.{arith}
 use lib.ListN.{length, replicate}
 use Rattle.concepts.specs.Concept.{Table}
-use Rattle.rulefile.specs.Format.{Bytes, RuleFile, Reading, refused, accepted, reading, contents}
+use Rattle.rulefile.specs.Format.{Bytes, ruleKinds, rowsPart, rules, wantedRows, RuleFile, refused, reading}
 use Rattle.rulefile.specs.CheckLaws.{accepted-contents}
-use Rattle.rulefile.specs.Read.{readOf}
+use Rattle.rulefile.specs.Read.{Laid}
 use Rattle.rulefile.specs.declared.Layout.{Layout}
-use Rattle.rulefile.specs.declared.Outcome.the-variants as Outcome
 use Rattle.procedure.specs.Tableau.{run}
 use Rattle.run.specs.Run.{Areas, lengths, capacity, Answer, answerResult, Numbers, refusedWith, numbers, answer, zeros, areasAfter}
 use Rattle.run.specs.Promise.{Promise}
 use Rattle.run.proofs.Verdict.{answer-accepted, answer-refused}
 use Rattle.run.proofs.Kept.{promise-kept}
-use Rattle.settests.specs.FileRows.{rowsPart, accepted-table}
+use Rattle.settests.specs.FileRows.{accepted-table}
 use Rattle.settests.specs.Rows.{tableOf}
 use Rattle.conclusion.specs.Contracts.{areasOf, Decides, Decided, DecideGives}
 use Rattle.conclusion.specs.declared.Decision.{Decision}
 use Rattle.conclusion.specs.declared.Decision.the-variants.{Short, Cannot, Can, TooLong}
-use Rattle.engine.specs.Contracts.{Laid, decidedNumbers, Answered}
+use Rattle.engine.specs.Contracts.{decidedNumbers, Answered}
 
 -- ---- the numbers of a decision
 
@@ -51,7 +50,7 @@ cleared (TooLong s) a before (x, h, z) = subst (λ (k : Answer). Cleared k befor
 
 -- ---- an accepted file
 
-module _ (b : Bytes) (l : Layout) (L : Laid b l) (n e a elements links : Bytes) (r t w : Bytes) (er : r ≡ rowsPart b) (et : t ≡ contents b .tbox) (ew : w ≡ contents b .wanted) where
+module _ (b : Bytes) (l : Layout) (L : Laid ruleKinds b l) (n e a elements links : Bytes) (r t w : Bytes) (er : r ≡ rowsPart b) (et : t ≡ rules b) (ew : w ≡ wantedRows b) where
   abbrev before : Areas
   before = areasOf n e a elements links
 
@@ -60,7 +59,7 @@ module _ (b : Bytes) (l : Layout) (L : Laid b l) (n e a elements links : Bytes) 
 
   answer-is : answerResult (lengths before) (tableOf r) (run (tableOf r) (capacity (lengths before)) t w) ≡ answer b (lengths before)
   answer-is =
-      let holds = accepted-contents b f (L .reads) in
+      let holds = accepted-contents ruleKinds b f (L .reads) in
       let p : tableOf r ≡ f .table = ap tableOf er ∙ accepted-table b f (L .reads) in
       let q : t ≡ f .tbox = et ∙ sym (ap (λ (k : RuleFile). k .tbox) holds) in
       let s : w ≡ f .wanted = ew ∙ sym (ap (λ (k : RuleFile). k .wanted) holds) in
@@ -83,24 +82,6 @@ module _ (b : Bytes) (l : Layout) (L : Laid b l) (n e a elements links : Bytes) 
           numbersAre = hk ∙ decided-numbers d (answer b (lengths before)) (given .decides);
           areasAre = λ i. record { nodes = pn i; edges = pe i; alternatives = pa i; elements = given .elementsAre i; links = given .linksAre i };
         }
-
--- ---- what the reader answered
-
-pub reads-refused : (b : Bytes) (n : ℕ) → Outcome.Refused n ≡ readOf (reading b) → reading b ≡ refused n
-unfolding readOf
-reads-refused b n = go (reading b)
-  where
-    go : (x : Reading) → Outcome.Refused n ≡ readOf x → x ≡ refused n
-    go (refused m) q = cc
-    go (accepted f) q = let z : _≡_ {A = ℕ} 0 1 = cc in absurd (omega arith)
-
-pub reads-accepted : (b : Bytes) (l : Layout) → Outcome.Accepted l ≡ readOf (reading b) → Laid b l
-unfolding readOf
-reads-accepted b l q = go (reading b) refl q
-  where
-    go : (x : Reading) → reading b ≡ x → Outcome.Accepted l ≡ readOf x → Laid b l
-    go (refused m) e h = let z : _≡_ {A = ℕ} 0 1 = cc in absurd (omega arith)
-    go (accepted f) e h = record { file = f; reads = e; layout = cc }
 
 -- ---- the promise
 

@@ -1,23 +1,15 @@
 -- What the functions of the engine's call ask and give; what the call itself promises is in run's Promise.
 --
--- In order: an accepted file with its layout; the numbers of a decision; the answer to an accepted file.
+-- In order: the numbers of a decision; the answer to an accepted file.
 -- Assumes nothing.
 use mathlib.Core.Path.{_≡_}
-use Rattle.rulefile.specs.Format.{Bytes, RuleFile, accepted, reading}
-use Rattle.rulefile.specs.Read.{layoutOf}
-use Rattle.rulefile.specs.declared.Layout.{Layout}
 use Prim.Native.Nat.{ℕ}
+use Rattle.rulefile.specs.Format.{Bytes}
 use Rattle.run.specs.Run.{Areas, lengths, Numbers, refusedWith, numbers, answer, areasAfter}
 use Rattle.records.specs.declared.Counts.{Counts}
 use Rattle.marks.specs.declared.Sizes.{Sizes}
 use Rattle.conclusion.specs.declared.Decision.{Decision}
 use Rattle.conclusion.specs.declared.Decision.the-variants.{Short, Cannot, Can, TooLong}
-
--- the file is accepted, and this is its layout
-pub record Laid (b : Bytes) (l : Layout) : Type 0 where
-  pub file : RuleFile
-  pub reads : reading b ≡ accepted file
-  pub layout : l ≡ layoutOf file
 
 -- ---- numbers
 

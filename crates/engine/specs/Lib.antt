@@ -1,4 +1,4 @@
--- The engine's call: what its functions ask and give (Contracts), the parts of a file (PartLaws), the answer (AnswerWays).
+-- The engine's call: what its functions give (Contracts), what the run relies on (PartLaws), the answer (AnswerWays).
 pub mod Contracts
 pub mod PartLaws
 pub mod AnswerWays

@@ -1,14 +1,15 @@
 // The engine's call (00, demands 1 to 3): a rule file and five lent areas in, the answer out, through the C convention too.
 //
-// In order: the answer's numbers; the parts of an accepted file; an accepted file; the call.
+// In order: the answer's numbers; an accepted file; the call; the text of a file.
 ghost use mathlib.Core.Path.{_≡_};
 ghost use Rattle.answers.specs.Numbers.{numbersOf};
-ghost use Rattle.rulefile.specs.Format.{contents};
+ghost use lib.ListN.{length, take};
+ghost use Rattle.rulefile.specs.Format.{ruleKinds, textOf};
+ghost use Rattle.rulefile.specs.Read.{Laid};
 ghost use Rattle.run.specs.Run.{refusedWith};
 ghost use Rattle.run.specs.Promise.{Promise};
 ghost use Rattle.conclusion.specs.Contracts.{areasOf, SmallCounts, SmallSizes, Small};
-ghost use Rattle.settests.specs.FileRows.{rowsPart};
-ghost use Rattle.engine.specs.Contracts.{Laid, verdictWith, tooLongWith, decidedNumbers, Answered};
+ghost use Rattle.engine.specs.Contracts.{verdictWith, tooLongWith, decidedNumbers, Answered};
 use answers::Answer;
 use conclusion::Decision;
 use conclusion::decide;
@@ -17,7 +18,12 @@ use records::Counts;
 use records::clear;
 use rulefile::Layout;
 use rulefile::Outcome;
+use rulefile::RULE_KINDS;
 use rulefile::read;
+use rulefile::rows_of;
+use rulefile::rules_of;
+use rulefile::text;
+use rulefile::wanted_of;
 
 // The numbers of a verdict.
 const CAN: u32 = 1;
@@ -28,11 +34,6 @@ const CANNOT: u32 = 2;
 const SHORT: u32 = 10;
 
 const TOO_LONG: u32 = 11;
-
-// "A row is four bytes"; the wanted row stands four bytes before the end of a file.
-const ROW: usize = 4;
-
-const WANTED: usize = 4;
 
 // A refusal: "Each gives its number and zeros elsewhere".
 fn refused(n: u32) -> Answer
@@ -101,36 +102,6 @@ fn answer_of(d: Decision) -> Answer
     }
 }
 
-// The rows of an accepted file.
-fn rows_of(file: &[u8], layout: Layout) -> &[u8]
-    requires { ⌜ Laid (now file) layout ⌝ }
-    ensures { λ r. ⌜ now r ≡ rowsPart (now (file .entry)) ⌝ }
-{
-    let from = layout.text;
-    let to = from + ROW * layout.rows;
-    &file[from..to]
-}
-
-// The rules of an accepted file, a list of row numbers.
-fn rules_of(file: &[u8], layout: Layout) -> &[u8]
-    requires { ⌜ Laid (now file) layout ⌝ }
-    ensures { λ r. ⌜ now r ≡ contents (now (file .entry)) .tbox ⌝ }
-{
-    let from = layout.text + ROW * layout.rows;
-    let to = from + layout.rules;
-    &file[from..to]
-}
-
-// The wanted rows of an accepted file: a list of one.
-fn wanted_of(file: &[u8], layout: Layout) -> &[u8]
-    requires { ⌜ Laid (now file) layout ⌝ }
-    ensures { λ r. ⌜ now r ≡ contents (now (file .entry)) .wanted ⌝ }
-{
-    let from = file.len() - WANTED;
-    let to = from + 1;
-    &file[from..to]
-}
-
 // Decides an accepted file; then "every byte of all three is zero".
 fn fit_accepted(
     file: &[u8],
@@ -141,7 +112,7 @@ fn fit_accepted(
     elements: &mut [u8],
     links: &mut [u8],
 ) -> Answer
-    requires { ⌜ Laid (now file) layout ⌝ }
+    requires { ⌜ Laid ruleKinds (now file) layout ⌝ }
     ensures { λ r. ⌜ Answered (now (file .entry)) (areasOf (now (nodes .entry)) (now (edges .entry)) (now (alternatives .entry)) (now (elements .entry)) (now (links .entry))) (numbersOf r) (areasOf (now (nodes .exit)) (now (edges .exit)) (now (alternatives .exit)) (now (elements .exit)) (now (links .exit))) ⌝ }
 {
     let rows = rows_of(file, layout);
@@ -175,7 +146,7 @@ pub extern "C" fn gumbyra_fit(
 ) -> Answer
     ensures { λ r. ⌜ Promise (now (file .entry)) (areasOf (now (nodes .entry)) (now (edges .entry)) (now (alternatives .entry)) (now (elements .entry)) (now (links .entry))) (numbersOf r) (areasOf (now (nodes .exit)) (now (edges .exit)) (now (alternatives .exit)) (now (elements .exit)) (now (links .exit))) ⌝ }
 {
-    match read(file) {
+    match read(file, RULE_KINDS) {
         Outcome::Refused(n) => refused(n as u32),
         Outcome::Accepted(layout) => fit_accepted(
             file,
@@ -187,4 +158,12 @@ pub extern "C" fn gumbyra_fit(
             links,
         ),
     }
+}
+
+// How much of the file is its text, which is the part before the rows: nothing of a refused file. The text is so many bytes at the start of the file.
+#[no_mangle]
+pub extern "C" fn gumbyra_text(file: &[u8]) -> usize
+    ensures { λ r. ⌜ (r ≡ length (textOf ruleKinds (now (file .entry)))) × (take r (now (file .entry)) ≡ textOf ruleKinds (now (file .entry))) ⌝ }
+{
+    text(file, RULE_KINDS).len()
 }

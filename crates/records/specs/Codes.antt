@@ -11,7 +11,7 @@ use Rattle.procedure.specs.Graph as G
 use Rattle.records.specs.declared.Status.{Status}
 use Rattle.records.specs.declared.Status.the-variants.{Unset, Open, Sat, Unsat, TooSmall}
 use Rattle.records.specs.declared.Link.{Link}
-use Rattle.records.specs.declared.Link.the-variants.{Unlinked, State, Lapsed}
+use Rattle.records.specs.declared.Link.the-variants.{None, State, Lapsed}
 
 -- ---- statuses
 
@@ -84,17 +84,17 @@ flagCode-small false = omega arith
 -- ---- links
 
 abbrev pub linkOf : Link → G.Link
-linkOf Unlinked = G.unlinked
+linkOf None = G.unlinked
 linkOf (State x) = G.toState x
 linkOf Lapsed = G.lapsed
 
 abbrev pub linkKind : Link → ℕ
-linkKind Unlinked = 0
+linkKind None = 0
 linkKind (State x) = 1
 linkKind Lapsed = 2
 
 abbrev pub linkNumber : Link → ℕ
-linkNumber Unlinked = 0
+linkNumber None = 0
 linkNumber (State x) = x
 linkNumber Lapsed = 0
 
@@ -104,7 +104,7 @@ linkIn (suc zero) x = G.toState x
 linkIn (suc (suc k)) x = G.lapsed
 
 pub link-back : (l : Link) → linkIn (linkKind l) (linkNumber l) ≡ linkOf l
-link-back Unlinked = refl
+link-back None = refl
 link-back (State x) = refl
 link-back Lapsed = refl
 
@@ -114,6 +114,6 @@ link-rest (suc zero) x a b = absurd (b refl)
 link-rest (suc (suc k)) x a b = refl
 
 pub linkKind-small : (l : Link) → linkKind l < 256
-linkKind-small Unlinked = omega arith
+linkKind-small None = omega arith
 linkKind-small (State x) = omega arith
 linkKind-small Lapsed = omega arith

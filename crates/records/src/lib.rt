@@ -28,7 +28,7 @@ pub enum Status {
 
 // "its link, which is none, a state or lapsed".
 pub enum Link {
-    Unlinked,
+    None,
     State(u16),
     Lapsed,
 }
@@ -136,7 +136,7 @@ fn link_kind(l: Link) -> u8
     ensures { λ r. ⌜ r ≡ Codes.linkKind l ⌝ }
 {
     match l {
-        Link::Unlinked => 0,
+        Link::None => 0,
         Link::State(_) => 1,
         Link::Lapsed => 2,
     }
@@ -147,7 +147,7 @@ fn link_number(l: Link) -> u16
     ensures { λ r. ⌜ r ≡ Codes.linkNumber l ⌝ }
 {
     match l {
-        Link::Unlinked => 0,
+        Link::None => 0,
         Link::State(x) => x,
         Link::Lapsed => 0,
     }
@@ -158,7 +158,7 @@ fn link_from(kind: u8, number: u16) -> Link
     ensures { λ r. ⌜ Codes.linkOf r ≡ Codes.linkIn kind number ⌝ }
 {
     match kind {
-        0 => Link::Unlinked,
+        0 => Link::None,
         1 => Link::State(number),
         _ => Link::Lapsed,
     }
@@ -206,18 +206,6 @@ pub fn store_node(nodes: &mut [u8], x: usize, n: Node)
     put1(nodes, at + 12, n.prl);
     put1(nodes, at + 13, link_kind(link));
     put2(nodes, at + 14, link_number(link));
-}
-
-// Edge i of the area.
-pub fn load_edge(edges: &[u8], i: usize) -> Edge
-    requires { ⌜ Fits 16 (now edges) i ⌝ }
-    ensures { λ r. ⌜ Records.edgeOf r ≡ Records.edgeIn (now (edges .entry)) i ⌝ }
-{
-    let at = PAIR * i;
-    Edge {
-        from: get2(edges, at),
-        to: get2(edges, at + 2),
-    }
 }
 
 // Writes d as edge i of the area.

@@ -1,8 +1,9 @@
-// The refusals of many files. Standard input holds cases, each a length of 2 bytes, low byte first, and as many bytes of a rule file;
-// for each the program writes one line: the number of the refusal, 1 to 9, or `ok`. tests/refusals.py makes stdin and stdout.
+// The reader over many files. Standard input holds cases, each a length of 2 bytes, low byte first, and as many bytes of a rule file; for each the program
+// writes one line: the number of the refusal, 1 to 9, or `ok`; the length of the text; the sum of the text's bytes. tests/refusals.py makes stdin and stdout.
 use libc::STDIN_FILENO;
 use libc::STDOUT_FILENO;
 use rulefile::Outcome;
+use rulefile::RULE_KINDS;
 
 // Room for one file, above the 4,096 bytes that may pass.
 const ROOM: usize = 8192;
@@ -10,17 +11,43 @@ const ROOM: usize = 8192;
 // More cases than any input holds: the loop over them ends.
 const MOST_CASES: u32 = 1000000;
 
-// Writes the line of one file.
-fn answer(file: &[u8]) {
-    match rulefile::read(file) {
+// A byte as a wider number.
+fn wide(byte: u8) -> u16 {
+    byte as u16
+}
+
+// The sum of some bytes, modulo 65,536.
+fn sum(bytes: &[u8]) -> u16 {
+    let mut total: u16 = 0;
+    let mut i = 0;
+    while i < bytes.len() {
+        total = std::num::wrapping_add_u16(total, wide(bytes[i]));
+        i += 1;
+    }
+    total
+}
+
+// Writes the refusal of one file, or that it is accepted.
+fn show_refusal(file: &[u8]) {
+    match rulefile::read(file, RULE_KINDS) {
         Outcome::Refused(n) => {
             io::print_decimal(STDOUT_FILENO, n as u64);
-            io::write_all(STDOUT_FILENO, b"\n");
         }
         Outcome::Accepted(_) => {
-            io::write_all(STDOUT_FILENO, b"ok\n");
+            io::write_all(STDOUT_FILENO, b"ok");
         }
     }
+}
+
+// Writes the line of one file.
+fn answer(file: &[u8]) {
+    show_refusal(file);
+    let text = rulefile::text(file, RULE_KINDS);
+    io::write_all(STDOUT_FILENO, b" ");
+    io::print_decimal(STDOUT_FILENO, text.len() as u64);
+    io::write_all(STDOUT_FILENO, b" ");
+    io::print_decimal(STDOUT_FILENO, sum(text) as u64);
+    io::write_all(STDOUT_FILENO, b"\n");
 }
 
 // A number of two bytes.

@@ -67,7 +67,7 @@ pub fn run(
         is_state: true,
         pst: 0,
         prl: 0,
-        link: Link::Unlinked,
+        link: Link::None,
     };
     match add_node(nodes, none, root) {
         Step::Full(area) => Step::Full(area),

@@ -63,13 +63,6 @@ pub fn meets(a: RowSet, b: RowSet) -> bool
     a.bits & b.bits != 0
 }
 
-// Whether the sets have the same rows.
-pub fn same(a: RowSet, b: RowSet) -> bool
-    ensures { λ r. ⌜ r ≡ eqb (valueOf a) (valueOf b) ⌝ }
-{
-    a.bits == b.bits
-}
-
 // Whether the set has no rows.
 pub fn is_empty(s: RowSet) -> bool
     ensures { λ r. ⌜ r ≡ eqb (valueOf s) Set.empty ⌝ }

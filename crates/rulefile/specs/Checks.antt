@@ -1,29 +1,29 @@
--- The checks by their numbers, and what the first of them give (01, Refusals, in checking order).
+-- The checks by their places in the list, and what the first of them give (01, Refusals, in checking order).
 --
--- In order: check n; a file that passed the checks below n; where the parts of such a file stand.
--- The laws are in FormatLaws.
+-- In order: the check at a place; a file that passed the checks before a place; where the parts of such a file stand.
+-- A check's number, which a refusal gives, is another thing than its place: `Format.checks` has both. The laws are in CheckLaws.
 -- Assumes nothing.
 use mathlib.Core.Path.{_≡_}
 use mathlib.Core.Bool.{Bool, false}
-use mathlib.Core.List.{_∷_}
 use Prim.Native.Nat.{ℕ, _+_, _*_, _≤_, _<_}
 use lib.ListN.{length, getD}
 use Rattle.concepts.specs.Lists.{NoneBelow}
-use Rattle.rulefile.specs.Format.{Bytes, firstRow, rowCount, ruleCount, Check, checks}
+use Rattle.rulefile.specs.Format.{Bytes, Kinds, firstRow, rowCount, ruleCount, Check, checks}
 
--- there is no check 0 and none above 9: such a number refuses nothing
+-- past the end of the list nothing is refused
 abbrev pub noCheck : Check
 noCheck = record { number = 0; refuses = λ b. false }
 
-abbrev pub checkAt : ℕ → Check
-checkAt n = getD (noCheck ∷ checks) n noCheck
+-- places count from 0
+abbrev pub checkAt : Kinds → ℕ → Check
+checkAt kinds i = getD (checks kinds) i noCheck
 
-abbrev pub refusesAt : Bytes → ℕ → Bool
-refusesAt b n = checkAt n .refuses b
+abbrev pub refusesAt : Kinds → Bytes → ℕ → Bool
+refusesAt kinds b i = checkAt kinds i .refuses b
 
--- no check below n refuses the file
-abbrev pub Passed : Bytes → ℕ → Type 0
-Passed b n = NoneBelow (refusesAt b) n
+-- none of the first i checks refuses the file
+abbrev pub Passed : Kinds → Bytes → ℕ → Type 0
+Passed kinds b i = NoneBelow (refusesAt kinds b) i
 
 -- "text, rows, rule list, trailer": the parts fill the file. What checks 1 to 4 give
 pub record Parted (b : Bytes) : Type 0 where

@@ -1,15 +1,17 @@
 -- The rule file (01, The rule file; Refusals, in checking order).
 --
--- In order: where the parts of a file stand; a row's bytes and its concept; the checks 1 to 9; what a file holds; reading.
+-- In order: where the parts of a file stand; the kinds of rows that are allowed; a row's bytes and its concept; the checks 1 to 9; what a file holds; reading.
 -- A file is a list of bytes, numbers below 256. Places past its end read as 0.
+-- Which kinds are allowed is a parameter of all that looks at rows; a rule file is read with `ruleKinds`.
 -- Assumes nothing.
 use mathlib.Core.Bool.{Bool, true, false, not, _&&_, _||_, cond}
 use mathlib.Core.List.{List, [], _∷_, map}
 use mathlib.Core.Option.{Option, none, some}
 use Prim.Native.Nat.{ℕ, _+_, _-_, _*_}
 use lib.Dec.{eqb, ltb, leb}
-use lib.ListN.{length, getD, take}
+use lib.ListN.{length, getD, take, drop}
 use Rattle.concepts.specs.Lists.{range, any, first}
+use Rattle.concepts.specs.RowSet.{mem}
 use Rattle.concepts.specs.Concept.{Concept, atomic, negated, conj, disj, univ, exist, Table, arguments}
 
 abbrev pub Bytes : Type 0
@@ -42,33 +44,57 @@ rowByte b k i = getD b (firstRow b + 4 * k + i) 0
 abbrev pub rule : Bytes → ℕ → ℕ
 rule b i = getD b (firstRow b + 4 * rowCount b + i) 0
 
+-- the rules: row numbers, "repeats are allowed"
+abbrev pub rules : Bytes → List ℕ
+rules b = map (rule b) (range 0 (ruleCount b))
+
+-- the wanted rows: of a file, one
+abbrev pub wantedRows : Bytes → List ℕ
+wantedRows b = wantedRow b ∷ []
+
+-- the part of the file that has the rows
+abbrev pub rowsPart : Bytes → Bytes
+rowsPart b = take (4 * rowCount b) (drop (firstRow b) b)
+
+-- ---- the kinds that are allowed
+
+-- a set of kinds, kind n as bit n
+abbrev pub Kinds : Type 0
+Kinds = ℕ
+
+-- the kinds of a rule file: 1 to 6
+abbrev pub ruleKinds : Kinds
+ruleKinds = 126
+
 -- ---- a row, by its kind
 
--- a kind outside 1 to 6, a non-zero unused byte, a role above 31 or a name above 63
-unfoldable pub malformed : ℕ → ℕ → ℕ → ℕ → Bool
-malformed kind role left right =
-    cond (eqb kind 1 || eqb kind 2) (not (eqb role 0) || (not (eqb right 0) || ltb 63 left))
-    (cond (eqb kind 3 || eqb kind 4) (not (eqb role 0))
-    (cond (eqb kind 5 || eqb kind 6) (not (eqb right 0) || ltb 31 role)
-    true))
+-- the concept, if its bytes pass a test
+abbrev pub only : Bool → Concept → Option Concept
+only test c = cond test (some c) none
 
-unfoldable pub conceptOf : ℕ → ℕ → ℕ → ℕ → Concept
-conceptOf kind role left right =
-    cond (eqb kind 1) (atomic left)
-    (cond (eqb kind 2) (negated left)
-    (cond (eqb kind 3) (conj left right)
-    (cond (eqb kind 4) (disj left right)
-    (cond (eqb kind 5) (univ role left)
-    (exist role left)))))
+-- the concept of four bytes by their kind: none for a kind outside 1 to 6, "a non-zero unused byte, a role above 31 or a name above 63"
+unfoldable pub ofKind : ℕ → ℕ → ℕ → ℕ → Option Concept
+ofKind kind role left right =
+    cond (eqb kind 1) (only (eqb role 0 && (eqb right 0 && leb left 63)) (atomic left))
+    (cond (eqb kind 2) (only (eqb role 0 && (eqb right 0 && leb left 63)) (negated left))
+    (cond (eqb kind 3) (only (eqb role 0) (conj left right))
+    (cond (eqb kind 4) (only (eqb role 0) (disj left right))
+    (cond (eqb kind 5) (only (eqb right 0 && leb role 31) (univ role left))
+    (cond (eqb kind 6) (only (eqb right 0 && leb role 31) (exist role left))
+    none)))))
 
-abbrev pub conceptIn : Bytes → ℕ → Concept
-conceptIn b k = conceptOf (rowByte b k 0) (rowByte b k 1) (rowByte b k 2) (rowByte b k 3)
+-- the one decoding of a row: none if its kind is not allowed or its bytes are not as the kind uses them
+unfoldable pub decode : Kinds → ℕ → ℕ → ℕ → ℕ → Option Concept
+decode kinds kind role left right = cond (mem kind kinds) (ofKind kind role left right) none
+
+abbrev pub malformed : Kinds → ℕ → ℕ → ℕ → ℕ → Bool
+malformed kinds kind role left right = elim (decode kinds kind role left right) [ some c ↦ false | none ↦ true ]
+
+-- a malformed row stands for a name; no accepted file has one
+abbrev pub conceptOf : Kinds → ℕ → ℕ → ℕ → ℕ → Concept
+conceptOf kinds kind role left right = elim (decode kinds kind role left right) [ some c ↦ c | none ↦ atomic 0 ]
 
 -- ---- the checks, each over all rows
-
--- some row fails a test
-abbrev pub someRow : Bytes → (ℕ → Bool) → Bool
-someRow b test = any test (range 0 (rowCount b))
 
 unfoldable pub badLength : Bytes → Bool
 badLength b = ltb (length b) 8 || ltb 4096 (length b)
@@ -82,12 +108,20 @@ badCounts b = eqb (rowCount b) 0 || (ltb 64 (rowCount b) || ltb 64 (ruleCount b)
 unfoldable pub badPlace : Bytes → Bool
 badPlace b = not (eqb (firstRow b + 4 * rowCount b + ruleCount b + 8) (length b))
 
-unfoldable pub badRow : Bytes → ℕ → Bool
-badRow b k = malformed (rowByte b k 0) (rowByte b k 1) (rowByte b k 2) (rowByte b k 3)
+-- some row fails a test
+abbrev pub someRow : Bytes → (ℕ → Bool) → Bool
+someRow b test = any test (range 0 (rowCount b))
+
+-- row k, decoded
+abbrev pub conceptIn : Kinds → Bytes → ℕ → Concept
+conceptIn kinds b k = conceptOf kinds (rowByte b k 0) (rowByte b k 1) (rowByte b k 2) (rowByte b k 3)
+
+unfoldable pub badRow : Kinds → Bytes → ℕ → Bool
+badRow kinds b k = malformed kinds (rowByte b k 0) (rowByte b k 1) (rowByte b k 2) (rowByte b k 3)
 
 -- "A row names an argument row that isn't lower than itself"
-unfoldable pub badArgument : Bytes → ℕ → Bool
-badArgument b k = any (λ l. leb k l) (arguments (conceptIn b k))
+unfoldable pub badArgument : Kinds → Bytes → ℕ → Bool
+badArgument kinds b k = any (λ l. leb k l) (arguments (conceptIn kinds b k))
 
 unfoldable pub sameRow : Bytes → ℕ → ℕ → Bool
 sameRow b j k =
@@ -104,42 +138,43 @@ badRule b = any (λ i. leb (rowCount b) (rule b i)) (range 0 (ruleCount b)) || l
 unfoldable pub isName : Bytes → ℕ → Bool
 isName b k = eqb (rowByte b k 0) 1 || eqb (rowByte b k 0) 2
 
+-- the refusal that a check gives, and which files it refuses
 pub record Check : Type 0 where
   pub number : ℕ
   pub refuses : Bytes → Bool
 
 -- in checking order
-unfoldable pub checks : List Check
-checks =
+unfoldable pub checks : Kinds → List Check
+checks kinds =
     record { number = 1; refuses = badLength }
     ∷ record { number = 2; refuses = badMark }
     ∷ record { number = 3; refuses = badCounts }
     ∷ record { number = 4; refuses = badPlace }
-    ∷ record { number = 5; refuses = λ b. someRow b (badRow b) }
-    ∷ record { number = 6; refuses = λ b. someRow b (badArgument b) }
+    ∷ record { number = 5; refuses = λ b. someRow b (badRow kinds b) }
+    ∷ record { number = 6; refuses = λ b. someRow b (badArgument kinds b) }
     ∷ record { number = 7; refuses = λ b. someRow b (repeated b) }
     ∷ record { number = 8; refuses = badRule }
     ∷ record { number = 9; refuses = λ b. not (someRow b (isName b)) }
     ∷ []
 
 -- the number of the first check that refuses the file
-unfoldable pub refusal : Bytes → Option ℕ
-refusal b = first (λ c. elim (c .refuses b) [ true ↦ some (c .number) | false ↦ none ]) checks
+unfoldable pub refusal : Kinds → Bytes → Option ℕ
+refusal kinds b = first (λ c. elim (c .refuses b) [ true ↦ some (c .number) | false ↦ none ]) (checks kinds)
 
 -- ---- what a file holds
 
 pub record RuleFile : Type 0 where
   pub text : Bytes  -- "The text before the rows"
   pub table : Table  -- the rows
-  pub tbox : List ℕ  -- the rules: row numbers, repeats allowed
-  pub wanted : List ℕ  -- the wanted rows: of a file, one
+  pub tbox : List ℕ  -- the rules
+  pub wanted : List ℕ  -- the wanted rows
 
-abbrev pub contents : Bytes → RuleFile
-contents b = record {
+abbrev pub contents : Kinds → Bytes → RuleFile
+contents kinds b = record {
   text = take (firstRow b) b;
-  table = map (conceptIn b) (range 0 (rowCount b));
-  tbox = map (rule b) (range 0 (ruleCount b));
-  wanted = wantedRow b ∷ [];
+  table = map (conceptIn kinds b) (range 0 (rowCount b));
+  tbox = rules b;
+  wanted = wantedRows b;
 }
 
 -- ---- reading
@@ -149,9 +184,13 @@ pub data Reading : Type 0 where
   accepted : RuleFile → Reading
 
 -- "A file is accepted if no file check refuses it"
-unfoldable pub reading : Bytes → Reading
-reading b = elim (refusal b) [ some n ↦ refused n | none ↦ accepted (contents b) ]
+unfoldable pub readingOf : Kinds → Bytes → Reading
+readingOf kinds b = elim (refusal kinds b) [ some n ↦ refused n | none ↦ accepted (contents kinds b) ]
+
+-- a rule file
+abbrev pub reading : Bytes → Reading
+reading b = readingOf ruleKinds b
 
 -- "handed back as that part of the file .. of a refused file 1 to 9, the empty part at its start"
-unfoldable pub textOf : Bytes → Bytes
-textOf b = elim (reading b) [ refused n ↦ [] | accepted f ↦ f .text ]
+unfoldable pub textOf : Kinds → Bytes → Bytes
+textOf kinds b = elim (readingOf kinds b) [ refused n ↦ [] | accepted f ↦ f .text ]

@@ -2,6 +2,8 @@
 pub mod Format
 pub mod Checks
 pub mod Read
+pub mod DecodeLaws
 pub mod CheckLaws
 pub mod FormatLaws
 pub mod ReadLaws
+pub mod PartLaws

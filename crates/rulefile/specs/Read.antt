@@ -1,18 +1,25 @@
 -- What the reader answers, and what its checks 5 to 9 look for in each row or rule.
 --
--- In order: the answer to a reading; the length of the text in an answer; the findings of checks 5 to 9.
+-- In order: the answer to a reading; where a part of a file starts; a file with its layout; the rows that a row names; the findings of checks 5 to 9.
 -- Assumes nothing.
-use mathlib.Core.Bool.{Bool, false, _||_, cond}
-use Prim.Native.Nat.{ℕ}
-use lib.Dec.{eqb, leb}
+use mathlib.Core.Path.{_≡_}
+use mathlib.Core.Bool.{Bool, true, false}
+use mathlib.Core.List.{List, [], _∷_}
+use mathlib.Core.Option.{Option, none, some}
+use Prim.Native.Nat.{ℕ, _+_}
+use lib.Dec.{leb}
 use lib.ListN.{length, getD}
 use Rattle.concepts.specs.Lists.{range, any}
+use Rattle.concepts.specs.Concept.{arguments}
 use Rattle.rulefile.specs.declared.Layout.{Layout}
 use Rattle.rulefile.specs.declared.Outcome.{Outcome}
 use Rattle.rulefile.specs.declared.Outcome.the-variants.{Refused, Accepted}
+use Rattle.rulefile.specs.declared.Row.{Row}
+use Rattle.rulefile.specs.declared.Row.the-variants as Row
 use Rattle.rulefile.specs.declared.Finding.{Finding}
 use Rattle.rulefile.specs.declared.Finding.the-variants.{Malformed, Argument, Repeated, Rule, Name}
-use Rattle.rulefile.specs.Format.{Bytes, rowCount, ruleCount, rule, badRow, badArgument, repeated, isName, RuleFile, Reading, refused, accepted}
+use Rattle.rulefile.specs.Format.{Bytes, Kinds, firstRow, rowCount, ruleCount, wantedRow, rule, decode, badRow, badArgument, repeated, isName, RuleFile, Reading, refused, accepted, readingOf}
+use Rattle.rulefile.specs.Checks.{Parted}
 
 -- how long each part of a file is, and which row is wanted
 abbrev pub layoutOf : RuleFile → Layout
@@ -23,17 +30,46 @@ unfoldable pub readOf : Reading → Outcome
 readOf (refused n) = Refused n
 readOf (accepted f) = Accepted (layoutOf f)
 
--- the length of the part that is handed back
-unfoldable pub textLength : Outcome → ℕ
-textLength (Refused n) = 0
-textLength (Accepted l) = l .text
+-- where a part of the file starts, so many bytes into the file: a place is a block and an offset
+abbrev pub Starts : ℕ × ℕ → ℕ × ℕ → ℕ → Type 0
+Starts part file from = (part .0 ≡ file .0) × (part .1 ≡ file .1 + from)
+
+-- ---- a file with its layout
+
+-- where the parts fill the file, the layout is what the trailer says
+abbrev pub trailerLayout : Bytes → Layout
+trailerLayout b = record { text = firstRow b; rows = rowCount b; rules = ruleCount b; wanted = wantedRow b }
+
+pub record Placed (b : Bytes) (l : Layout) : Type 0 where
+  pub parts : Parted b
+  pub layout : l ≡ trailerLayout b
+
+-- the file is accepted, and this is its layout
+pub record Laid (kinds : Kinds) (b : Bytes) (l : Layout) : Type 0 where
+  pub file : RuleFile
+  pub reads : readingOf kinds b ≡ accepted file
+  pub layout : l ≡ layoutOf file
+
+-- ---- the rows that a row names
+
+-- none if the bytes are malformed
+abbrev pub namedRows : Kinds → ℕ → ℕ → ℕ → ℕ → Option (List ℕ)
+namedRows kinds kind role left right = elim (decode kinds kind role left right) [ some c ↦ some (arguments c) | none ↦ none ]
+
+abbrev pub isMalformed : Option (List ℕ) → Bool
+isMalformed o = elim o [ some ls ↦ false | none ↦ true ]
+
+abbrev pub rowsOf : Option (List ℕ) → List ℕ
+rowsOf o = elim o [ some ls ↦ ls | none ↦ [] ]
+
+-- what the decoded row says
+abbrev pub namedBy : Row → Option (List ℕ)
+namedBy Row.Malformed = none
+namedBy Row.Literal = some []
+namedBy (Row.Modal l) = some (l ∷ [])
+namedBy (Row.Binary l r) = some (l ∷ r ∷ [])
 
 -- ---- what checks 5 to 9 look for
-
--- some argument row of row k isn't lower than k: names have none, "both" and "either" have two, "all" and "some" have one
-unfoldable pub unordered : ℕ → ℕ → ℕ → ℕ → Bool
-unordered k kind left right =
-    cond (eqb kind 1 || eqb kind 2) false (cond (eqb kind 3 || eqb kind 4) (leb k left || leb k right) (leb k left))
 
 -- how many rows or rules are searched
 unfoldable pub extent : Finding → Bytes → ℕ
@@ -44,12 +80,12 @@ extent Rule b = ruleCount b
 extent Name b = rowCount b
 
 -- whether row or rule i is a finding
-unfoldable pub foundAt : Finding → Bytes → ℕ → Bool
-foundAt Malformed b i = badRow b i
-foundAt Argument b i = badArgument b i
-foundAt Repeated b i = repeated b i
-foundAt Rule b i = leb (rowCount b) (rule b i)
-foundAt Name b i = isName b i
+unfoldable pub foundAt : Kinds → Finding → Bytes → ℕ → Bool
+foundAt kinds Malformed b i = badRow kinds b i
+foundAt kinds Argument b i = badArgument kinds b i
+foundAt kinds Repeated b i = repeated b i
+foundAt kinds Rule b i = leb (rowCount b) (rule b i)
+foundAt kinds Name b i = isName b i
 
-abbrev pub found : Finding → Bytes → Bool
-found x b = any (foundAt x b) (range 0 (extent x b))
+abbrev pub found : Kinds → Finding → Bytes → Bool
+found kinds x b = any (foundAt kinds x b) (range 0 (extent x b))

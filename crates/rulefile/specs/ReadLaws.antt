@@ -9,39 +9,38 @@ use lib.ListN.{length, take}
 use lib.Seq.{length-take-le}
 use Rattle.concepts.specs.Lists.{range}
 use Rattle.concepts.specs.ListLaws.{length-map-range, take-length-take}
-use Rattle.rulefile.specs.Format.{Bytes, firstRow, rowCount, ruleCount, wantedRow, conceptIn, rule, refusal, contents, Reading, refused, accepted, reading, textOf}
+use Rattle.rulefile.specs.Format.{Bytes, Kinds, firstRow, rowCount, ruleCount, conceptIn, rule, refusal, RuleFile, contents, Reading, refused, accepted, readingOf, textOf}
 use Rattle.rulefile.specs.Checks.{Parted}
-use Rattle.rulefile.specs.Read.{layoutOf, readOf, textLength}
+use Rattle.rulefile.specs.Read.{layoutOf, trailerLayout}
 
--- ---- the layout
+module _ (kinds : Kinds) (b : Bytes) where
+  -- ---- the layout
 
--- where the parts fill the file, the layout is what the trailer says
-pub layout-trailer : (b : Bytes) → Parted b
-    → layoutOf (contents b) ≡ record { text = firstRow b; rows = rowCount b; rules = ruleCount b; wanted = wantedRow b }
-layout-trailer b p =
-    let text : length (take (firstRow b) b) ≡ firstRow b = length-take-le (firstRow b) b (omega (arith, p .parts)) in
-    let rows : length (map (conceptIn b) (range 0 (rowCount b))) ≡ rowCount b = length-map-range (conceptIn b) 0 (rowCount b) in
-    let rules : length (map (rule b) (range 0 (ruleCount b))) ≡ ruleCount b = length-map-range (rule b) 0 (ruleCount b) in
-    rw (text, rows, rules)
+  pub layout-trailer : Parted b → layoutOf (contents kinds b) ≡ trailerLayout b
+  layout-trailer p =
+      let text : length (take (firstRow b) b) ≡ firstRow b = length-take-le (firstRow b) b (omega (arith, p .parts)) in
+      let rows : length (map (conceptIn kinds b) (range 0 (rowCount b))) ≡ rowCount b = length-map-range (conceptIn kinds b) 0 (rowCount b) in
+      let rules : length (map (rule b) (range 0 (ruleCount b))) ≡ ruleCount b = length-map-range (rule b) 0 (ruleCount b) in
+      rw (text, rows, rules)
 
--- ---- the text
+  -- ---- the text
 
-pub textLength-textOf : (b : Bytes) → textLength (readOf (reading b)) ≡ length (textOf b)
-unfolding textOf
-textLength-textOf b = of (reading b)
-  where
-    of : (r : Reading) → textLength (readOf r) ≡ length {A = ℕ} (elim r [ refused n ↦ [] | accepted f ↦ f .text ])
-    of (refused n) = unfold textLength readOf in refl
-    of (accepted f) = unfold textLength readOf in refl
+  pub text-refused : (n : ℕ) → readingOf kinds b ≡ refused n → textOf kinds b ≡ []
+  unfolding textOf
+  text-refused n e = rw (e, textOf)
 
--- the text is a leading part of the file
-pub take-textOf : (b : Bytes) → take (length (textOf b)) b ≡ textOf b
-unfolding textOf reading
-take-textOf b = of (refusal b)
-  where
-    text : Option ℕ → Bytes
-    text o = elim (elim o as (λ x. Reading) [ some n ↦ refused n | none ↦ accepted (contents b) ]) [ refused n ↦ [] | accepted f ↦ f .text ]
+  pub text-accepted : (f : RuleFile) → readingOf kinds b ≡ accepted f → textOf kinds b ≡ f .text
+  unfolding textOf
+  text-accepted f e = rw (e, textOf)
 
-    of : (o : Option ℕ) → take (length (text o)) b ≡ text o
-    of (some n) = refl
-    of none = take-length-take (firstRow b) b
+  -- the text is a leading part of the file
+  pub take-textOf : take (length (textOf kinds b)) b ≡ textOf kinds b
+  unfolding textOf readingOf
+  take-textOf = of (refusal kinds b)
+    where
+      text : Option ℕ → Bytes
+      text o = elim (elim o as (λ x. Reading) [ some n ↦ refused n | none ↦ accepted (contents kinds b) ]) [ refused n ↦ [] | accepted f ↦ f .text ]
+
+      of : (o : Option ℕ) → take (length (text o)) b ≡ text o
+      of (some n) = refl
+      of none = take-length-take (firstRow b) b

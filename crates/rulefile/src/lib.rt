@@ -1,13 +1,19 @@
 // The reader of rule files (01, The rule file; Refusals, in checking order).
 //
-// In order: the answer; the bounds; the trailer, a row's bytes and a rule; checks 1 to 4; what checks 5 to 9 look for in a row or rule;
-// the search for it; check by check; the reader.
+// In order: the answer; the bounds; the trailer, a row's bytes and a rule; checks 1 to 4; a row, decoded; what checks 5 to 9 look for
+// in a row or rule; the search for it; check by check; the reader; the parts of an accepted file.
+// Which kinds of rows are allowed is a parameter, `kinds`: kind n as bit n. A rule file is read with RULE_KINDS.
 ghost use mathlib.Core.Path.{_≡_};
-ghost use Prim.Native.Nat.{_+_, _*_, _≤_, _<_};
-ghost use lib.ListN.{length};
+ghost use mathlib.Core.Bool.{cond};
+ghost use mathlib.Core.Option.{none};
+ghost use Prim.Native.Nat.{_+_, _-_, _*_, _≤_, _<_};
+ghost use lib.Dec.{leb};
+ghost use lib.ListN.{length, take, drop};
+ghost use Rattle.concepts.specs.Lists.{any};
+ghost use Rattle.concepts.specs.RowSet.{mem};
 ghost use Rattle.rulefile.specs.Format as Format;
-ghost use Rattle.rulefile.specs.Checks.{Parted, Passed, refusesAt};
-ghost use Rattle.rulefile.specs.Read.{readOf, layoutOf, textLength, unordered, extent, foundAt, found};
+ghost use Rattle.rulefile.specs.Checks.{Parted, Passed, checkAt, refusesAt};
+ghost use Rattle.rulefile.specs.Read.{readOf, trailerLayout, Starts, Placed, namedRows, namedBy, isMalformed, rowsOf, extent, foundAt, found};
 
 // The length of the text, which is the place of the first row, the numbers of rows and rules, and the wanted row.
 pub struct Layout {
@@ -21,6 +27,14 @@ pub struct Layout {
 pub enum Outcome {
     Refused(u8),
     Accepted(Layout),
+}
+
+// The rows that a row names, by what its kind uses: a name, a role and a row, two rows.
+enum Row {
+    Malformed,
+    Literal,
+    Modal(u8),
+    Binary(u8, u8),
 }
 
 // What check 5, 6, 7, 8 and 9 looks for in each row or rule.
@@ -49,8 +63,16 @@ const LAST_NAME: u8 = 63;
 
 const LAST_ROLE: u8 = 31;
 
-// The last check of a file.
-const LAST_CHECK: u8 = 9;
+// The kinds of a rule file, 1 to 6.
+pub const RULE_KINDS: u16 = 126;
+
+// The refusals of the checks, in checking order.
+const CHECKS: usize = 9;
+
+const NUMBERS: [u8; CHECKS] = [1, 2, 3, 4, 5, 6, 7, 8, 9];
+
+// The wanted row stands four bytes before the end of a file.
+const WANTED: usize = 4;
 
 // Byte i of the trailer.
 fn trailer_byte(file: &[u8], i: usize) -> u8
@@ -142,28 +164,49 @@ fn bad_place(file: &[u8]) -> bool
         != file.len()
 }
 
-// Whether a row's bytes are a kind outside 1 to 6, a non-zero unused byte, a role above 31 or a name above 63.
-fn malformed(kind: u8, role: u8, left: u8, right: u8) -> bool
-    ensures { λ r. ⌜ r ≡ Format.malformed kind role left right ⌝ }
+// Whether a kind is allowed.
+fn allowed(kinds: u16, kind: u8) -> bool
+    ensures { λ r. ⌜ r ≡ mem kind kinds ⌝ }
 {
-    if (kind == 1) | (kind == 2) {
-        return (role != 0) | ((right != 0) | (LAST_NAME < left));
+    if kind < 16 {
+        return (kinds >> kind) % 2 == 1;
     }
-    if (kind == 3) | (kind == 4) {
-        return role != 0;
-    }
-    if (kind == 5) | (kind == 6) {
-        return (right != 0) | (LAST_ROLE < role);
-    }
-    true
+    false
 }
 
-// Whether row k is malformed.
-fn bad_row(file: &[u8], k: usize) -> bool
-    requires { ⌜ Parted (now file) × (k < Format.rowCount (now file)) ⌝ }
-    ensures { λ r. ⌜ r ≡ Format.badRow (now (file .entry)) k ⌝ }
+// The row, if its bytes pass a test.
+fn only(test: bool, row: Row) -> Row
+    ensures { λ r. ⌜ namedBy r ≡ cond test (namedBy row) none ⌝ }
 {
-    malformed(
+    if test { row } else { Row::Malformed }
+}
+
+// The one decoding of a row: malformed if its kind is not allowed or its bytes are not as the kind uses them.
+fn decode(kinds: u16, kind: u8, role: u8, left: u8, right: u8) -> Row
+    ensures { λ r. ⌜ namedBy r ≡ namedRows kinds kind role left right ⌝ }
+{
+    if !allowed(kinds, kind) {
+        return Row::Malformed;
+    }
+    if (kind == 1) | (kind == 2) {
+        return only((role == 0) & ((right == 0) & (left <= LAST_NAME)), Row::Literal);
+    }
+    if (kind == 3) | (kind == 4) {
+        return only(role == 0, Row::Binary(left, right));
+    }
+    if (kind == 5) | (kind == 6) {
+        return only((right == 0) & (role <= LAST_ROLE), Row::Modal(left));
+    }
+    Row::Malformed
+}
+
+// Row k, decoded.
+fn row_at(file: &[u8], kinds: u16, k: usize) -> Row
+    requires { ⌜ Parted (now file) × (k < Format.rowCount (now file)) ⌝ }
+    ensures { λ r. ⌜ namedBy r ≡ namedRows kinds (Format.rowByte (now (file .entry)) k 0) (Format.rowByte (now (file .entry)) k 1) (Format.rowByte (now (file .entry)) k 2) (Format.rowByte (now (file .entry)) k 3) ⌝ }
+{
+    decode(
+        kinds,
         row_byte(file, k, 0),
         row_byte(file, k, 1),
         row_byte(file, k, 2),
@@ -171,30 +214,44 @@ fn bad_row(file: &[u8], k: usize) -> bool
     )
 }
 
-// Whether bytes of row k name an argument row that isn't lower than k.
-fn unordered(k: usize, kind: u8, left: u8, right: u8) -> bool
-    ensures { λ r. ⌜ r ≡ unordered k kind left right ⌝ }
+// Whether a row is malformed.
+fn is_malformed(row: Row) -> bool
+    ensures { λ r. ⌜ r ≡ isMalformed (namedBy row) ⌝ }
 {
-    if (kind == 1) | (kind == 2) {
-        return false;
+    match row {
+        Row::Malformed => true,
+        Row::Literal => false,
+        Row::Modal(_) => false,
+        Row::Binary(_, _) => false,
     }
-    if (kind == 3) | (kind == 4) {
-        return (k <= left as usize) | (k <= right as usize);
+}
+
+// Whether a row names a row that isn't lower than k.
+fn names_from(row: Row, k: usize) -> bool
+    ensures { λ r. ⌜ r ≡ any (λ l. leb k l) (rowsOf (namedBy row)) ⌝ }
+{
+    match row {
+        Row::Malformed => false,
+        Row::Literal => false,
+        Row::Modal(l) => k <= l as usize,
+        Row::Binary(l, r) => (k <= l as usize) | (k <= r as usize),
     }
-    k <= left as usize
+}
+
+// Whether row k is malformed.
+fn bad_row(file: &[u8], kinds: u16, k: usize) -> bool
+    requires { ⌜ Parted (now file) × (k < Format.rowCount (now file)) ⌝ }
+    ensures { λ r. ⌜ r ≡ Format.badRow kinds (now (file .entry)) k ⌝ }
+{
+    is_malformed(row_at(file, kinds, k))
 }
 
 // Whether row k names an argument row that isn't lower than itself.
-fn bad_argument(file: &[u8], k: usize) -> bool
+fn bad_argument(file: &[u8], kinds: u16, k: usize) -> bool
     requires { ⌜ Parted (now file) × (k < Format.rowCount (now file)) ⌝ }
-    ensures { λ r. ⌜ r ≡ Format.badArgument (now (file .entry)) k ⌝ }
+    ensures { λ r. ⌜ r ≡ Format.badArgument kinds (now (file .entry)) k ⌝ }
 {
-    unordered(
-        k,
-        row_byte(file, k, 0),
-        row_byte(file, k, 2),
-        row_byte(file, k, 3),
-    )
+    names_from(row_at(file, kinds, k), k)
 }
 
 // Whether rows j and k have the same four bytes.
@@ -245,13 +302,13 @@ fn extent(file: &[u8], finding: Finding) -> usize
 }
 
 // Whether row or rule i is a finding.
-fn found_at(file: &[u8], finding: Finding, i: usize) -> bool
+fn found_at(file: &[u8], kinds: u16, finding: Finding, i: usize) -> bool
     requires { ⌜ Parted (now file) × (i < extent finding (now file)) ⌝ }
-    ensures { λ r. ⌜ r ≡ foundAt finding (now (file .entry)) i ⌝ }
+    ensures { λ r. ⌜ r ≡ foundAt kinds finding (now (file .entry)) i ⌝ }
 {
     match finding {
-        Finding::Malformed => bad_row(file, i),
-        Finding::Argument => bad_argument(file, i),
+        Finding::Malformed => bad_row(file, kinds, i),
+        Finding::Argument => bad_argument(file, kinds, i),
         Finding::Repeated => repeated(file, i),
         Finding::Rule => row_count(file) <= rule(file, i),
         Finding::Name => is_name(file, i),
@@ -259,14 +316,14 @@ fn found_at(file: &[u8], finding: Finding, i: usize) -> bool
 }
 
 // Whether some row or rule is a finding.
-fn found(file: &[u8], finding: Finding) -> bool
+fn found(file: &[u8], kinds: u16, finding: Finding) -> bool
     requires { ⌜ Parted (now file) ⌝ }
-    ensures { λ r. ⌜ r ≡ found finding (now (file .entry)) ⌝ }
+    ensures { λ r. ⌜ r ≡ found kinds finding (now (file .entry)) ⌝ }
 {
     let n = extent(file, finding);
     let mut i: usize = 0;
     while i < n {
-        if found_at(file, finding, i) {
+        if found_at(file, kinds, finding, i) {
             return true;
         }
         i += 1;
@@ -275,35 +332,43 @@ fn found(file: &[u8], finding: Finding) -> bool
 }
 
 // Whether a rule or the wanted row isn't below the number of rows: check 8.
-fn bad_rule(file: &[u8]) -> bool
+fn bad_rule(file: &[u8], kinds: u16) -> bool
     requires { ⌜ Parted (now file) ⌝ }
     ensures { λ r. ⌜ r ≡ Format.badRule (now (file .entry)) ⌝ }
 {
-    found(file, Finding::Rule) | (row_count(file) <= wanted_row(file))
+    found(file, kinds, Finding::Rule) | (row_count(file) <= wanted_row(file))
 }
 
-// Whether check n refuses the file, which passed the checks before it.
-fn refuses(file: &[u8], n: u8) -> bool
-    requires { ⌜ (0 < n) × (n < 10) × Passed (now file) n ⌝ }
-    ensures { λ r. ⌜ r ≡ refusesAt (now (file .entry)) n ⌝ }
+// Whether the check at place i refuses the file, which passed the checks before it.
+fn refuses(file: &[u8], kinds: u16, i: usize) -> bool
+    requires { ⌜ (i < 9) × Passed kinds (now file) i ⌝ }
+    ensures { λ r. ⌜ r ≡ refusesAt kinds (now (file .entry)) i ⌝ }
 {
-    match n {
-        1 => bad_length(file),
-        2 => bad_mark(file),
-        3 => bad_counts(file),
-        4 => bad_place(file),
-        5 => found(file, Finding::Malformed),
-        6 => found(file, Finding::Argument),
-        7 => found(file, Finding::Repeated),
-        8 => bad_rule(file),
-        _ => !found(file, Finding::Name),
+    match i {
+        0 => bad_length(file),
+        1 => bad_mark(file),
+        2 => bad_counts(file),
+        3 => bad_place(file),
+        4 => found(file, kinds, Finding::Malformed),
+        5 => found(file, kinds, Finding::Argument),
+        6 => found(file, kinds, Finding::Repeated),
+        7 => bad_rule(file, kinds),
+        _ => !found(file, kinds, Finding::Name),
     }
+}
+
+// The refusal that the check at place i gives.
+fn number(i: usize) -> u8
+    requires { ⌜ i < 9 ⌝ }
+    ensures { λ r. ⌜ ((kinds : Format.Kinds) → r ≡ checkAt kinds i .number) ⌝ }
+{
+    NUMBERS[i]
 }
 
 // The layout of a file that passed all checks.
 fn layout_of(file: &[u8]) -> Layout
     requires { ⌜ Parted (now file) ⌝ }
-    ensures { λ r. ⌜ r ≡ layoutOf (Format.contents (now (file .entry))) ⌝ }
+    ensures { λ r. ⌜ r ≡ trailerLayout (now (file .entry)) ⌝ }
 {
     Layout {
         text: first_row(file) as usize,
@@ -313,34 +378,60 @@ fn layout_of(file: &[u8]) -> Layout
     }
 }
 
-// The number of the first check that refuses the file, or the layout of the file.
-pub fn read(file: &[u8]) -> Outcome
-    ensures { λ r. ⌜ r ≡ readOf (Format.reading (now (file .entry))) ⌝ }
+// The refusal of the first check that refuses the file, or the layout of the file.
+pub fn read(file: &[u8], kinds: u16) -> Outcome
+    ensures { λ r. ⌜ r ≡ readOf (Format.readingOf kinds (now (file .entry))) ⌝ }
 {
-    let mut n: u8 = 1;
-    while n <= LAST_CHECK {
-        if refuses(file, n) {
-            return Outcome::Refused(n);
+    let mut i: usize = 0;
+    while i < CHECKS {
+        if refuses(file, kinds, i) {
+            return Outcome::Refused(number(i));
         }
-        n += 1;
+        i += 1;
     }
     Outcome::Accepted(layout_of(file))
 }
 
-// How much of the file is text: nothing of a refused one.
-fn text_length(outcome: Outcome) -> usize
-    ensures { λ r. ⌜ r ≡ textLength outcome ⌝ }
+// The bytes of the file from one place to another, as that part of the file.
+fn part(file: &[u8], from: usize, to: usize) -> &[u8]
+    requires { ⌜ (from ≤ to) × (to ≤ length (now file)) ⌝ }
+    ensures { λ r. ⌜ (now r ≡ take (to - from) (drop from (now (file .entry)))) × Starts (r .ptr) (file .entry .ptr) from ⌝ }
 {
-    match outcome {
-        Outcome::Refused(_) => 0,
-        Outcome::Accepted(layout) => layout.text,
+    &file[from..to]
+}
+
+// The text: the part of the file before the rows, of a refused file the empty part at its start.
+pub fn text(file: &[u8], kinds: u16) -> &[u8]
+    ensures { λ r. ⌜ (now r ≡ Format.textOf kinds (now (file .entry))) × Starts (r .ptr) (file .entry .ptr) 0 ⌝ }
+{
+    match read(file, kinds) {
+        Outcome::Refused(_) => part(file, 0, 0),
+        Outcome::Accepted(layout) => part(file, 0, layout.text),
     }
 }
 
-// The text: the part of the file before the rows, empty for a refused file.
-pub fn text(file: &[u8]) -> &[u8]
-    ensures { λ r. ⌜ now r ≡ Format.textOf (now (file .entry)) ⌝ }
+// The rows of an accepted file.
+pub fn rows_of(file: &[u8], layout: Layout) -> &[u8]
+    requires { ⌜ Placed (now file) layout ⌝ }
+    ensures { λ r. ⌜ now r ≡ Format.rowsPart (now (file .entry)) ⌝ }
 {
-    let n = text_length(read(file));
-    &file[..n]
+    part(file, layout.text, layout.text + ROW * layout.rows)
+}
+
+// The rules of an accepted file, a list of row numbers.
+pub fn rules_of(file: &[u8], layout: Layout) -> &[u8]
+    requires { ⌜ Placed (now file) layout ⌝ }
+    ensures { λ r. ⌜ now r ≡ Format.rules (now (file .entry)) ⌝ }
+{
+    let from = layout.text + ROW * layout.rows;
+    part(file, from, from + layout.rules)
+}
+
+// The wanted rows of an accepted file: a list of one.
+pub fn wanted_of(file: &[u8], layout: Layout) -> &[u8]
+    requires { ⌜ Placed (now file) layout ⌝ }
+    ensures { λ r. ⌜ now r ≡ Format.wantedRows (now (file .entry)) ⌝ }
+{
+    let from = file.len() - WANTED;
+    part(file, from, from + 1)
 }

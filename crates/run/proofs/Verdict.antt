@@ -14,7 +14,7 @@ use lib.Pow.{pow-mono}
 use Rattle.concepts.specs.Concept.{WellFormed}
 use Rattle.concepts.specs.RowSet.{RowSet}
 use Rattle.meaning.specs.Meaning.{Model}
-use Rattle.rulefile.specs.Format.{Bytes, RuleFile, Reading, refused, accepted, reading}
+use Rattle.rulefile.specs.Format.{Bytes, ruleKinds, RuleFile, Reading, refused, accepted, reading}
 use Rattle.rulefile.specs.FormatLaws.{accepted-admitted}
 use Rattle.procedure.specs.Status.{Status, unset, «open», sat, unsat, toosmall}
 use Rattle.procedure.specs.Graph.{Graph, Capacity, Result, reached, noPlace, outOfFuel, nodeAt, nodeCount}
@@ -127,7 +127,7 @@ answer-refused b l n e = ap (answerReading l) e
 pub answer-backed : (b : Bytes) (l : Lengths) (f : RuleFile) → reading b ≡ accepted f → Backs f l (answer b l)
 answer-backed b l f e =
     subst (Backs f l) (sym (answer-accepted b l f e))
-    (result-backed f (accepted-admitted b f e .wellFormed) (accepted-admitted b f e .fewRows) l (run (f .table) (capacity l) (f .tbox) (f .wanted)) refl)
+    (result-backed f (accepted-admitted ruleKinds b f e .wellFormed) (accepted-admitted ruleKinds b f e .fewRows) l (run (f .table) (capacity l) (f .tbox) (f .wanted)) refl)
 
 pub answer-right : (b : Bytes) (l : Lengths) (f : RuleFile) → reading b ≡ accepted f → Claim f (answer b l)
 answer-right b l f e = claimed f l (answer b l) (answer-backed b l f e)

@@ -7,7 +7,7 @@ use lib.ListN.{length}
 use Rattle.concepts.specs.Lists.{range, select, any, every, consAnswer, answers, first}
 use Rattle.concepts.specs.Role.{inverse}
 use Rattle.concepts.specs.RowSet.{RowSet, mem, single, union, fromList, members}
-use Rattle.rulefile.specs.Format.{Bytes, malformed, conceptOf, badLength, badMark, badCounts, badPlace, badRow, badArgument, sameRow, repeated, badRule, isName, checks, refusal, reading}
+use Rattle.rulefile.specs.Format.{Bytes, ofKind, decode, badLength, badMark, badCounts, badPlace, badRow, badArgument, sameRow, repeated, badRule, isName, checks, refusal, readingOf}
 use Rattle.procedure.specs.Status.{branchTable, stateTable, entry, foldStatus}
 use Rattle.procedure.specs.SetTests.{clash, lowestConj, lowestDisj, unfinished, box, lacking, existentials}
 use Rattle.procedure.specs.Graph.{nodeArea, edgeArea, alternativeArea, _>>=_, forEach, addNode, addEdge, hasAlternative, addAlternative, children, parents, alternativesOf, lowest, findState, lowestUnset}
@@ -66,5 +66,5 @@ knownRuns =
     ∷ []
 
 pub known-runs : map (λ (k : KnownRun). answer (k .file) (k .lent)) knownRuns ≡ map (λ (k : KnownRun). k .expected) knownRuns
-unfolding knownRuns written flatten range select any every consAnswer answers first inverse mem single union fromList members malformed conceptOf badLength badMark badCounts badPlace badRow badArgument sameRow repeated badRule isName checks refusal reading branchTable stateTable entry foldStatus clash lowestConj lowestDisj unfinished box lacking existentials _>>=_ forEach addNode addEdge hasAlternative addAlternative children parents alternativesOf lowest findState lowestUnset foldChildren putAlternatives judgeLinked judgeBy judge joinAlternatives linkTo linkFound linkSpecial putSpecial putNode putBy putWithin put updateParents updateChanged updateWithin update successor putSuccessors putKit expandState expandDisj expandConj expand loopWithin run X._>>=_ firstChild liveChild descendBy descendWithin descend position meet walkRows rowsOf walkWithin walk example fits answerCan answerRoot answerResult answerReading answer mathlib.Core.List.zip mathlib.Core.List.zipWith
+unfolding knownRuns written flatten range select any every consAnswer answers first inverse mem single union fromList members ofKind decode badLength badMark badCounts badPlace badRow badArgument sameRow repeated badRule isName checks refusal readingOf branchTable stateTable entry foldStatus clash lowestConj lowestDisj unfinished box lacking existentials _>>=_ forEach addNode addEdge hasAlternative addAlternative children parents alternativesOf lowest findState lowestUnset foldChildren putAlternatives judgeLinked judgeBy judge joinAlternatives linkTo linkFound linkSpecial putSpecial putNode putBy putWithin put updateParents updateChanged updateWithin update successor putSuccessors putKit expandState expandDisj expandConj expand loopWithin run X._>>=_ firstChild liveChild descendBy descendWithin descend position meet walkRows rowsOf walkWithin walk example fits answerCan answerRoot answerResult answerReading answer mathlib.Core.List.zip mathlib.Core.List.zipWith
 known-runs = refl

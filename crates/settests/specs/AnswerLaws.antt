@@ -15,12 +15,11 @@ use lib.ListN.{length}
 use Rattle.concepts.specs.Tests.{and-both, and-make, decide, as-true, from-true, same-test}
 use Rattle.concepts.specs.Lists.{answers, first}
 use Rattle.concepts.specs.ListLaws.{answers-same, first-same, mem-answers, answers-mem}
-use Rattle.concepts.specs.Concept.{Concept, atomic, negated, conj, disj, univ, exist, Table, conceptAt, Ordered}
+use Rattle.concepts.specs.Concept.{Concept, atomic, negated, conj, disj, univ, exist, Table, conceptAt, Ordered, roleOf}
 use Rattle.concepts.specs.RowSet.{RowSet, mem, empty, insert, common, minus, fromList}
 use Rattle.concepts.specs.RowSetLaws.{mem-empty, mem-common, mem-minus, set-ext, set-witness, mem-fromList, fromList-mem}
 use Rattle.procedure.specs.SetTests.{concepts, clash, unfinishedConj, unfinishedDisj, lowestConj, lowestDisj, isSome, univArgument, box, lacking, existArgument, existentials}
 use Rattle.procedure.specs.SetTestLaws.{concept-mem, mem-concept, clash-found, no-clash, lacking-mem, mem-lacking}
-use Rattle.rulefile.specs.FormatLaws.{roleOf}
 use Rattle.settests.specs.Rows.{kindOf, leftOf, rightOf}
 use Rattle.settests.specs.RowLoops.{conceptsFrom, conceptsFrom-all, rowAnswer, insertAnswer, answers-skip, answers-take, answers-end, first-skip, first-here}
 use Rattle.settests.specs.Answers.{leftAlong, finishedBy, unfinishedOf, existsFrom, NextIs}

@@ -11,10 +11,9 @@ use Prim.Native.Nat.{ℕ, _+_, _≤_, _<_}
 use lib.Dec.{eqb}
 use lib.ListN.{length}
 use Rattle.concepts.specs.Lists.{answers}
-use Rattle.concepts.specs.Concept.{Concept, exist, Table, conceptAt}
+use Rattle.concepts.specs.Concept.{Concept, exist, Table, conceptAt, roleOf}
 use Rattle.concepts.specs.RowSet.{RowSet, mem}
 use Rattle.procedure.specs.SetTests.{existArgument}
-use Rattle.rulefile.specs.FormatLaws.{roleOf}
 use Rattle.settests.specs.declared.Found.{Found}
 use Rattle.settests.specs.declared.Found.the-variants.{Rows, Nothing}
 use Rattle.settests.specs.declared.Exist.{Exist}

@@ -11,14 +11,11 @@ use Rattle.concepts.specs.Lists.{range}
 use Rattle.concepts.specs.ListLaws.{range-mem, map-same}
 use Rattle.concepts.specs.Concept.{Ordered}
 use Rattle.rulefile.specs.Format as Format
+use Rattle.rulefile.specs.Format.{ruleKinds, rowsPart}
 use Rattle.rulefile.specs.Checks.{Parted, Passed}
-use Rattle.rulefile.specs.CheckLaws.{parted, accepted-contents, accepted-passed}
-use Rattle.rulefile.specs.FormatLaws.{row-formed, contents-admitted}
+use Rattle.rulefile.specs.CheckLaws.{parted, accepted-contents, accepted-parted}
+use Rattle.rulefile.specs.FormatLaws.{row-formed, contents-admitted, accepted-eight}
 use Rattle.settests.specs.Rows.{rowByte, rowCount, conceptIn, tableOf, Rows}
-
--- the part of a file that has the rows
-abbrev pub rowsPart : Format.Bytes → List ℕ
-rowsPart b = take (4 * Format.rowCount b) (drop (Format.firstRow b) b)
 
 module _ (b : Format.Bytes) (p : Parted b) where
   pub rowCount-rowsPart : rowCount (rowsPart b) ≡ Format.rowCount b
@@ -41,30 +38,30 @@ module _ (b : Format.Bytes) (p : Parted b) where
       let at : (i : ℕ) → i < 4 → rowByte (rowsPart b) k i ≡ Format.rowByte b k i = λ i j. rowByte-rowsPart k i h j in
       λ holds. rw (at 0 (omega arith), at 1 (omega arith), at 2 (omega arith), at 3 (omega arith)) holds
 
-  pub table-rowsPart : tableOf (rowsPart b) ≡ Format.contents b .table
+  pub table-rowsPart : tableOf (rowsPart b) ≡ Format.contents ruleKinds b .table
   unfolding tableOf
   table-rowsPart =
       ap (λ (n : ℕ). map (conceptIn (rowsPart b)) (range 0 n)) rowCount-rowsPart
-      ∙ map-same (conceptIn (rowsPart b)) (Format.conceptIn b) (range 0 (Format.rowCount b)) (λ k m.
+      ∙ map-same (conceptIn (rowsPart b)) (Format.conceptIn ruleKinds b) (range 0 (Format.rowCount b)) (λ k m.
       let h : k < Format.rowCount b = omega (arith, range-mem 0 (Format.rowCount b) k m .1) in
-      four-bytes (λ kind role left right. Format.conceptOf kind role left right ≡ Format.conceptIn b k) k h refl)
+      four-bytes (λ kind role left right. Format.conceptOf ruleKinds kind role left right ≡ Format.conceptIn ruleKinds b k) k h refl)
 
-module _ (b : Format.Bytes) (passed : Passed b 9) where
+module _ (b : Format.Bytes) (passed : Passed ruleKinds b 8) where
   rows-rowsPart : Rows (rowsPart b)
   rows-rowsPart =
-      let p : Parted b = parted passed (omega arith) in
+      let p : Parted b = parted ruleKinds b passed (omega arith) in
       record {
         few = omega (arith, rowCount-rowsPart b p, p .fewRows);
         formed = λ k h.
             let l : k < Format.rowCount b = omega (arith, rowCount-rowsPart b p) in
-            four-bytes b p (λ kind role left right. Format.malformed kind role left right ≡ false) k l (unfold Format.badRow in row-formed b passed k l);
-        ordered = subst Ordered (sym (table-rowsPart b p)) (contents-admitted b passed .wellFormed .ordered);
+            four-bytes b p (λ kind role left right. Format.malformed ruleKinds kind role left right ≡ false) k l (unfold Format.badRow in row-formed ruleKinds b passed k l);
+        ordered = subst Ordered (sym (table-rowsPart b p)) (contents-admitted ruleKinds b passed .wellFormed .ordered);
       }
 
 -- an accepted file
 module _ (b : Format.Bytes) (f : Format.RuleFile) (e : Format.reading b ≡ Format.accepted f) where
   pub accepted-rows : Rows (rowsPart b)
-  accepted-rows = rows-rowsPart b (accepted-passed b f e 9 (omega arith))
+  accepted-rows = rows-rowsPart b (accepted-eight ruleKinds b f e)
 
   pub accepted-table : tableOf (rowsPart b) ≡ f .table
-  accepted-table = rw (accepted-contents b f e) (table-rowsPart b (parted (accepted-passed b f e 9 (omega arith)) (omega arith)))
+  accepted-table = rw (accepted-contents ruleKinds b f e) (table-rowsPart b (accepted-parted ruleKinds b f e))

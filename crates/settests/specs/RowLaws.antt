@@ -4,18 +4,19 @@
 -- of rows are small (`left-lt`, `right-lt`).
 -- Assumes nothing.
 use mathlib.Core.Path.{_≡_, refl, sym, ap, _∙_}
-use mathlib.Core.Bool.{true, false, not, _||_}
-use mathlib.Core.List.{List, List·Memᴰ, List·Memᴰ·head, List·Memᴰ·tail}
+use mathlib.Core.Bool.{false, _&&_}
+use mathlib.Core.List.{List, [], _∷_, List·Memᴰ, List·Memᴰ·head, List·Memᴰ·tail}
+use mathlib.Core.Option.{none, some}
 use Prim.Native.Nat.{ℕ, zero, suc, _≤_, _<_}
 use native.Mathlib.Omega.{arith}
-use lib.Dec.{eqb, ltb}
+use lib.Dec.{eqb, leb, T, eqb→eq, leb→le}
 use lib.ListN.{length}
-use borrow.Author.Tests.{eqb-true, ltb-false, ne-eqb, not-false}
-use Rattle.concepts.specs.Tests.{or-neither}
+use borrow.Author.Tests.{ne-eqb}
+use Rattle.concepts.specs.Tests.{and-both}
 use Rattle.concepts.specs.ListLaws.{length-map-range, getD-map-range}
-use Rattle.concepts.specs.Concept.{Concept, atomic, conceptAt, arguments}
-use Rattle.rulefile.specs.Format.{conceptOf, malformed}
-use Rattle.rulefile.specs.FormatLaws.{roleOf}
+use Rattle.concepts.specs.Concept.{Concept, atomic, negated, conj, disj, univ, exist, conceptAt, arguments, roleOf}
+use Rattle.rulefile.specs.Format.{ruleKinds, only, ofKind, conceptOf, malformed}
+use Rattle.rulefile.specs.DecodeLaws.{only-some, formed-kind}
 use Rattle.rowset.specs.Value.{width}
 use Rattle.settests.specs.Rows.{rowByte, rowCount, conceptIn, tableOf, Rows, kindOf, leftOf, rightOf}
 
@@ -46,20 +47,20 @@ pub record Decoded (kind role left right : ℕ) (c : Concept) : Type 0 where
   pub left-small : ((l : ℕ) → List·Memᴰ l (arguments c) → l < width) → left < width
   pub right-small : ((l : ℕ) → List·Memᴰ l (arguments c) → l < width) → right < width
 
-zero-byte : (x : ℕ) → not (eqb x 0) ≡ false → x ≡ 0
-zero-byte x e = eqb-true x 0 (not-false (eqb x 0) e)
+zero-byte : (x : ℕ) → T (eqb x 0) → x ≡ 0
+zero-byte x t = eqb→eq x 0 t
 
-name-bytes : (role left right : ℕ) → (not (eqb role 0) || (not (eqb right 0) || ltb 63 left)) ≡ false → (role ≡ 0) × (right ≡ 0) × (left < 64)
-name-bytes role left right e =
-    let (p, q) = or-neither (not (eqb role 0)) (not (eqb right 0) || ltb 63 left) e in
-    let (r, l) = or-neither (not (eqb right 0)) (ltb 63 left) q in
-    (zero-byte role p, zero-byte right r, omega (arith, ltb-false 63 left l))
+name-bytes : (role left right : ℕ) → T (eqb role 0 && (eqb right 0 && leb left 63)) → (role ≡ 0) × (right ≡ 0) × (left < 64)
+name-bytes role left right t =
+    let (p, q) = and-both (eqb role 0) (eqb right 0 && leb left 63) t in
+    let (r, l) = and-both (eqb right 0) (leb left 63) q in
+    (zero-byte role p, zero-byte right r, omega (arith, leb→le left 63 l))
 
-role-bytes : (role right : ℕ) → (not (eqb right 0) || ltb 31 role) ≡ false → right ≡ 0
-role-bytes role right e = zero-byte right (or-neither (not (eqb right 0)) (ltb 31 role) e .0)
+role-bytes : (role right : ℕ) → T (eqb right 0 && leb role 31) → right ≡ 0
+role-bytes role right t = zero-byte right (and-both (eqb right 0) (leb role 31) t .0)
 
-unknown-kind : (kind role left right : ℕ) → 6 < kind → malformed kind role left right ≡ true
-unfolding malformed
+unknown-kind : (kind role left right : ℕ) → 6 < kind → ofKind kind role left right ≡ none
+unfolding ofKind
 unknown-kind kind role left right h =
     simp (
       ne-eqb kind 1 (λ e. omega arith),
@@ -70,57 +71,60 @@ unknown-kind kind role left right h =
       ne-eqb kind 6 (λ e. omega arith),
     )
 
-pub decoded : (kind role left right : ℕ) → malformed kind role left right ≡ false → Decoded kind role left right (conceptOf kind role left right)
-unfolding malformed conceptOf kindOf roleOf leftOf rightOf
-decoded zero role left right e = let z : _≡_ {A = ℕ} 0 1 = cc in absurd (omega arith)
-decoded (suc zero) role left right e =
-    let (p, q, h) = name-bytes role left right e in
-    record { kind-is = refl; role-is = sym p; left-is = refl; right-is = sym q; left-small = λ a. omega (arith, h); right-small = λ a. omega arith }
-decoded (suc (suc zero)) role left right e =
-    let (p, q, h) = name-bytes role left right e in
-    record { kind-is = refl; role-is = sym p; left-is = refl; right-is = sym q; left-small = λ a. omega (arith, h); right-small = λ a. omega arith }
-decoded (suc (suc (suc zero))) role left right e =
-    record {
-      kind-is = refl;
-      role-is = sym (zero-byte role e);
-      left-is = refl;
-      right-is = refl;
-      left-small = λ a. a left (List·Memᴰ·head refl);
-      right-small = λ a. a right (List·Memᴰ·tail (List·Memᴰ·head refl));
-    }
-decoded (suc (suc (suc (suc zero)))) role left right e =
-    record {
-      kind-is = refl;
-      role-is = sym (zero-byte role e);
-      left-is = refl;
-      right-is = refl;
-      left-small = λ a. a left (List·Memᴰ·head refl);
-      right-small = λ a. a right (List·Memᴰ·tail (List·Memᴰ·head refl));
-    }
-decoded (suc (suc (suc (suc (suc zero))))) role left right e =
-    let q = role-bytes role right e in
-    record {
-      kind-is = refl;
-      role-is = refl;
-      left-is = refl;
-      right-is = sym q;
-      left-small = λ a. a left (List·Memᴰ·head refl);
-      right-small = λ a. omega arith;
-    }
-decoded (suc (suc (suc (suc (suc (suc zero)))))) role left right e =
-    let q = role-bytes role right e in
-    record {
-      kind-is = refl;
-      role-is = refl;
-      left-is = refl;
-      right-is = sym q;
-      left-small = λ a. a left (List·Memᴰ·head refl);
-      right-small = λ a. omega arith;
-    }
-decoded (suc (suc (suc (suc (suc (suc (suc kind))))))) role left right e =
-    let t : malformed (suc (suc (suc (suc (suc (suc (suc kind))))))) role left right ≡ true = unknown-kind (suc (suc (suc (suc (suc (suc (suc kind))))))) role left right (omega arith) in
-    let z : _≡_ {A = ℕ} 0 1 = cc in
-    absurd (omega arith)
+-- a row by its kind
+module _ (role left right : ℕ) (c : Concept) where
+  literal : (kind : ℕ) (d : Concept) → kindOf d ≡ kind → roleOf d ≡ 0 → leftOf d ≡ left → rightOf d ≡ 0
+      → only (eqb role 0 && (eqb right 0 && leb left 63)) d ≡ some c → Decoded kind role left right c
+  literal kind d k r l i e =
+      let (t, same) = only-some (eqb role 0 && (eqb right 0 && leb left 63)) d c e in
+      let (p, q, h) = name-bytes role left right t in
+      rw same (record { kind-is = k; role-is = r ∙ sym p; left-is = l; right-is = i ∙ sym q; left-small = λ a. omega (arith, h); right-small = λ a. omega arith })
+
+  binary : (kind : ℕ) (d : Concept) → kindOf d ≡ kind → roleOf d ≡ 0 → leftOf d ≡ left → rightOf d ≡ right → arguments d ≡ left ∷ right ∷ []
+      → only (eqb role 0) d ≡ some c → Decoded kind role left right c
+  binary kind d k r l i n e =
+      let (t, same) = only-some (eqb role 0) d c e in
+      rw same
+      (record {
+        kind-is = k;
+        role-is = r ∙ sym (zero-byte role t);
+        left-is = l;
+        right-is = i;
+        left-small = λ a. a left (rw n (List·Memᴰ·head refl));
+        right-small = λ a. a right (rw n (List·Memᴰ·tail (List·Memᴰ·head refl)));
+      })
+
+  modal : (kind : ℕ) (d : Concept) → kindOf d ≡ kind → roleOf d ≡ role → leftOf d ≡ left → rightOf d ≡ 0 → arguments d ≡ left ∷ []
+      → only (eqb right 0 && leb role 31) d ≡ some c → Decoded kind role left right c
+  modal kind d k r l i n e =
+      let (t, same) = only-some (eqb right 0 && leb role 31) d c e in
+      let q = role-bytes role right t in
+      rw same
+      (record {
+        kind-is = k;
+        role-is = r;
+        left-is = l;
+        right-is = i ∙ sym q;
+        left-small = λ a. a left (rw n (List·Memᴰ·head refl));
+        right-small = λ a. omega arith;
+      })
+
+  by-kind : (kind : ℕ) → ofKind kind role left right ≡ some c → Decoded kind role left right c
+  unfolding ofKind kindOf roleOf leftOf rightOf
+  by-kind zero e = let z : _≡_ {A = ℕ} 0 1 = cc in absurd (omega arith)
+  by-kind (suc zero) e = literal 1 (atomic left) refl refl refl refl e
+  by-kind (suc (suc zero)) e = literal 2 (negated left) refl refl refl refl e
+  by-kind (suc (suc (suc zero))) e = binary 3 (conj left right) refl refl refl refl refl e
+  by-kind (suc (suc (suc (suc zero)))) e = binary 4 (disj left right) refl refl refl refl refl e
+  by-kind (suc (suc (suc (suc (suc zero))))) e = modal 5 (univ role left) refl refl refl refl refl e
+  by-kind (suc (suc (suc (suc (suc (suc zero)))))) e = modal 6 (exist role left) refl refl refl refl refl e
+  by-kind (suc (suc (suc (suc (suc (suc (suc kind))))))) e =
+      let t = unknown-kind (suc (suc (suc (suc (suc (suc (suc kind))))))) role left right (omega arith) in
+      let z : _≡_ {A = ℕ} 0 1 = cc in
+      absurd (omega arith)
+
+pub decoded : (kind role left right : ℕ) → malformed ruleKinds kind role left right ≡ false → Decoded kind role left right (conceptOf ruleKinds kind role left right)
+decoded kind role left right e = by-kind role left right (conceptOf ruleKinds kind role left right) kind (formed-kind ruleKinds kind role left right e)
 
 module _ (b : List ℕ) (rows : Rows b) (k : ℕ) (h : k < rowCount b) where
   -- the parts of row k's concept are the row's bytes

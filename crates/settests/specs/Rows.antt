@@ -10,7 +10,7 @@ use Prim.Native.Nat.{ℕ, _+_, _*_, _/_, _≤_, _<_}
 use lib.ListN.{length, getD}
 use Rattle.concepts.specs.Lists.{range}
 use Rattle.concepts.specs.Concept.{Concept, atomic, negated, conj, disj, univ, exist, Table, Ordered}
-use Rattle.rulefile.specs.Format.{conceptOf, malformed}
+use Rattle.rulefile.specs.Format.{ruleKinds, conceptOf, malformed}
 use Rattle.rowset.specs.Value.{width}
 
 -- "A row is four bytes: kind, role, left, right"
@@ -21,7 +21,7 @@ abbrev pub rowCount : List ℕ → ℕ
 rowCount b = length b / 4
 
 abbrev pub conceptIn : List ℕ → ℕ → Concept
-conceptIn b k = conceptOf (rowByte b k 0) (rowByte b k 1) (rowByte b k 2) (rowByte b k 3)
+conceptIn b k = conceptOf ruleKinds (rowByte b k 0) (rowByte b k 1) (rowByte b k 2) (rowByte b k 3)
 
 unfoldable pub tableOf : List ℕ → Table
 tableOf b = map (conceptIn b) (range 0 (rowCount b))
@@ -29,10 +29,10 @@ tableOf b = map (conceptIn b) (range 0 (rowCount b))
 -- what checks 3, 5 and 6 of a rule file give
 pub record Rows (b : List ℕ) : Type 0 where
   pub few : rowCount b ≤ width
-  pub formed : (k : ℕ) → k < rowCount b → malformed (rowByte b k 0) (rowByte b k 1) (rowByte b k 2) (rowByte b k 3) ≡ false
+  pub formed : (k : ℕ) → k < rowCount b → malformed ruleKinds (rowByte b k 0) (rowByte b k 1) (rowByte b k 2) (rowByte b k 3) ≡ false
   pub ordered : Ordered (tableOf b)
 
--- ---- the parts of a concept, 0 if it has none; its role is `roleOf` of the rule file
+-- ---- the parts of a concept, 0 if it has none; its role is `roleOf` of Concept
 
 unfoldable pub kindOf : Concept → ℕ
 kindOf (atomic a) = 1

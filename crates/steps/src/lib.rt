@@ -62,7 +62,7 @@ fn link_found(nodes: &mut [u8], edges: &mut [u8], c: Counts, z: u16, rows: u64) 
                 is_state: true,
                 pst: 0,
                 prl: 0,
-                link: Link::Unlinked,
+                link: Link::None,
             };
             match add_node(nodes, c, state) {
                 Step::Done(d) => link_to(nodes, edges, d, z, c.nodes as u16),
@@ -90,7 +90,7 @@ pub fn link_special(
         is_state: false,
         pst: p,
         prl: role,
-        link: Link::Unlinked,
+        link: Link::None,
     };
     match add_node(nodes, c, special) {
         Step::Done(d) => link_found(nodes, edges, d, c.nodes as u16, rows),

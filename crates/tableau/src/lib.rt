@@ -43,7 +43,7 @@ fn below(p: u16, role: u8, s: RowSet, status: Status) -> Node
         is_state: false,
         pst: p,
         prl: role,
-        link: Link::Unlinked,
+        link: Link::None,
     }
 }
 
@@ -113,7 +113,7 @@ pub fn judge(
             judge_branch(nodes, edges, c, x);
             Step::Done(c)
         }
-        Link::Unlinked => {
+        Link::None => {
             if node.is_state {
                 judge_state(nodes, edges, c, x);
                 return Step::Done(c);

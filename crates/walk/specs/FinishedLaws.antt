@@ -9,8 +9,9 @@ use Prim.Native.Nat.{ℕ, _<_}
 use native.Mathlib.Decide.{decLt}
 use native.Mathlib.Omega.{arith}
 use lib.ListN.{List·getD-eq-default}
-use Rattle.concepts.specs.Concept.{exist, Table, conceptAt}
-use Rattle.rulefile.specs.FormatLaws.{roleOf, role-small}
+use Rattle.concepts.specs.Concept.{exist, Table, conceptAt, roleOf}
+use Rattle.rulefile.specs.Format.{ruleKinds}
+use Rattle.rulefile.specs.DecodeLaws.{role-small}
 use Rattle.procedure.specs.Status.{Status}
 use Rattle.procedure.specs.Graph.{children}
 use Rattle.procedure.specs.Example.{example}
@@ -31,7 +32,7 @@ unfolding roleOf
 table-roles b R k ρ l e = elim (decLt k (rowCount b)) [
   | yes h ↦ omega (
     arith,
-    role-small (rowByte b k 0) (rowByte b k 1) (rowByte b k 2) (rowByte b k 3) (R .formed k h),
+    role-small ruleKinds (rowByte b k 0) (rowByte b k 1) (rowByte b k 2) (rowByte b k 3) (R .formed k h),
     ap roleOf (sym (concept-tableOf b k h) ∙ e),
   )
   | no h ↦ omega (arith, ap roleOf (sym (List·getD-eq-default (tableOf b) _ (row-past b {k = k} (omega arith))) ∙ e))

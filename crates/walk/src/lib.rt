@@ -112,7 +112,7 @@ fn linked_state(link: Link) -> FoundState
 {
     match link {
         Link::State(y) => FoundState::At(y),
-        Link::Unlinked => FoundState::Nothing,
+        Link::None => FoundState::Nothing,
         Link::Lapsed => FoundState::Nothing,
     }
 }

@@ -1,44 +1,33 @@
-//! The cases of tests/vectors/cases.txt; the README beside it tells how to read them.
+//! The questions of tests/vectors with their answers; the README beside them tells how to read them.
 
+use crate::questions::Fit;
 use plain::Lent;
 use std::path::PathBuf;
 
-/// A rule file with the output that the printing program must give for it.
+/// The vectors that are in force.
+const VECTORS: &str = "../../tests/vectors/level-00.txt";
+
+/// A question `fit` with its answer.
 pub struct Case {
-    pub name: String,
-    pub lent: Lent,
+    pub question: String,
     pub file: Vec<u8>,
+    pub lent: Lent,
     pub expected: String,
 }
 
-/// All cases.
+/// Every line of the vectors: question and answer.
+pub fn vectors() -> Vec<(String, String)> {
+    let path = PathBuf::from(env!("CARGO_MANIFEST_DIR")).join(VECTORS);
+    let text = std::fs::read_to_string(&path).unwrap_or_else(|error| panic!("{}: {error}", path.display()));
+    let lines = text.lines().map(|line| line.split_once(" => ").unwrap_or_else(|| panic!("no answer in `{line}`")));
+    lines.map(|(question, answer)| (question.to_string(), answer.to_string())).collect()
+}
+
+/// The questions `fit` among them.
 pub fn cases() -> Vec<Case> {
-    let path = PathBuf::from(env!("CARGO_MANIFEST_DIR")).join("../../tests/vectors/cases.txt");
-    let text = std::fs::read_to_string(&path).expect("tests/vectors/cases.txt can be read");
-    let mut lines = text.lines();
-    let mut cases = Vec::new();
-    while let Some(line) = lines.next() {
-        let name = after(line, "case ").to_string();
-        let lent = parse_lent(after(lines.next().expect("a lend line"), "lend "));
-        let file = parse_hex(after(lines.next().expect("a file line"), "file "));
-        let expected = lines.by_ref().take_while(|&line| line != "end").map(|line| format!("{line}\n")).collect();
-        cases.push(Case { name, lent, file, expected });
-    }
-    cases
-}
-
-fn after<'a>(line: &'a str, word: &str) -> &'a str {
-    line.strip_prefix(word).unwrap_or_else(|| panic!("`{word}` expected in `{line}`"))
-}
-
-/// Records for the work areas, bytes for the example areas.
-fn parse_lent(numbers: &str) -> Lent {
-    let numbers: Vec<usize> = numbers.split(' ').map(|n| n.parse().expect("a number")).collect();
-    let [nodes, edges, alternatives, elements, links] = numbers[..] else { panic!("five numbers expected") };
-    Lent::records(nodes, edges, alternatives, elements, links)
-}
-
-fn parse_hex(digits: &str) -> Vec<u8> {
-    let byte = |at: usize| u8::from_str_radix(&digits[at..at + 2], 16).expect("two hexadecimal digits");
-    (0..digits.len()).step_by(2).map(byte).collect()
+    let case = |(question, expected): (String, String)| {
+        let fit = Fit::parse(question.strip_prefix("fit ")?).unwrap_or_else(|| panic!("no question: `{question}`"));
+        Some(Case { question, file: fit.file, lent: fit.lent, expected })
+    };
+    vectors().into_iter().filter_map(case).collect()
 }

@@ -1,8 +1,14 @@
 //! Checks of an answering function, `plain::answer` or another with the same words.
 
 use crate::cases;
-use plain::{print, Answer, Lent};
+use crate::questions::one_line;
+use plain::{Answer, Area, Lent};
 use worlds::{Ontology, World};
+
+/// An answering function: the answer to a file, given the lengths of the areas.
+pub trait Answering: FnMut(&[u8], &Lent) -> Answer {}
+
+impl<F: FnMut(&[u8], &Lent) -> Answer> Answering for F {}
 
 /// What a caller's thread may have. Updates can nest as deep as there are nodes, and the whole run must do with it.
 pub const STACK: usize = 1 << 20;
@@ -12,13 +18,13 @@ pub fn on_stack<T: Send + 'static>(bytes: usize, run: impl FnOnce() -> T + Send 
     std::thread::Builder::new().stack_size(bytes).spawn(run).expect("a thread").join().expect("the run ends")
 }
 
-/// Every case of tests/vectors: the printed output is equal, and every example is a model.
-pub fn check_cases(answer: impl Fn(&[u8], &Lent) -> Answer) {
+/// Every question `fit` of tests/vectors: the answer is equal, and every example is a model.
+pub fn check_cases(mut answer: impl Answering) {
     let cases = cases();
-    assert!(cases.len() > 700, "the vectors are there");
+    assert!(cases.len() > 1000, "the vectors are there");
     for case in cases {
         let answer = answer(&case.file, &case.lent);
-        assert_eq!(print(&answer), case.expected, "case {}", case.name);
+        assert_eq!(one_line(&answer), case.expected, "{}", case.question);
         check_example(&case.file, &answer);
     }
 }
@@ -29,7 +35,13 @@ pub fn check_example(file: &[u8], answer: &Answer) {
     let ontology = Ontology::decode(file);
     assert_eq!(ontology.is_none(), matches!(answer, Answer::Refused(_)), "{answer:?} to {file:02x?}");
     if let (Answer::Can { elements, links, .. }, Some(ontology)) = (answer, ontology) {
-        let world = World::of_example(&ontology, elements, links);
+        let world = World::of_example(&ontology, elements.len(), |d, row| elements[d].contains(row), links);
         assert!(world.is_model(&ontology, 0), "the example is no model: {file:02x?}");
     }
+}
+
+/// The answer is refusal 10, and the area that it tells, if it tells one, is this one.
+pub fn check_short(answer: &Answer, area: Area, file: &[u8]) {
+    let short = matches!(answer, Answer::Short(told) if told.is_none_or(|told| told == area));
+    assert!(short, "{answer:?}, but {area:?} are short: {file:02x?}");
 }

@@ -1,14 +1,19 @@
-//! What the tests share: the cases of tests/vectors, rule files written row by row, random and damaged rule files, long chains,
-//! and checks of an answering function against the vectors and against the meaning of ALCI.
+//! What the tests share: the questions of tests/vectors and the words they are in, rule files written row by row, random and
+//! damaged rule files, long chains; and checks of an answering function against the vectors, against itself in other areas and
+//! against the meaning of ALCI.
 
+pub mod areas;
 pub mod cases;
 pub mod chains;
 pub mod checks;
 pub mod files;
+pub mod questions;
 pub mod random;
+pub mod record_order;
 pub mod small_worlds;
 
-pub use cases::{cases, Case};
-pub use checks::{check_cases, check_example, on_stack};
+pub use cases::{cases, vectors, Case};
+pub use checks::{check_cases, check_example, on_stack, Answering};
 pub use files::encode;
-pub use random::{damage, random_file, random_lent, Prng, Shape};
+pub use questions::{one_line, Fit};
+pub use random::{damage, random_bytes, random_file, random_lent, Prng, Shape};

@@ -1,7 +1,7 @@
 //! Random rule files from fixed seeds, damage to them, and areas of random lengths.
 
 use crate::files::{encode, Row};
-use plain::Lent;
+use plain::{Lent, Used};
 
 /// SplitMix64: small, and the same numbers on every machine.
 pub struct Prng(u64);
@@ -9,6 +9,11 @@ pub struct Prng(u64);
 impl Prng {
     pub fn new(seed: u64) -> Prng {
         Prng(seed)
+    }
+
+    /// The same numbers for the same bytes.
+    pub fn of_bytes(bytes: &[u8]) -> Prng {
+        Prng(bytes.iter().fold(bytes.len() as u64, |seed, &byte| seed.rotate_left(5) ^ u64::from(byte)))
     }
 
     pub fn next_u64(&mut self) -> u64 {
@@ -47,13 +52,25 @@ pub struct Shape {
     pub compound: usize,
     /// The most rules.
     pub rules: usize,
+    /// The most bytes of text.
+    pub text: usize,
 }
 
 /// A file that the checks accept. The wanted row is the last row, and so is built on others.
 pub fn random_file(prng: &mut Prng, shape: Shape) -> Vec<u8> {
     let rows = random_rows(prng, shape);
     let rules: Vec<u8> = (0..prng.below(shape.rules + 1)).map(|_| prng.byte_below(rows.len())).collect();
-    encode(b"", &rows, &rules, rows.len() as u8 - 1)
+    encode(&random_text(prng, shape.text), &rows, &rules, rows.len() as u8 - 1)
+}
+
+/// One file of four has a text, if the shape allows it one.
+fn random_text(prng: &mut Prng, most: usize) -> Vec<u8> {
+    if most == 0 || prng.below(4) > 0 {
+        return Vec::new();
+    }
+    let mut text = vec![0; 1 + prng.below(most)];
+    prng.fill(&mut text);
+    text
 }
 
 /// Names and negations first, then other rows. "Some" over "all" with the inverse role is what asks for more in the state
@@ -108,13 +125,31 @@ pub fn damage(prng: &mut Prng, file: &mut Vec<u8>) {
     }
 }
 
+/// Random bytes; some end in the mark, and some in a whole trailer whose parts fill the file, so that every file check has its turn.
+pub fn random_bytes(prng: &mut Prng) -> Vec<u8> {
+    let mut file = vec![0; prng.below(64)];
+    prng.fill(&mut file);
+    match prng.below(4) {
+        0 => file,
+        1 => [&file, b"FIT".as_slice()].concat(),
+        _ => random_parts(prng),
+    }
+}
+
+/// A file whose text, one or two rows, rules and wanted row are random bytes, rather zeros.
+fn random_parts(prng: &mut Prng) -> Vec<u8> {
+    let (text, rows, rules) = (prng.below(4), 1 + prng.below(2), prng.below(3));
+    let bound = [2, 7][prng.below(2)];
+    let mut bytes =
+        |count: usize| -> Vec<u8> { (0..count).map(|_| prng.byte_below(bound) * prng.byte_below(2)).collect() };
+    encode(&bytes(text), bytes(4 * rows).as_chunks().0, &bytes(rules), bytes(1)[0])
+}
+
 /// Areas of odd lengths: a broken last record doesn't count.
 pub fn random_lent(prng: &mut Prng) -> Lent {
-    Lent {
-        nodes: prng.below(64 * 60),
-        edges: prng.below(16 * 80),
-        alternatives: prng.below(16 * 6),
-        elements: prng.below(8 * 6),
-        links: prng.below(6 * 8),
-    }
+    let Lent { nodes, edges, alternatives, elements, links } =
+        Lent::just(Used { nodes: 60, edges: 80, alternatives: 6 }, 6, 8);
+    let [nodes, edges, alternatives, elements, links] =
+        [nodes, edges, alternatives, elements, links].map(|length| prng.below(length));
+    Lent { nodes, edges, alternatives, elements, links }
 }

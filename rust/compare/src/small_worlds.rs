@@ -1,12 +1,13 @@
 //! Random small files: an answering function against the meaning of ALCI.
 //!
 //! What a search through all worlds of up to three elements finds must be "can" or refusal 11, unless 10 comes; and the
-//! world of every example obeys every rule, with element 0 a member.
+//! world of every example obeys every rule, with element 0 a member. Refusal 11 comes only where the example is larger than
+//! the areas, and the example is then asked for in areas that hold it.
 
-use crate::{check_example, random_file, Prng, Shape};
+use crate::{check_example, random_file, Answering, Prng, Shape};
 use plain::graph::{Graph, Link};
 use plain::status::Status;
-use plain::{tableau, Answer, Lent, RuleFile};
+use plain::{tableau, Answer, Lent, RuleFile, Used};
 use worlds::{search, Ontology};
 
 const MAX_ELEMENTS: usize = 3;
@@ -32,21 +33,22 @@ pub struct Counts {
 
 /// Small files in plenty, larger ones for longer runs.
 const SHAPES: [(Shape, usize, u64); 4] = [
-    (Shape { names: 1, roles: 1, compound: 6, rules: 2 }, 10_000, 1),
-    (Shape { names: 2, roles: 1, compound: 10, rules: 3 }, 20_000, 2),
-    (Shape { names: 2, roles: 2, compound: 10, rules: 3 }, 20_000, 3),
-    (Shape { names: 2, roles: 2, compound: 18, rules: 5 }, 10_000, 4),
+    (Shape { names: 1, roles: 1, compound: 6, rules: 2, text: 8 }, 10_000, 1),
+    (Shape { names: 2, roles: 1, compound: 10, rules: 3, text: 8 }, 20_000, 2),
+    (Shape { names: 2, roles: 2, compound: 10, rules: 3, text: 8 }, 20_000, 3),
+    (Shape { names: 2, roles: 2, compound: 18, rules: 5, text: 8 }, 10_000, 4),
 ];
 
 /// Checks the answers to all random files, prints how often things happened and fails if one of them was rare.
-pub fn check_random_files(answer: impl Fn(&[u8], &Lent) -> Answer) {
+pub fn check_random_files(mut answer: impl Answering) {
     let mut counts = Counts::default();
     for (shape, files, seed) in SHAPES {
         let mut prng = Prng::new(seed);
         for _ in 0..files {
             let file = random_file(&mut prng, shape);
             let lent = random_areas(&mut prng);
-            check(&file, &answer(&file, &lent), &mut counts);
+            let whole = whole_answer(&mut answer, &file, &lent, &mut counts);
+            check(&file, &whole, &mut counts);
             count_graph(&file, &lent, &mut counts);
         }
     }
@@ -56,13 +58,26 @@ pub fn check_random_files(answer: impl Fn(&[u8], &Lent) -> Answer) {
 
 /// Room for nearly every run, now and then the areas of the printing program, now and then example areas that are too short.
 fn random_areas(prng: &mut Prng) -> Lent {
-    let whole = Lent::records(200, 300, 50, 8 * 100, 6 * 150);
+    let whole = Lent::just(Used { nodes: 200, edges: 300, alternatives: 50 }, 100, 150);
     match prng.below(16) {
         0 => Lent::by_program(),
         1..3 => Lent { elements: prng.below(40), ..whole },
         3..5 => Lent { links: prng.below(30), ..whole },
         _ => whole,
     }
+}
+
+/// The answer in these areas, or, after refusal 11, in areas with an example area of just the records that it says are needed.
+fn whole_answer(answer: &mut impl Answering, file: &[u8], lent: &Lent, counts: &mut Counts) -> Answer {
+    let first = answer(file, lent);
+    let Answer::TooLong { elements, links } = first else { return first };
+    assert!(!lent.holds(elements, links), "an example that fits {lent:?} was refused: {file:02x?}");
+    counts.too_long += 1;
+    let whole = answer(file, &lent.with_example(elements, links));
+    let counted =
+        matches!(&whole, Answer::Can { elements: e, links: l, .. } if (e.len(), l.len()) == (elements, links));
+    assert!(counted, "{whole:?} after {first:?}: {file:02x?}");
+    whole
 }
 
 fn check(file: &[u8], answer: &Answer, counts: &mut Counts) {
@@ -74,9 +89,8 @@ fn check(file: &[u8], answer: &Answer, counts: &mut Counts) {
     }
     check_example(file, answer);
     match answer {
-        Answer::Refused(number) => panic!("refusal {number} of {file:02x?}"),
+        Answer::Refused(_) | Answer::TooLong { .. } => panic!("{answer:?} to {file:02x?}"),
         Answer::Short(_) => counts.short += 1,
-        Answer::TooLong { .. } => counts.too_long += 1,
         Answer::Cannot { .. } => {
             assert!(found.is_none(), "cannot, but there is a world: {file:02x?}");
             counts.cannot += 1;
@@ -119,7 +133,7 @@ fn takes_inverse(graph: &Graph) -> bool {
 
 fn assert_often(counts: &Counts) {
     let often = [
-        ("can", counts.can),
+        ("can at once", counts.can - counts.too_long),
         ("cannot", counts.cannot),
         ("too long", counts.too_long),
         ("world found", counts.world_found),

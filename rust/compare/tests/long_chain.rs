@@ -7,8 +7,7 @@ use plain::{answer, Answer, Lent};
 const SMALL_STACK: usize = 1 << 17;
 
 fn answer_on_small_stack(file: Vec<u8>) -> Answer {
-    let lent = Lent::records(4096, 4096, 4096, 8 * 4096, 6 * 4096);
-    on_stack(SMALL_STACK, move || answer(&file, &lent))
+    on_stack(SMALL_STACK, move || answer(&file, &Lent::most()))
 }
 
 /// Checks that an example has at least so many elements.

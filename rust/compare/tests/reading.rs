@@ -1,7 +1,7 @@
 //! The text of a file, and the order of the checks.
 
 use compare::encode;
-use plain::RuleFile;
+use plain::{text, RuleFile};
 
 const ROWS: [[u8; 4]; 3] = [[1, 0, 0, 0], [5, 31, 0, 0], [6, 0, 1, 0]];
 
@@ -12,6 +12,14 @@ fn the_text_is_the_leading_part_of_the_file() {
     assert_eq!(file.text, b"flush valve");
     assert_eq!(file.text.as_ptr(), bytes.as_ptr(), "uncopied");
     assert_eq!((file.tbox, file.wanted), (vec![1, 1], 2));
+}
+
+#[test]
+fn the_text_of_a_refused_file_is_the_empty_part_at_its_start() {
+    let mut bytes = encode(b"flush valve", &ROWS, &[1, 1], 2);
+    assert_eq!(text(&bytes), b"flush valve");
+    *bytes.last_mut().expect("a byte") = 0;
+    assert_eq!((text(&bytes).as_ptr(), text(&bytes).len()), (bytes.as_ptr(), 0));
 }
 
 #[test]

@@ -52,7 +52,6 @@ fn alternatives_are_those_of_the_paper() {
 }
 
 #[test]
-fn the_file_is_that_of_the_vectors() {
-    let case = cases().into_iter().find(|case| case.name == "worked-example").expect("the case is there");
-    assert_eq!(case.file, file());
+fn the_file_is_one_of_the_vectors() {
+    assert!(cases().iter().any(|case| case.file == file()));
 }

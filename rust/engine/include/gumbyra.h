@@ -1,4 +1,8 @@
-/* The fit engine: one call on a rule file. Link with libengine.a. examples/eight_nodes.c is a whole program. */
+/* The fit engine: two calls on a rule file. Link with libengine.a, which is for x86-64 Linux only.
+   examples/eight_nodes.c is a whole program.
+
+   In both calls a pointer may not be null, even with length 0. Nothing is kept after a call, and there is no state: threads may
+   call at the same time, with areas of their own. For a call of this build a stack of 2 MiB suffices. */
 #ifndef GUMBYRA_H
 #define GUMBYRA_H
 
@@ -29,14 +33,16 @@ typedef struct {
 
 /* Decides a rule file. The areas may be of any length and hold anything; no two may overlap, nor one the file. After a verdict,
    10 or 11 every byte of nodes, edges and alternatives is zero, after 1 to 9 they are as they were. elements and links change
-   with GUMBYRA_CAN only, in the first 8 * answer.elements and 6 * answer.links bytes. A pointer may not be null, even with
-   length 0. */
+   with GUMBYRA_CAN only, in the first GUMBYRA_ELEMENT * answer.elements and GUMBYRA_LINK * answer.links bytes. */
 gumbyra_answer gumbyra_fit(const uint8_t *file, size_t file_len,
                            uint8_t *nodes, size_t nodes_len,
                            uint8_t *edges, size_t edges_len,
                            uint8_t *alternatives, size_t alternatives_len,
                            uint8_t *elements, size_t elements_len,
                            uint8_t *links, size_t links_len);
+
+/* How many leading bytes of a rule file are its text; 0 for a file that is refused with 1 to 9. */
+size_t gumbyra_text(const uint8_t *file, size_t file_len);
 
 #ifdef __cplusplus
 }

@@ -1,8 +1,8 @@
-//! The engine's call by the C convention, as in include/gumbyra.h. The only unsafe code.
+//! The engine's calls by the C convention, as in include/gumbyra.h. The only unsafe code.
 
 use crate::Areas;
 
-/// The numbers of an answer: verdict 1 for "can", 2 for "cannot", 0 with a refusal.
+/// The numbers of an answer.
 #[repr(C)]
 #[derive(Debug)]
 pub struct Answer {
@@ -30,10 +30,12 @@ extern "C" {
         links: *mut u8,
         links_len: usize,
     ) -> Answer;
+
+    fn gumbyra_text(file: *const u8, file_len: usize) -> usize;
 }
 
-/// Calls the engine.
-pub fn call(file: &[u8], areas: &mut Areas) -> Answer {
+/// Decides a rule file.
+pub fn fit(file: &[u8], areas: &mut Areas) -> Answer {
     // SAFETY: each pointer comes with the length of its slice. The slices are borrowed until the call ends, the areas alone,
     // so no two overlap. The engine keeps no pointer and has no state of its own.
     unsafe {
@@ -52,4 +54,10 @@ pub fn call(file: &[u8], areas: &mut Areas) -> Answer {
             areas.links.len(),
         )
     }
+}
+
+/// How many leading bytes of a rule file are its text.
+pub fn text_len(file: &[u8]) -> usize {
+    // SAFETY: the pointer comes with the length of its slice, which the engine only reads, and only during the call.
+    unsafe { gumbyra_text(file.as_ptr(), file.len()) }
 }

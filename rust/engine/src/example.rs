@@ -1,48 +1,56 @@
-//! The example's bytes (document 01, "Areas"): elements and links, low byte first.
+//! The example that comes with "can", read from the bytes of the two example areas (document 01, "Areas").
 
-/// An element's record: its row set, row k as bit k.
-pub const ELEMENT_BYTES: usize = 8;
-/// A link's record: from, role code, to, 2 bytes each.
+use crate::row_set::{RowSet, ELEMENT_BYTES};
+use std::fmt;
+
+/// A link's record: from, role code, to, 2 bytes each, low byte first.
 pub const LINK_BYTES: usize = 6;
 
-/// How many elements and links an example has.
-#[derive(Clone, Copy, Debug, PartialEq, Eq)]
-pub struct Example {
-    pub elements: usize,
-    pub links: usize,
+/// An assembly that shows that the kit can exist. It borrows the two areas that hold it.
+#[derive(Clone, Copy, PartialEq, Eq)]
+pub struct Example<'a> {
+    elements: &'a [[u8; ELEMENT_BYTES]],
+    links: &'a [[u8; LINK_BYTES]],
 }
 
 /// A link of an example. Role code 2k is role k, 2k + 1 its inverse.
-#[derive(Clone, Copy, Debug, PartialEq, Eq)]
+#[derive(Clone, Copy, Debug, PartialEq, Eq, Hash)]
 pub struct Link {
     pub from: u16,
     pub role: u16,
     pub to: u16,
 }
 
-impl Example {
-    /// The elements' row sets from the element area. Element 0 is a member of the kit.
-    ///
-    /// # Panics
-    /// If the area is shorter than the elements' records.
-    pub fn read_elements<'a>(&self, area: &'a [u8]) -> impl Iterator<Item = u64> + 'a {
-        records(area, self.elements).map(u64::from_le_bytes)
+impl<'a> Example<'a> {
+    /// The first so many records of each area; `None` if an area has fewer.
+    pub(crate) fn read(areas: [&'a [u8]; 2], counts: [usize; 2]) -> Option<Example<'a>> {
+        let [elements, links] = areas;
+        Some(Example {
+            elements: elements.as_chunks().0.get(..counts[0])?,
+            links: links.as_chunks().0.get(..counts[1])?,
+        })
     }
 
-    /// The links from the link area.
-    ///
-    /// # Panics
-    /// If the area is shorter than the links' records.
-    pub fn read_links<'a>(&self, area: &'a [u8]) -> impl Iterator<Item = Link> + 'a {
-        records(area, self.links).map(|[a, b, c, d, e, f]: [u8; LINK_BYTES]| Link {
-            from: u16::from_le_bytes([a, b]),
-            role: u16::from_le_bytes([c, d]),
-            to: u16::from_le_bytes([e, f]),
-        })
+    /// The row set of each element; `len` tells how many there are. Element 0 is a member of the kit.
+    pub fn elements(&self) -> impl ExactSizeIterator<Item = RowSet> + 'a {
+        self.elements.iter().map(|&record| RowSet::of_record(record))
+    }
+
+    /// The links, repeats kept; `len` tells how many there are.
+    pub fn links(&self) -> impl ExactSizeIterator<Item = Link> + 'a {
+        self.links.iter().map(|&record| Link::of_record(record))
     }
 }
 
-/// The first so many records of an area.
-fn records<const BYTES: usize>(area: &[u8], count: usize) -> impl Iterator<Item = [u8; BYTES]> + '_ {
-    area[..count * BYTES].chunks_exact(BYTES).map(|record| record.try_into().expect("a whole record"))
+impl Link {
+    fn of_record([a, b, c, d, e, f]: [u8; LINK_BYTES]) -> Link {
+        Link { from: u16::from_le_bytes([a, b]), role: u16::from_le_bytes([c, d]), to: u16::from_le_bytes([e, f]) }
+    }
+}
+
+impl fmt::Debug for Example<'_> {
+    fn fmt(&self, f: &mut fmt::Formatter) -> fmt::Result {
+        let (elements, links): (Vec<RowSet>, Vec<Link>) = (self.elements().collect(), self.links().collect());
+        f.debug_struct("Example").field("elements", &elements).field("links", &links).finish()
+    }
 }

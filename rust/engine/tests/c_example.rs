@@ -3,7 +3,11 @@
 use std::path::Path;
 use std::process::Command;
 
-const EXPECTED: &str = "verdict 1, refusal 0, used 8 7 1\n2 elements, the first with rows 05; 1 link, to 1\n";
+const EXPECTED: &str = "\
+text: hose
+verdict 1, refusal 0, used 8 7 1
+2 elements, the first with rows 05; 1 link, to 1
+";
 
 #[test]
 fn the_c_example_decides_the_eight_node_run() {

@@ -2,6 +2,7 @@
 
 use crate::example::{example, Example, RoleLink};
 use crate::graph::{Area, Capacity, Graph};
+use crate::row_set::RowSet;
 use crate::rulefile::RuleFile;
 use crate::status::Status;
 use crate::tableau::{run, ROOT};
@@ -10,7 +11,7 @@ use std::fmt::Write;
 const NODE: usize = 64;
 const EDGE: usize = 16;
 const ALTERNATIVE: usize = 16;
-const ELEMENT: usize = 8;
+const ELEMENT: usize = RowSet::BYTES;
 const LINK: usize = 6;
 const MOST_RECORDS: usize = 4096;
 
@@ -30,6 +31,23 @@ impl Lent {
         Lent { nodes: nodes * NODE, edges: edges * EDGE, alternatives: alternatives * ALTERNATIVE, elements, links }
     }
 
+    /// Just the records that a run used and just the records of its example.
+    pub fn just(used: Used, elements: usize, links: usize) -> Lent {
+        let Used { nodes, edges, alternatives } = used;
+        Lent::records(nodes, edges, alternatives, 0, 0).with_example(elements, links)
+    }
+
+    /// The most records that count, and room for every example that a run in them can give.
+    pub fn most() -> Lent {
+        let used = Used { nodes: MOST_RECORDS, edges: MOST_RECORDS, alternatives: MOST_RECORDS };
+        Lent::just(used, MOST_RECORDS, MOST_RECORDS)
+    }
+
+    /// The same work areas, and example areas for so many elements and links.
+    pub fn with_example(self, elements: usize, links: usize) -> Lent {
+        Lent { elements: elements * ELEMENT, links: links * LINK, ..self }
+    }
+
     /// What the printing program lends.
     pub fn by_program() -> Lent {
         Lent::records(1024, 4096, 4096, 8192, 49152)
@@ -44,8 +62,9 @@ impl Lent {
         }
     }
 
-    fn holds(&self, example: &Example) -> bool {
-        example.elements.len() * ELEMENT <= self.elements && example.links.len() * LINK <= self.links
+    /// Do the example areas hold so many elements and links?
+    pub fn holds(&self, elements: usize, links: usize) -> bool {
+        elements * ELEMENT <= self.elements && links * LINK <= self.links
     }
 }
 
@@ -62,14 +81,14 @@ pub struct Used {
 pub enum Answer {
     /// A file check refuses the file: 1 to 9.
     Refused(u8),
-    /// Refusal 10: the procedure's next record has no place in this area.
-    Short(Area),
+    /// Refusal 10: the procedure's next record has no place in its area. `plain` tells which, the engine does not.
+    Short(Option<Area>),
     /// Refusal 11: the verdict is "can" and an example area is too short for so many.
     TooLong { elements: usize, links: usize },
     /// The wanted row cannot hold anywhere.
     Cannot { used: Used },
     /// It can, and this is an example.
-    Can { used: Used, elements: Vec<u64>, links: Vec<RoleLink> },
+    Can { used: Used, elements: Vec<RowSet>, links: Vec<RoleLink> },
 }
 
 /// The answer to a file, given the lengths of the areas.
@@ -80,7 +99,7 @@ pub fn answer(file: &[u8], lent: &Lent) -> Answer {
     };
     match run(&file, lent.capacity()) {
         Ok(graph) => verdict(&file, &graph, lent),
-        Err(area) => Answer::Short(area),
+        Err(area) => Answer::Short(Some(area)),
     }
 }
 
@@ -90,12 +109,11 @@ fn verdict(file: &RuleFile, graph: &Graph, lent: &Lent) -> Answer {
     if matches!(graph.nodes[ROOT].status, Status::Unsat | Status::TooSmall) {
         return Answer::Cannot { used };
     }
-    let example = example(&file.concepts, graph);
-    if !lent.holds(&example) {
-        return Answer::TooLong { elements: example.elements.len(), links: example.links.len() };
+    let Example { elements, links } = example(&file.concepts, graph);
+    if !lent.holds(elements.len(), links.len()) {
+        return Answer::TooLong { elements: elements.len(), links: links.len() };
     }
-    let elements = example.elements.iter().map(|rows| rows.0).collect();
-    Answer::Can { used, elements, links: example.links }
+    Answer::Can { used, elements, links }
 }
 
 /// The lines that the printing program prints.
@@ -109,10 +127,10 @@ pub fn print(answer: &Answer) -> String {
     }
 }
 
-fn print_can(used: &Used, elements: &[u64], links: &[RoleLink]) -> String {
+fn print_can(used: &Used, elements: &[RowSet], links: &[RoleLink]) -> String {
     let mut text = format!("CAN {} {}\n{}", elements.len(), links.len(), print_used(used));
     for (number, rows) in elements.iter().enumerate() {
-        writeln!(text, "E {number} {rows:016x}").expect("writing to a string does not fail");
+        writeln!(text, "E {number} {rows}").expect("writing to a string does not fail");
     }
     for (from, role, to) in links {
         writeln!(text, "L {from} {role} {to}").expect("writing to a string does not fail");

@@ -17,4 +17,5 @@ pub mod tableau;
 
 pub use answer::{answer, print, Answer, Lent, Used};
 pub use graph::Area;
-pub use rulefile::RuleFile;
+pub use row_set::RowSet;
+pub use rulefile::{text, RuleFile};

@@ -1,10 +1,15 @@
 //! Sets of rows: row k is bit k.
 
-/// A set of rows, at most 64 of them.
+use std::fmt;
+
+/// A set of rows, at most 64 of them. It prints as hexadecimal digits, the highest row first.
 #[derive(Clone, Copy, Debug, Default, PartialEq, Eq)]
-pub struct RowSet(pub u64);
+pub struct RowSet(u64);
 
 impl RowSet {
+    /// Bytes of a set, and so of an element's record.
+    pub const BYTES: usize = 8;
+
     /// The set without a row.
     pub const EMPTY: RowSet = RowSet(0);
 
@@ -23,14 +28,30 @@ impl RowSet {
         RowSet(self.0 | other.0)
     }
 
+    /// The rows that the other set lacks.
+    pub fn difference(self, other: RowSet) -> RowSet {
+        RowSet(self.0 & !other.0)
+    }
+
     /// The rows of the set, rising.
     pub fn rows(self) -> impl Iterator<Item = usize> {
         (0..64).filter(move |&row| self.contains(row))
+    }
+
+    /// An element's record: low byte first.
+    pub fn record(self) -> [u8; RowSet::BYTES] {
+        self.0.to_le_bytes()
     }
 }
 
 impl FromIterator<usize> for RowSet {
     fn from_iter<I: IntoIterator<Item = usize>>(rows: I) -> RowSet {
         rows.into_iter().fold(RowSet::EMPTY, RowSet::with)
+    }
+}
+
+impl fmt::Display for RowSet {
+    fn fmt(&self, f: &mut fmt::Formatter) -> fmt::Result {
+        write!(f, "{:016x}", self.0)
     }
 }

@@ -39,6 +39,11 @@ impl<'a> RuleFile<'a> {
     }
 }
 
+/// The text of a file: the part before the rows; of a refused file the empty part at its start.
+pub fn text(file: &[u8]) -> &[u8] {
+    RuleFile::read(file).map_or(&file[..0], |read| read.text)
+}
+
 /// The parts of a file that passes checks 1 to 4.
 struct Parts<'a> {
     text: &'a [u8],

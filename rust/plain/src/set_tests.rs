@@ -49,7 +49,7 @@ pub fn universal_arguments(concepts: &[Concept], set: RowSet, role: Role) -> Row
 
 /// Those of them that the other set lacks.
 pub fn lacking(concepts: &[Concept], set: RowSet, role: Role, other: RowSet) -> RowSet {
-    RowSet(universal_arguments(concepts, set, role).0 & !other.0)
+    universal_arguments(concepts, set, role).difference(other)
 }
 
 /// Role and argument of the set's kind 6 rows, rising.

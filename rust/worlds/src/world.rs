@@ -23,13 +23,18 @@ impl World {
         World { names: vec![0; size], pairs: vec![Vec::new(); ROLES] }
     }
 
-    /// The world of an example. A name holds where its kind 1 row is in the set; (d, e) belongs to role k if
-    /// (d, 2k, e) or (e, 2k + 1, d) is listed.
-    pub fn of_example(ontology: &Ontology, elements: &[u64], links: &[(u16, u16, u16)]) -> World {
-        let mut world = World::new(elements.len());
+    /// The world of an example with so many elements; `listed` tells whether the set of an element has a row. A name holds
+    /// where its kind 1 row is in the set; (d, e) belongs to role k if (d, 2k, e) or (e, 2k + 1, d) is listed.
+    pub fn of_example(
+        ontology: &Ontology,
+        size: usize,
+        listed: impl Fn(usize, usize) -> bool,
+        links: &[(u16, u16, u16)],
+    ) -> World {
+        let mut world = World::new(size);
         for (row, concept) in ontology.rows.iter().enumerate() {
             if let Concept::Name(name) = *concept {
-                let holding = (0..elements.len()).filter(|&d| elements[d] >> row & 1 == 1);
+                let holding = (0..size).filter(|&d| listed(d, row));
                 holding.for_each(|d| world.set_name(name, d));
             }
         }

@@ -1,4 +1,5 @@
 -- An accepted file: decided, and the work areas cleared. Assumes nothing.
+use Rattle.rulefile.specs.PartLaws.{laid-placed}
 use Rattle.engine.specs.PartLaws.{file-asks}
 use Rattle.engine.specs.AnswerWays.{file-answered}
 use borrow.Author.Needs.{needs}
@@ -7,15 +8,15 @@ use Rattle.engine.proofs.fit_accepted.Tie as tie
 
 -- src/lib.rt:147:9
 rows-of-requires : tie.Need-rows-of-requires
-rows-of-requires c κs = search needs
+rows-of-requires c κs = search (laid-placed, needs)
 
 -- src/lib.rt:148:9
 rules-of-requires : tie.Need-rules-of-requires
-rules-of-requires c κs = search needs
+rules-of-requires c κs = search (laid-placed, needs)
 
 -- src/lib.rt:149:9
 wanted-of-requires : tie.Need-wanted-of-requires
-wanted-of-requires c κs = search needs
+wanted-of-requires c κs = search (laid-placed, needs)
 
 -- src/lib.rt:150:9
 decide-requires : tie.Need-decide-requires

@@ -1,7 +1,9 @@
 -- The call: the promise, for every file. Assumes nothing.
 use mathlib.Core.Path.{sym, _∙_}
 use Rattle.conclusion.specs.Contracts.{areasOf}
-use Rattle.engine.specs.AnswerWays.{reads-refused, reads-accepted, promised, refused-answered}
+use Rattle.rulefile.specs.Format.{ruleKinds}
+use Rattle.rulefile.specs.PartLaws.{reads-refused, reads-accepted}
+use Rattle.engine.specs.AnswerWays.{promised, refused-answered}
 use borrow.Author.Needs.{needs}
 use Rattle.engine.proofs.gumbyra_fit.Statement.{statement}
 use Rattle.engine.proofs.gumbyra_fit.Tie as tie
@@ -29,13 +31,13 @@ enum-known-layout c = search needs
 -- src/lib.rt:171:38
 fit-accepted-requires : tie.Need-fit-accepted-requires
 fit-accepted-requires c κs =
-    reads-accepted (c .before .before .before .before .before .before .before .before .before .before .before .before .before .before .before .args .file .now) (c .before .before .before .before .before .before .layout .given .0 .0) (sym (c .before .before .before .before .before .before .layout .given .1) ∙ c .before .before .before .before .before .before .before .before .read .ensures)
+    reads-accepted ruleKinds (c .before .before .before .before .before .before .before .before .before .before .before .before .before .before .before .args .file .now) (c .before .before .before .before .before .before .layout .given .0 .0) (sym (c .before .before .before .before .before .before .layout .given .1) ∙ c .before .before .before .before .before .before .before .before .read .ensures)
 
 -- src/lib.rt:158:1
 returns : tie.Need-returns
 returns c =
     let a = c .before .before .before .before .before .before .before .before .before .before .before .args in
-    refused-answered (a .file .now) (areasOf (a .nodes .now) (a .edges .now) (a .alternatives .now) (a .elements .now) (a .links .now)) (c .before .before .n .given .0 .0) (reads-refused (a .file .now) (c .before .before .n .given .0 .0) (sym (c .before .before .n .given .1) ∙ c .before .before .before .before .read .ensures)) _ (c .refused .ensures)
+    refused-answered (a .file .now) (areasOf (a .nodes .now) (a .edges .now) (a .alternatives .now) (a .elements .now) (a .links .now)) (c .before .before .n .given .0 .0) (reads-refused ruleKinds (a .file .now) (c .before .before .n .given .0 .0) (sym (c .before .before .n .given .1) ∙ c .before .before .before .before .read .ensures)) _ (c .refused .ensures)
 
 -- src/lib.rt:158:1
 same-length : tie.Need-same-length

@@ -1,28 +1,31 @@
--- `rulefile::bad_argument` meets its contract: the bytes that it reads are those of the definition.
+-- `rulefile::bad_argument` meets its contract: the rows that row k names are the arguments of its concept.
 -- Assumes nothing.
+use mathlib.Core.Path.{sym, ap, _∙_}
+use mathlib.Core.List.{List}
+use Prim.Native.Nat.{ℕ}
+use lib.Dec.{leb}
 use borrow.Author.Needs.{needs}
-use Rattle.rulefile.specs.FormatLaws.{badArgument-unordered}
+use Rattle.concepts.specs.Lists.{any}
+use Rattle.rulefile.specs.Format.{rowByte, badArgument}
+use Rattle.rulefile.specs.Read.{rowsOf}
+use Rattle.rulefile.specs.DecodeLaws.{arguments-named}
 use Rattle.rulefile.proofs.bad_argument.Statement.{statement}
 use Rattle.rulefile.proofs.bad_argument.Tie as tie
 
-row-byte-requires : tie.Need-row-byte-requires
-row-byte-requires c κs = search needs
+row-at-requires : tie.Need-row-at-requires
+row-at-requires c κs = search needs
 
-row-byte-requires-2 : tie.Need-row-byte-requires-2
-row-byte-requires-2 c κs = search needs
-
-row-byte-requires-3 : tie.Need-row-byte-requires-3
-row-byte-requires-3 c κs = search needs
-
-unordered-requires : tie.Need-unordered-requires
-unordered-requires c κs = search needs
+names-from-requires : tie.Need-names-from-requires
+names-from-requires c κs = search needs
 
 returns : tie.Need-returns
+unfolding badArgument
 returns c =
-    let s = c .before .before .before .before .before in
-    cc (badArgument-unordered (s .args .file .now) (s .args .k))
+    let a = c .before .before .before .args in
+    let b = a .file .now in
+    c .names-from .ensures
+    ∙ ap (any (λ l. leb (a .k) l))
+    (ap rowsOf (c .before .row-at .ensures) ∙ sym (arguments-named (a .kinds) (rowByte b (a .k) 0) (rowByte b (a .k) 1) (rowByte b (a .k) 2) (rowByte b (a .k) 3)))
 
 pub bad-argument-spec : {M : Type 1} → statement M
-bad-argument-spec =
-    tie.close
-    (tie.spec row-byte-requires row-byte-requires-2 row-byte-requires-3 unordered-requires returns)
+bad-argument-spec = tie.close (tie.spec row-at-requires names-from-requires returns)

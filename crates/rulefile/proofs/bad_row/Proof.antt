@@ -1,36 +1,26 @@
--- `rulefile::bad_row` meets its contract: the bytes that it reads are those of the definition.
+-- `rulefile::bad_row` meets its contract: a row is malformed where it is not decoded.
 -- Assumes nothing.
+use mathlib.Core.Path.{sym, ap, _∙_}
 use borrow.Author.Needs.{needs}
-use Rattle.rulefile.specs.Format.{badRow}
+use Rattle.rulefile.specs.Format.{rowByte, badRow}
+use Rattle.rulefile.specs.Read.{isMalformed}
+use Rattle.rulefile.specs.DecodeLaws.{malformed-named}
 use Rattle.rulefile.proofs.bad_row.Statement.{statement}
 use Rattle.rulefile.proofs.bad_row.Tie as tie
 
-row-byte-requires : tie.Need-row-byte-requires
-row-byte-requires c κs = search needs
+row-at-requires : tie.Need-row-at-requires
+row-at-requires c κs = search needs
 
-row-byte-requires-2 : tie.Need-row-byte-requires-2
-row-byte-requires-2 c κs = search needs
-
-row-byte-requires-3 : tie.Need-row-byte-requires-3
-row-byte-requires-3 c κs = search needs
-
-row-byte-requires-4 : tie.Need-row-byte-requires-4
-row-byte-requires-4 c κs = search needs
-
-malformed-requires : tie.Need-malformed-requires
-malformed-requires c κs = search needs
+is-malformed-requires : tie.Need-is-malformed-requires
+is-malformed-requires c κs = search needs
 
 returns : tie.Need-returns
 unfolding badRow
-returns c = cc
+returns c =
+    let a = c .before .before .before .args in
+    let b = a .file .now in
+    c .is-malformed .ensures ∙ ap isMalformed (c .before .row-at .ensures)
+    ∙ sym (malformed-named (a .kinds) (rowByte b (a .k) 0) (rowByte b (a .k) 1) (rowByte b (a .k) 2) (rowByte b (a .k) 3))
 
 pub bad-row-spec : {M : Type 1} → statement M
-bad-row-spec =
-    tie.close
-    (tie.spec
-    row-byte-requires
-    row-byte-requires-2
-    row-byte-requires-3
-    row-byte-requires-4
-    malformed-requires
-    returns)
+bad-row-spec = tie.close (tie.spec row-at-requires is-malformed-requires returns)

@@ -12,10 +12,10 @@ use Rattle.rulefile.proofs.found.Statement.{statement}
 use Rattle.rulefile.proofs.found.Tie as tie
 
 abbrev Inv-loop : tie.InvT-loop
-Inv-loop file finding n i₀ i = (n ≡ extent finding file) × (i ≤ n) × NoneBelow (foundAt finding file) i
+Inv-loop file kinds finding n i₀ i = (n ≡ extent finding file) × (i ≤ n) × NoneBelow (foundAt kinds finding file) i
 
 abbrev μ-loop : tie.MeasureT-loop
-μ-loop file finding n i₀ i = n - i
+μ-loop file kinds finding n i₀ i = n - i
 
 extent-requires : tie.Need-extent-requires Inv-loop μ-loop
 extent-requires c κs = search needs
@@ -31,7 +31,7 @@ returns c =
     let a = c .before .before .before .before .before .before .args in
     let l = c .before .before .before .loop in
     sym
-    (any-range-found (foundAt (a .finding) (a .file .now)) (extent (a .finding) (a .file .now)) (l .i)
+    (any-range-found (foundAt (a .kinds) (a .finding) (a .file .now)) (extent (a .finding) (a .file .now)) (l .i)
     (omega (arith, c .before .before .loop-test .taken, l .inv .0))
     (sym (c .before .found-at .ensures) ∙ c .if1 .taken))
 
@@ -51,7 +51,7 @@ returns-2 c =
     let a = c .before .before .before .before .args in
     let l = c .before .loop in
     sym
-    (any-range-none (foundAt (a .finding) (a .file .now)) (extent (a .finding) (a .file .now))
+    (any-range-none (foundAt (a .kinds) (a .finding) (a .file .now)) (extent (a .finding) (a .file .now))
     (λ i h. l .inv .2 i (omega (arith, c .loop-test .left, l .inv .0))))
 
 pub found-spec : {M : Type 1} → statement M

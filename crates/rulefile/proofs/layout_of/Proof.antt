@@ -1,7 +1,6 @@
--- `rulefile::layout_of` meets its contract: the numbers that it reads are the lengths of the parts.
+-- `rulefile::layout_of` meets its contract: the numbers that it reads are those of the trailer.
 -- Assumes nothing.
 use borrow.Author.Needs.{needs}
-use Rattle.rulefile.specs.ReadLaws.{layout-trailer}
 use Rattle.rulefile.proofs.layout_of.Statement.{statement}
 use Rattle.rulefile.proofs.layout_of.Tie as tie
 
@@ -30,9 +29,7 @@ cast-t9 : tie.Need-cast-t9
 cast-t9 c = search needs
 
 returns : tie.Need-returns
-returns c =
-    let s = c .before .before .before .before .before in
-    rw (layout-trailer (s .args .file .now) (s .pre)) (cc)
+returns c = cc
 
 pub layout-of-spec : {M : Type 1} → statement M
 layout-of-spec =

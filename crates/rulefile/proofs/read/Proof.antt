@@ -1,39 +1,46 @@
--- `rulefile::read` meets its contract: the invariant is that the checks below `n` have passed.
+-- `rulefile::read` meets its contract: the invariant is that the file passed the checks before place `i`.
 -- Assumes nothing.
 use mathlib.Core.Path.{sym, ap, _∙_}
-use Prim.Native.Nat.{_<_, _≤_, _-_}
+use Prim.Native.Nat.{_≤_, _-_}
 use native.Mathlib.Omega.{arith}
-use borrow.Author.Count.{below-more}
-use Rattle.rulefile.specs.declared.Outcome.the-variants.{Accepted}
+use borrow.Author.Count.{below-none, below-more}
+use borrow.Author.Needs.{needs}
+use Rattle.rulefile.specs.declared.Outcome.the-variants.{Refused, Accepted}
 use Rattle.rulefile.specs.Checks.{Passed}
-use Rattle.rulefile.specs.CheckLaws.{passed-one, reading-refused, reading-accepted, parted}
+use Rattle.rulefile.specs.CheckLaws.{reading-refused, reading-accepted, parted}
 use Rattle.rulefile.specs.Read.{readOf}
+use Rattle.rulefile.specs.ReadLaws.{layout-trailer}
 use Rattle.rulefile.proofs.read.Statement.{statement}
 use Rattle.rulefile.proofs.read.Tie as tie
 
 abbrev Inv-loop : tie.InvT-loop
-Inv-loop file n₀ n = (0 < n) × (n ≤ 10) × Passed file n
+Inv-loop file kinds i₀ i = (i ≤ 9) × Passed kinds file i
 
 abbrev μ-loop : tie.MeasureT-loop
-μ-loop file n₀ n = 10 - n
+μ-loop file kinds i₀ i = 9 - i
 
 loop-holds : tie.Need-loop-holds Inv-loop μ-loop
-loop-holds c = (omega arith, omega arith, passed-one (c .before .args .file .now))
+loop-holds c = (omega arith, below-none _)
 
 refuses-requires : tie.Need-refuses-requires Inv-loop μ-loop
-refuses-requires c κs = (c .before .loop .inv .0, omega arith, c .before .loop .inv .2)
+refuses-requires c κs = (omega arith, c .before .loop .inv .1)
+
+number-requires : tie.Need-number-requires Inv-loop μ-loop
+number-requires c κs = omega (arith, c .before .before .loop-test .taken)
 
 returns : tie.Need-returns Inv-loop μ-loop
 unfolding readOf
 returns c =
-    let l = c .before .before .before .loop in
-    ap readOf
+    let a = c .before .before .before .before .before .before .args in
+    let l = c .before .before .before .before .loop in
+    ap Refused (c .number .ensures (a .kinds))
+    ∙ ap readOf
     (sym
-    (reading-refused (c .before .before .before .before .before .args .file .now) (l .n) (omega (arith, c .before .before .loop-test .taken)) (l .inv .2)
-    (sym (c .before .refuses .ensures) ∙ c .if1 .taken)))
+    (reading-refused (a .kinds) (a .file .now) (l .i) (omega (arith, c .before .before .before .loop-test .taken)) (l .inv .1)
+    (sym (c .before .before .refuses .ensures) ∙ c .before .if1 .taken)))
 
-add-n : tie.Need-add-n Inv-loop μ-loop
-add-n c = omega arith
+add-i : tie.Need-add-i Inv-loop μ-loop
+add-i c = omega arith
 
 loop-less : tie.Need-loop-less Inv-loop μ-loop
 loop-less c = omega arith
@@ -41,20 +48,21 @@ loop-less c = omega arith
 loop-again : tie.Need-loop-again Inv-loop μ-loop
 loop-again c =
     let l = c .before .before .before .loop in
-    (omega arith, omega arith, below-more _ (l .n) (l .inv .2) (sym (c .before .refuses .ensures) ∙ c .if1 .left))
+    (omega arith, below-more _ (l .i) (l .inv .1) (sym (c .before .refuses .ensures) ∙ c .if1 .left))
 
 layout-of-requires : tie.Need-layout-of-requires Inv-loop μ-loop
-layout-of-requires c κs = parted (c .before .loop .inv .2) (omega arith)
+layout-of-requires c κs =
+    let a = c .before .before .before .args in
+    parted (a .kinds) (a .file .now) (c .before .loop .inv .1) (omega arith)
 
 returns-2 : tie.Need-returns-2 Inv-loop μ-loop
 unfolding readOf
 returns-2 c =
     let s = c .before in
-    ap Accepted (c .layout-of .ensures)
-    ∙ ap readOf
-    (sym
-    (reading-accepted (s .before .before .before .args .file .now)
-    (λ k h. s .before .loop .inv .2 k (omega (arith, s .loop-test .left)))))
+    let a = s .before .before .before .args in
+    let passed = s .before .loop .inv .1 in
+    ap Accepted (c .layout-of .ensures ∙ sym (layout-trailer (a .kinds) (a .file .now) (parted (a .kinds) (a .file .now) passed (omega (arith, s .loop-test .left)))))
+    ∙ ap readOf (sym (reading-accepted (a .kinds) (a .file .now) (λ k h. passed k (omega (arith, s .loop-test .left)))))
 
 pub read-spec : {M : Type 1} → statement M
 read-spec =
@@ -64,8 +72,9 @@ read-spec =
     μ-loop
     loop-holds
     refuses-requires
+    number-requires
     returns
-    add-n
+    add-i
     loop-less
     loop-again
     layout-of-requires

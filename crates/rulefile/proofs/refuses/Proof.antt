@@ -11,48 +11,48 @@ use Rattle.rulefile.specs.Read.{extent, foundAt}
 use Rattle.rulefile.proofs.refuses.Statement.{statement}
 use Rattle.rulefile.proofs.refuses.Tie as tie
 
--- the last arm is that of check 9
-above-four : (n : ℕ) → 0 < n → (n ≡ 1 → ⊥) → (n ≡ 2 → ⊥) → (n ≡ 3 → ⊥) → (n ≡ 4 → ⊥) → 4 < n
-above-four n h h₁ h₂ h₃ h₄ = omega arith
+-- the last arm is that of the last check
+past-three : (i : ℕ) → (i ≡ 0 → ⊥) → (i ≡ 1 → ⊥) → (i ≡ 2 → ⊥) → (i ≡ 3 → ⊥) → 3 < i
+past-three i h₀ h₁ h₂ h₃ = omega arith
 
-nine : (n : ℕ) → 4 < n → n < 10 → (n ≡ 5 → ⊥) → (n ≡ 6 → ⊥) → (n ≡ 7 → ⊥) → (n ≡ 8 → ⊥) → n ≡ 9
-nine n h l h₅ h₆ h₇ h₈ = omega arith
+last : (i : ℕ) → 3 < i → i < 9 → (i ≡ 4 → ⊥) → (i ≡ 5 → ⊥) → (i ≡ 6 → ⊥) → (i ≡ 7 → ⊥) → i ≡ 8
+last i h l h₄ h₅ h₆ h₇ = omega arith
 
-last-arm : (n : ℕ) → 0 < n → n < 10
-    → (((((((Unit {0} × (n ≡ 1 → ⊥)) × (n ≡ 2 → ⊥)) × (n ≡ 3 → ⊥)) × (n ≡ 4 → ⊥)) × (n ≡ 5 → ⊥)) × (n ≡ 6 → ⊥)) × (n ≡ 7 → ⊥)) × (n ≡ 8 → ⊥)
-    → n ≡ 9
-last-arm n h l r =
-    nine n (above-four n h (r .0 .0 .0 .0 .0 .0 .0 .1) (r .0 .0 .0 .0 .0 .0 .1) (r .0 .0 .0 .0 .0 .1) (r .0 .0 .0 .0 .1)) l
+last-arm : (i : ℕ) → i < 9
+    → (((((((Unit {0} × (i ≡ 0 → ⊥)) × (i ≡ 1 → ⊥)) × (i ≡ 2 → ⊥)) × (i ≡ 3 → ⊥)) × (i ≡ 4 → ⊥)) × (i ≡ 5 → ⊥)) × (i ≡ 6 → ⊥)) × (i ≡ 7 → ⊥)
+    → i ≡ 8
+last-arm i l r =
+    last i (past-three i (r .0 .0 .0 .0 .0 .0 .0 .1) (r .0 .0 .0 .0 .0 .0 .1) (r .0 .0 .0 .0 .0 .1) (r .0 .0 .0 .0 .1)) l
     (r .0 .0 .0 .1) (r .0 .0 .1) (r .0 .1) (r .1)
 
 bad-length-requires : tie.Need-bad-length-requires
 bad-length-requires c κs = search needs
 
 bad-mark-requires : tie.Need-bad-mark-requires
-bad-mark-requires c κs = long (c .before .before .pre .2) (omega (arith, c .match))
+bad-mark-requires c κs = long (c .before .before .args .kinds) (c .before .before .args .file .now) (c .before .before .pre .1) (omega (arith, c .match))
 
 bad-counts-requires : tie.Need-bad-counts-requires
-bad-counts-requires c κs = long (c .before .before .pre .2) (omega (arith, c .match))
+bad-counts-requires c κs = long (c .before .before .args .kinds) (c .before .before .args .file .now) (c .before .before .pre .1) (omega (arith, c .match))
 
 bad-place-requires : tie.Need-bad-place-requires
-bad-place-requires c κs = long (c .before .before .pre .2) (omega (arith, c .match))
+bad-place-requires c κs = long (c .before .before .args .kinds) (c .before .before .args .file .now) (c .before .before .pre .1) (omega (arith, c .match))
 
 found-requires : tie.Need-found-requires
-found-requires c κs = parted (c .before .before .pre .2) (omega (arith, c .match))
+found-requires c κs = parted (c .before .before .args .kinds) (c .before .before .args .file .now) (c .before .before .pre .1) (omega (arith, c .match))
 
 found-requires-2 : tie.Need-found-requires-2
-found-requires-2 c κs = parted (c .before .before .pre .2) (omega (arith, c .match))
+found-requires-2 c κs = parted (c .before .before .args .kinds) (c .before .before .args .file .now) (c .before .before .pre .1) (omega (arith, c .match))
 
 found-requires-3 : tie.Need-found-requires-3
-found-requires-3 c κs = parted (c .before .before .pre .2) (omega (arith, c .match))
+found-requires-3 c κs = parted (c .before .before .args .kinds) (c .before .before .args .file .now) (c .before .before .pre .1) (omega (arith, c .match))
 
 bad-rule-requires : tie.Need-bad-rule-requires
-bad-rule-requires c κs = parted (c .before .before .pre .2) (omega (arith, c .match))
+bad-rule-requires c κs = parted (c .before .before .args .kinds) (c .before .before .args .file .now) (c .before .before .pre .1) (omega (arith, c .match))
 
 found-requires-4 : tie.Need-found-requires-4
 found-requires-4 c κs =
     let s = c .before .before in
-    parted (s .pre .2) (omega (arith, last-arm (s .args .n) (s .pre .0) (s .pre .1) (c .match .rest)))
+    parted (s .args .kinds) (s .args .file .now) (s .pre .1) (omega (arith, last-arm (s .args .i) (s .pre .0) (c .match .rest)))
 
 returns : tie.Need-returns
 unfolding checks extent foundAt
@@ -90,7 +90,7 @@ returns-9 : tie.Need-returns-9
 unfolding checks extent foundAt
 returns-9 c =
     let s = c .before .before .before in
-    rw (last-arm (s .args .n) (s .pre .0) (s .pre .1) (c .before .match .rest)) (ap not (c .found4 .ensures))
+    rw (last-arm (s .args .i) (s .pre .0) (c .before .match .rest)) (ap not (c .found4 .ensures))
 
 pub refuses-spec : {M : Type 1} → statement M
 refuses-spec =

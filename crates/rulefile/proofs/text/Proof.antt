@@ -1,25 +1,53 @@
--- `rulefile::text` meets its contract: the text is the leading part of its own length.
+-- `rulefile::text` meets its contract: the part that is handed back starts where the file starts, and is as long as the text.
 -- Assumes nothing.
+use mathlib.Core.Path.{sym, _∙_}
+use native.Mathlib.Omega.{arith}
 use borrow.Author.Needs.{needs}
-use Rattle.rulefile.specs.ReadLaws.{textLength-textOf, take-textOf}
+use Rattle.rulefile.specs.ReadLaws.{text-refused}
+use Rattle.rulefile.specs.PartLaws.{reads-refused, reads-accepted, laid-text, laid-inside}
 use Rattle.rulefile.proofs.text.Statement.{statement}
 use Rattle.rulefile.proofs.text.Tie as tie
 
 read-requires : tie.Need-read-requires
 read-requires c κs = search needs
 
-text-length-requires : tie.Need-text-length-requires
-text-length-requires c κs = search needs
+enum-told : tie.Need-enum-told
+enum-told c = search needs
 
-slice-aggregate-result : tie.Need-slice-aggregate-result
-slice-aggregate-result c =
-    let b = c .before .before .before .before .args .file .now in
-    cc (textLength-textOf b, take-textOf b)
+part-requires : tie.Need-part-requires
+part-requires c κs = search needs
+
+enum-known-layout : tie.Need-enum-known-layout
+enum-known-layout c = search needs
+
+part-requires-2 : tie.Need-part-requires-2
+part-requires-2 c κs =
+    let s = c .before .before .before in
+    let a = s .before .before .args in
+    (omega arith, laid-inside (reads-accepted (a .kinds) (a .file .now) _ (sym (c .before .layout .given .1) ∙ s .read .ensures)))
 
 returns : tie.Need-returns
 returns c =
-    let b = c .before .before .before .before .args .file .now in
-    cc (textLength-textOf b, take-textOf b)
+    let s = c .before .before .before in
+    let a = s .before .before .args in
+    let e = reads-refused (a .kinds) (a .file .now) _ (sym (c .before .enum-told .given .1) ∙ s .read .ensures) in
+    (c .part .ensures .0 ∙ sym (text-refused (a .kinds) (a .file .now) _ e), c .part .ensures .1)
+
+returns-2 : tie.Need-returns-2
+returns-2 c =
+    let s = c .before .before .before .before in
+    let a = s .before .before .args in
+    let l = reads-accepted (a .kinds) (a .file .now) _ (sym (c .before .before .layout .given .1) ∙ s .read .ensures) in
+    (c .part2 .ensures .0 ∙ laid-text l, c .part2 .ensures .1)
 
 pub text-spec : {M : Type 1} → statement M
-text-spec = tie.close (tie.spec read-requires text-length-requires slice-aggregate-result returns)
+text-spec =
+    tie.close
+    (tie.spec
+    read-requires
+    enum-told
+    part-requires
+    enum-known-layout
+    part-requires-2
+    returns
+    returns-2)

@@ -5,9 +5,8 @@ use mathlib.Core.Bool.{Bool, true, false, _&&_}
 use Prim.Native.Nat.{ℕ}
 use borrow.Author.Tests.{not-true, not-false}
 use lib.Dec.{eqb}
-use Rattle.concepts.specs.Concept.{conceptAt}
+use Rattle.concepts.specs.Concept.{conceptAt, roleOf}
 use Rattle.concepts.specs.RowSet.{mem, insert}
-use Rattle.rulefile.specs.FormatLaws.{roleOf}
 use Rattle.rowset.specs.Value.{valueOf}
 use Rattle.settests.specs.Rows.{tableOf, kindOf}
 use Rattle.settests.specs.AnswerLaws.{gather-take, gather-leave}

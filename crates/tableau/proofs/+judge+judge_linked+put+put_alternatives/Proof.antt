@@ -174,7 +174,7 @@ judge-returns t c =
     let a = s .args in
     let x = c .before .before .before .before .before .before .before .before .load-node in
     judge-was-state (a .rows .now) (a .nodes .now) (a .edges .now) (a .alternatives .now) (a .c) (a .x) (s .pre .1)
-    (judge-loaded-link (a .rows .now) (a .nodes .now) (a .edges .now) (a .alternatives .now) (a .c) (a .x) (s .pre .1) (x .result) (x .ensures) Link.Unlinked (c .before .before .before .before .before .before .enum-told2 .given .1))
+    (judge-loaded-link (a .rows .now) (a .nodes .now) (a .edges .now) (a .alternatives .now) (a .c) (a .x) (s .pre .1) (x .result) (x .ensures) Link.None (c .before .before .before .before .before .before .enum-told2 .given .1))
     (judge-loaded-kind (a .rows .now) (a .nodes .now) (a .edges .now) (a .alternatives .now) (a .c) (a .x) (s .pre .1) (x .result) (x .ensures) true (c .before .before .before .before .before .if1 .taken))
     (c .before .before .judge-state .last .0) (c .before .before .judge-state .ensures (a .alternatives .now) (s .pre .1 .held))
 
@@ -234,7 +234,7 @@ judge-returns-4 t c =
     let a = s .args in
     let x = c .before .before .before .before .before .before .before .before .load-node in
     judge-was-branch (a .rows .now) (a .nodes .now) (a .edges .now) (a .alternatives .now) (a .c) (a .x) (s .pre .1)
-    (judge-loaded-link (a .rows .now) (a .nodes .now) (a .edges .now) (a .alternatives .now) (a .c) (a .x) (s .pre .1) (x .result) (x .ensures) Link.Unlinked (c .before .before .before .before .before .before .enum-told2 .given .1))
+    (judge-loaded-link (a .rows .now) (a .nodes .now) (a .edges .now) (a .alternatives .now) (a .c) (a .x) (s .pre .1) (x .result) (x .ensures) Link.None (c .before .before .before .before .before .before .enum-told2 .given .1))
     (judge-loaded-kind (a .rows .now) (a .nodes .now) (a .edges .now) (a .alternatives .now) (a .c) (a .x) (s .pre .1) (x .result) (x .ensures) false (c .before .before .before .before .before .if1 .left))
     (c .before .before .judge-branch2 .last .0) (c .before .before .judge-branch2 .ensures (a .alternatives .now) (s .pre .1 .held))
 

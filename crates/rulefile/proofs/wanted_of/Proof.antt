@@ -1,0 +1,22 @@
+-- `rulefile::wanted_of` meets its contract: the wanted row stands four bytes before the end.
+-- Assumes nothing.
+use mathlib.Core.Path.{_∙_}
+use borrow.Author.Needs.{needs}
+use Rattle.rulefile.specs.PartLaws.{wanted-part}
+use Rattle.rulefile.proofs.wanted_of.Statement.{statement}
+use Rattle.rulefile.proofs.wanted_of.Tie as tie
+
+sub-from : tie.Need-sub-from
+sub-from c = search needs
+
+add-part : tie.Need-add-part
+add-part c = search needs
+
+part-requires : tie.Need-part-requires
+part-requires c κs = search needs
+
+returns : tie.Need-returns
+returns c = c .part .ensures .0 ∙ wanted-part (c .before .before .pre)
+
+pub wanted-of-spec : {M : Type 1} → statement M
+wanted-of-spec = tie.close (tie.spec sub-from add-part part-requires returns)

@@ -1,0 +1,80 @@
+-- The parts of an accepted file.
+--
+-- In order: what the reader answered; a file with its layout; its rows, rules and wanted row stand where the layout says; its text.
+-- Assumes nothing.
+use mathlib.Core.Path.{_≡_, refl, sym, ap, _∙_}
+use mathlib.Core.List.{[], _∷_}
+use Prim.Native.Nat.{ℕ, _+_, _-_, _*_, _≤_}
+use native.Mathlib.Omega.{arith}
+use lib.ListN.{length, getD, take, drop}
+use Rattle.concepts.specs.Lists.{range}
+use Rattle.concepts.specs.ListLaws.{map-getD-range}
+use Rattle.rulefile.specs.Format.{Bytes, Kinds, firstRow, rowCount, ruleCount, wantedRows, rules, rowsPart, Reading, refused, accepted, readingOf, textOf}
+use Rattle.rulefile.specs.CheckLaws.{accepted-contents, accepted-parted}
+use Rattle.rulefile.specs.Read.{layoutOf, readOf, Placed, Laid}
+use Rattle.rulefile.specs.ReadLaws.{layout-trailer, text-accepted, take-textOf}
+use Rattle.rulefile.specs.declared.Layout.{Layout}
+use Rattle.rulefile.specs.declared.Outcome.the-variants.{Refused, Accepted}
+
+-- ---- what the reader answered
+
+pub reads-refused : (kinds : Kinds) (b : Bytes) (n : ℕ) → Refused n ≡ readOf (readingOf kinds b) → readingOf kinds b ≡ refused n
+unfolding readOf
+reads-refused kinds b n = of (readingOf kinds b)
+  where
+    of : (r : Reading) → Refused n ≡ readOf r → r ≡ refused n
+    of (refused m) q = cc
+    of (accepted f) q = let z : _≡_ {A = ℕ} 0 1 = cc in absurd (omega arith)
+
+pub reads-accepted : (kinds : Kinds) (b : Bytes) (l : Layout) → Accepted l ≡ readOf (readingOf kinds b) → Laid kinds b l
+unfolding readOf
+reads-accepted kinds b l q = of (readingOf kinds b) refl q
+  where
+    of : (r : Reading) → readingOf kinds b ≡ r → Accepted l ≡ readOf r → Laid kinds b l
+    of (refused m) e h = let z : _≡_ {A = ℕ} 0 1 = cc in absurd (omega arith)
+    of (accepted f) e h = record { file = f; reads = e; layout = cc }
+
+-- ---- an accepted file
+
+pub laid-placed : {kinds : Kinds} {b : Bytes} {l : Layout} → Laid kinds b l → Placed b l
+laid-placed {kinds} {b} L =
+    let p = accepted-parted kinds b (L .file) (L .reads) in
+    record { parts = p; layout = L .layout ∙ ap layoutOf (accepted-contents kinds b (L .file) (L .reads)) ∙ layout-trailer kinds b p }
+
+-- ---- the parts
+
+module _ {b : Bytes} {l : Layout} (P : Placed b l) where
+  -- text, rows, rules and trailer fill the file
+  pub whole : (l .text + 4 * l .rows + l .rules + 8 ≡ length b) × (length b ≤ 4096)
+  whole = rw (P .layout) (P .parts .parts, P .parts .most)
+
+  pub rows-part : take (l .text + 4 * l .rows - l .text) (drop (l .text) b) ≡ rowsPart b
+  rows-part =
+      let n : firstRow b + 4 * rowCount b - firstRow b ≡ 4 * rowCount b = omega arith in
+      rw (P .layout) (ap (λ (m : ℕ). take m (drop (firstRow b) b)) n)
+
+  pub rules-part : take (l .text + 4 * l .rows + l .rules - (l .text + 4 * l .rows)) (drop (l .text + 4 * l .rows) b) ≡ rules b
+  rules-part =
+      let from = firstRow b + 4 * rowCount b in
+      let n : from + ruleCount b - from ≡ ruleCount b = omega arith in
+      rw (P .layout) (ap (λ (m : ℕ). take m (drop from b)) n ∙ sym (map-getD-range b from (ruleCount b) 0 (omega (arith, P .parts .parts))))
+
+  pub wanted-part : take (length b - 4 + 1 - (length b - 4)) (drop (length b - 4) b) ≡ wantedRows b
+  unfolding range
+  wanted-part =
+      let n : length b - 4 + 1 - (length b - 4) ≡ 1 = omega arith in
+      let p : length b - 4 + 0 ≡ length b - 8 + 4 = omega (arith, P .parts .least) in
+      ap (λ (m : ℕ). take m (drop (length b - 4) b)) n
+      ∙ sym (map-getD-range b (length b - 4) 1 0 (omega (arith, P .parts .least)))
+      ∙ ap (λ (k : ℕ). getD b k 0 ∷ []) p
+
+-- ---- the text
+
+-- its text is a leading part, as long as the layout says
+pub laid-text : {kinds : Kinds} {b : Bytes} {l : Layout} → Laid kinds b l → take (l .text - 0) (drop 0 b) ≡ textOf kinds b
+laid-text {kinds} {b} {l} L =
+    let n : l .text - 0 ≡ length (textOf kinds b) = omega (arith, ap (λ (k : Layout). k .text) (L .layout), ap length (text-accepted kinds b (L .file) (L .reads))) in
+    rw n (take-textOf kinds b)
+
+pub laid-inside : {kinds : Kinds} {b : Bytes} {l : Layout} → Laid kinds b l → l .text ≤ length b
+laid-inside L = let P = laid-placed L in omega (arith, whole P)

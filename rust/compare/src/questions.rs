@@ -1,0 +1,80 @@
+//! The words of the line protocol in tests/vectors: what a question asks, and how an answer is written.
+
+use plain::{print, Answer, Lent};
+
+/// The longest area that a question may ask for, in bytes.
+const LONGEST_AREA: usize = 1 << 26;
+
+/// The question `fit FILE N E A EB LB`.
+pub struct Fit {
+    pub file: Vec<u8>,
+    /// Work areas of whole records, example areas of so many bytes.
+    pub lent: Lent,
+}
+
+impl Fit {
+    /// Reads what follows the word `fit`; `None` if it is something else.
+    pub fn parse(words: &str) -> Option<Fit> {
+        let words: Vec<&str> = words.split(' ').collect();
+        let &[file, nodes, edges, alternatives, elements, links] = words.as_slice() else { return None };
+        let [nodes, edges, alternatives] = [parse_size(nodes)?, parse_size(edges)?, parse_size(alternatives)?];
+        let lent = Lent::records(nodes, edges, alternatives, parse_size(elements)?, parse_size(links)?);
+        let Lent { nodes, edges, alternatives, elements, links } = lent;
+        let short = [nodes, edges, alternatives, elements, links].into_iter().all(|length| length <= LONGEST_AREA);
+        Some(Fit { file: parse_bytes(file)?, lent }).filter(|_| short)
+    }
+}
+
+/// Bytes in lower-case hexadecimal digits; `-` stands for no bytes.
+fn parse_bytes(word: &str) -> Option<Vec<u8>> {
+    if word == "-" {
+        return Some(Vec::new());
+    }
+    let (pairs, []) = word.as_bytes().as_chunks() else { return None };
+    let bytes = pairs.iter().map(|&[high, low]| Some(16 * digit(high)? + digit(low)?));
+    bytes.collect::<Option<Vec<u8>>>().filter(|bytes| !bytes.is_empty())
+}
+
+fn digit(character: u8) -> Option<u8> {
+    match character {
+        b'0'..=b'9' => Some(character - b'0'),
+        b'a'..=b'f' => Some(character - b'a' + 10),
+        _ => None,
+    }
+}
+
+/// A number in decimal digits. It is small enough that no length overflows.
+fn parse_size(word: &str) -> Option<usize> {
+    let decimal = word.bytes().all(|character| character.is_ascii_digit());
+    word.parse().ok().filter(|&size| decimal && size <= LONGEST_AREA)
+}
+
+/// What the printing program prints, its lines joined by `;`.
+pub fn one_line(answer: &Answer) -> String {
+    print(answer).trim_end().replace('\n', ";")
+}
+
+#[cfg(test)]
+mod tests {
+    use super::*;
+
+    #[test]
+    fn a_question_is_read() {
+        let fit = Fit::parse("00ff10 1 2 3 4 5").expect("a question");
+        assert_eq!((fit.file, fit.lent), (vec![0x00, 0xff, 0x10], Lent::records(1, 2, 3, 4, 5)));
+        assert_eq!(Fit::parse("- 70000 0 0 0 0").expect("a question").file, b"");
+    }
+
+    #[test]
+    fn anything_else_is_no_question() {
+        let files = ["", "0", "0g", "0F", "-0", "--", "é"].map(|file| format!("{file} 1 2 3 4 5"));
+        let sizes = ["", "+1", "-1", "x", "1.0", "67108865", "99999999999999999999", "1 6"];
+        let sizes = sizes.map(|size| format!("- 1 2 3 4 {size}"));
+        // A number that is all right for bytes, but not for nodes of 64 bytes.
+        let others =
+            ["", " ", "-", "- 1 2 3 4", "-  1 2 3 4 5", " - 1 2 3 4 5", "- 67108864 2 3 4 5"].map(String::from);
+        for words in files.iter().chain(&sizes).chain(&others) {
+            assert!(Fit::parse(words).is_none(), "{words}");
+        }
+    }
+}

@@ -1,0 +1,131 @@
+//! Refusals: their numbers and their sentences (document 01, "Refusals, in checking order").
+
+use std::fmt;
+
+/// Why there is no verdict.
+///
+/// Later versions of the engine have more refusals, and may give up one of these.
+#[derive(Clone, Copy, Debug, PartialEq, Eq, Hash)]
+#[non_exhaustive]
+pub enum Refusal {
+    /// 1: the file's length.
+    Length,
+    /// 2: the mark at the file's end.
+    Mark,
+    /// 3: the numbers of rows and rules.
+    Counts,
+    /// 4: the parts don't fill the file.
+    Extent,
+    /// 5: a row's bytes.
+    Row,
+    /// 6: a row's argument.
+    Argument,
+    /// 7: a row that repeats another.
+    Repeat,
+    /// 8: a rule or the wanted row.
+    NoSuchRow,
+    /// 9: no name.
+    NoName,
+    /// 10: a work area is short. The file may get a verdict in larger areas.
+    NoPlace,
+    /// 11: the kit can exist, but the example areas don't hold so many records.
+    ExampleTooLong { elements: usize, links: usize },
+}
+
+/// The refusals that are told by their number alone.
+const BY_NUMBER: [Refusal; 10] = [
+    Refusal::Length,
+    Refusal::Mark,
+    Refusal::Counts,
+    Refusal::Extent,
+    Refusal::Row,
+    Refusal::Argument,
+    Refusal::Repeat,
+    Refusal::NoSuchRow,
+    Refusal::NoName,
+    Refusal::NoPlace,
+];
+
+impl Refusal {
+    /// The refusal with this number and these counts of elements and links; `None` if the engine never gives these.
+    pub(crate) fn of_numbers(number: u32, counts: [usize; 2]) -> Option<Refusal> {
+        match (number, counts) {
+            (11, [elements, links]) => Some(Refusal::ExampleTooLong { elements, links }),
+            (_, [0, 0]) => BY_NUMBER.into_iter().find(|refusal| u32::from(refusal.number()) == number),
+            _ => None,
+        }
+    }
+
+    /// Its number in document 01's list.
+    pub fn number(&self) -> u8 {
+        self.entry().0
+    }
+
+    /// Its sentence in document 01's list.
+    pub fn sentence(&self) -> &'static str {
+        self.entry().1
+    }
+
+    /// Document 01's list.
+    fn entry(&self) -> (u8, &'static str) {
+        match self {
+            Refusal::Length => (1, "The file is shorter than 8 or longer than 4,096 bytes."),
+            Refusal::Mark => (2, "The last three bytes are not 46 49 54."),
+            Refusal::Counts => (3, "There are 0 or more than 64 rows, or more than 64 rules."),
+            Refusal::Extent => (4, "The first row's place + 4 × rows + rules + 8 is not the file's length."),
+            Refusal::Row => {
+                (5, "A row has a kind outside 1 to 6, a non-zero unused byte, a role above 31 or a name above 63.")
+            }
+            Refusal::Argument => (6, "A row names an argument row that isn't lower than itself."),
+            Refusal::Repeat => (7, "Two rows have the same four bytes."),
+            Refusal::NoSuchRow => (8, "A rule or the wanted row isn't below the number of rows."),
+            Refusal::NoName => (9, "No row has kind 1 or 2."),
+            Refusal::NoPlace => (10, "The procedure's next record has no place in its area."),
+            Refusal::ExampleTooLong { .. } => (11, "The verdict is \"can\" and an example area is too short."),
+        }
+    }
+}
+
+/// The number and the sentence, and the counts of 11.
+impl fmt::Display for Refusal {
+    fn fmt(&self, f: &mut fmt::Formatter) -> fmt::Result {
+        let (number, sentence) = self.entry();
+        write!(f, "refusal {number}: {sentence}")?;
+        match self {
+            Refusal::ExampleTooLong { elements, links } => write!(f, " Elements needed: {elements}, links: {links}."),
+            _ => Ok(()),
+        }
+    }
+}
+
+impl std::error::Error for Refusal {}
+
+#[cfg(test)]
+mod tests {
+    use super::*;
+
+    #[test]
+    fn each_number_has_its_refusal() {
+        let numbers: Vec<u8> = BY_NUMBER.iter().map(Refusal::number).collect();
+        assert_eq!(numbers, [1, 2, 3, 4, 5, 6, 7, 8, 9, 10]);
+        assert!(BY_NUMBER.into_iter().all(|r| Refusal::of_numbers(r.number().into(), [0, 0]) == Some(r)));
+        let too_long = Refusal::ExampleTooLong { elements: 2, links: 1 };
+        assert_eq!(Refusal::of_numbers(11, [2, 1]), Some(too_long));
+        assert_eq!(too_long.number(), 11);
+    }
+
+    #[test]
+    fn other_numbers_have_none() {
+        assert!([(0, [0, 0]), (12, [0, 0]), (10, [0, 1]), (1, [1, 0])]
+            .into_iter()
+            .all(|(number, counts)| Refusal::of_numbers(number, counts).is_none()));
+    }
+
+    #[test]
+    fn a_refusal_prints_its_number_and_its_sentence() {
+        assert_eq!(Refusal::Repeat.to_string(), "refusal 7: Two rows have the same four bytes.");
+        let too_long = Refusal::ExampleTooLong { elements: 2, links: 1 };
+        assert!(too_long.to_string().starts_with("refusal 11: The verdict is \"can\" and"));
+        assert!(too_long.to_string().ends_with("too short. Elements needed: 2, links: 1."));
+    }
+}

@@ -1,0 +1,97 @@
+//! The space that a run works in: five areas, lent as slices or owned (document 01, "Areas").
+
+use crate::{fit, Refusal, Verdict, ELEMENT_BYTES, LINK_BYTES};
+
+/// A node's record.
+pub const NODE_BYTES: usize = 64;
+/// A graph edge's record.
+pub const EDGE_BYTES: usize = 16;
+/// An alternative's record.
+pub const ALTERNATIVE_BYTES: usize = 16;
+/// Whole records count, and at most so many of each in the three work areas.
+pub const MOST_RECORDS: usize = 4096;
+
+/// Five lent areas. What they hold before has no say in the outcome, and they may be of any length.
+///
+/// After a verdict and after refusals 10 and 11 every byte of the three work areas is zero; after any other refusal they are as
+/// they were. The two example areas change with "can" only, and only in the bytes that the example fills.
+pub struct Areas<'a> {
+    /// Work area: nodes, [`NODE_BYTES`] each.
+    pub nodes: &'a mut [u8],
+    /// Work area: graph edges, [`EDGE_BYTES`] each.
+    pub edges: &'a mut [u8],
+    /// Work area: alternatives, [`ALTERNATIVE_BYTES`] each.
+    pub alternatives: &'a mut [u8],
+    /// The example's elements, [`ELEMENT_BYTES`] each.
+    pub elements: &'a mut [u8],
+    /// The example's links, [`LINK_BYTES`] each.
+    pub links: &'a mut [u8],
+}
+
+/// How many records each area of a [`Space`] holds.
+#[derive(Clone, Copy, Debug, PartialEq, Eq)]
+pub struct Sizes {
+    pub nodes: usize,
+    pub edges: usize,
+    pub alternatives: usize,
+    pub elements: usize,
+    pub links: usize,
+}
+
+impl Sizes {
+    /// What document 01's printing program lends.
+    pub const USUAL: Sizes = Sizes { nodes: 1024, edges: 4096, alternatives: 4096, elements: 1024, links: 8192 };
+}
+
+/// Five areas of its own, for any number of runs one after the other.
+///
+/// ```
+/// use gumbyra::{Refusal, Sizes, Space, Verdict};
+/// # let file = [1, 0, 0, 0, 5, 1, 0, 0, 6, 0, 1, 0, 0, 0, 3, 0, 2, b'F', b'I', b'T'];
+///
+/// // Refusal 11 tells how long the example areas have to be.
+/// let mut small = Space::with(Sizes { elements: 1, ..Sizes::USUAL });
+/// let Err(Refusal::ExampleTooLong { elements, links }) = small.fit(&file) else { panic!("the example has two elements") };
+/// let mut enough = Space::with(Sizes { elements, links, ..Sizes::USUAL });
+/// assert!(matches!(enough.fit(&file), Ok(Verdict::Can { .. })));
+/// ```
+///
+/// An example borrows the space, so the next run can't begin before one is done with it:
+///
+/// ```compile_fail,E0499
+/// # let file = [1, 0, 0, 0, 0, 0, 1, 0, 0, b'F', b'I', b'T'];
+/// let mut space = gumbyra::Space::usual();
+/// let (first, second) = (space.fit(&file), space.fit(&file));
+/// println!("{first:?} {second:?}");
+/// ```
+pub struct Space {
+    nodes: Vec<u8>,
+    edges: Vec<u8>,
+    alternatives: Vec<u8>,
+    elements: Vec<u8>,
+    links: Vec<u8>,
+}
+
+impl Space {
+    /// A space of the usual sizes.
+    pub fn usual() -> Space {
+        Space::with(Sizes::USUAL)
+    }
+
+    /// A space of these sizes.
+    pub fn with(sizes: Sizes) -> Space {
+        Space {
+            nodes: vec![0; sizes.nodes * NODE_BYTES],
+            edges: vec![0; sizes.edges * EDGE_BYTES],
+            alternatives: vec![0; sizes.alternatives * ALTERNATIVE_BYTES],
+            elements: vec![0; sizes.elements * ELEMENT_BYTES],
+            links: vec![0; sizes.links * LINK_BYTES],
+        }
+    }
+
+    /// Decides a rule file, as [`fit`](crate::fit()) does.
+    pub fn fit(&mut self, file: &[u8]) -> Result<Verdict<'_>, Refusal> {
+        let Space { nodes, edges, alternatives, elements, links } = self;
+        fit(file, Areas { nodes, edges, alternatives, elements, links })
+    }
+}

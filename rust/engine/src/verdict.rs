@@ -1,0 +1,86 @@
+//! What the engine decides, from the numbers that its call gives back.
+
+use crate::convention::Answer;
+use crate::example::Example;
+use crate::refusal::Refusal;
+
+/// How many records a run used.
+#[derive(Clone, Copy, Debug, PartialEq, Eq)]
+pub struct Used {
+    pub nodes: usize,
+    pub edges: usize,
+    pub alternatives: usize,
+}
+
+/// What the engine says of a kit.
+#[derive(Clone, Copy, Debug, PartialEq, Eq)]
+pub enum Verdict<'a> {
+    /// It can exist, and this assembly shows it.
+    Can { used: Used, example: Example<'a> },
+    /// It cannot exist, in no assembly of any size.
+    Cannot { used: Used },
+}
+
+const CAN: u32 = 1;
+const CANNOT: u32 = 2;
+const REFUSED: u32 = 0;
+
+/// The outcome that an answer tells, with the areas of elements and links as they are after the call. `None` if it is no answer
+/// of the engine: each refusal gives its number and zeros elsewhere, but 11 also the counts needed.
+pub(crate) fn outcome<'a>(answer: &Answer, areas: [&'a [u8]; 2]) -> Option<Result<Verdict<'a>, Refusal>> {
+    let &Answer { verdict, refusal, nodes, edges, alternatives, elements, links } = answer;
+    let [nodes, edges, alternatives] = [nodes, edges, alternatives].map(|count| count as usize);
+    let used = Used { nodes, edges, alternatives };
+    let counts = [elements, links].map(|count| count as usize);
+    match (verdict, refusal, [nodes, edges, alternatives], counts) {
+        (CAN, 0, _, _) => Some(Ok(Verdict::Can { used, example: Example::read(areas, counts)? })),
+        (CANNOT, 0, _, [0, 0]) => Some(Ok(Verdict::Cannot { used })),
+        (REFUSED, _, [0, 0, 0], _) => Some(Err(Refusal::of_numbers(refusal, counts)?)),
+        _ => None,
+    }
+}
+
+#[cfg(test)]
+mod tests {
+    use super::*;
+    use crate::{Link, ELEMENT_BYTES, LINK_BYTES};
+
+    const ELEMENTS: [u8; 2 * ELEMENT_BYTES + 1] = [1; 2 * ELEMENT_BYTES + 1];
+    const LINKS: [u8; LINK_BYTES] = [0, 1, 2, 0, 1, 0];
+
+    fn of_numbers(numbers: [u32; 7]) -> Option<Result<Verdict<'static>, Refusal>> {
+        let [verdict, refusal, nodes, edges, alternatives, elements, links] = numbers;
+        let answer = Answer { verdict, refusal, nodes, edges, alternatives, elements, links };
+        outcome(&answer, [&ELEMENTS, &LINKS])
+    }
+
+    #[test]
+    fn every_answer_has_its_outcome() {
+        let used = Used { nodes: 8, edges: 7, alternatives: 1 };
+        let Some(Ok(Verdict::Can { used: of_can, example })) = of_numbers([1, 0, 8, 7, 1, 2, 1]) else { panic!("can") };
+        assert_eq!((of_can, example.elements().len()), (used, 2));
+        assert_eq!(example.links().collect::<Vec<_>>(), [Link { from: 256, role: 2, to: 1 }]);
+        assert_eq!(of_numbers([2, 0, 8, 7, 1, 0, 0]), Some(Ok(Verdict::Cannot { used })));
+        assert_eq!(of_numbers([0, 9, 0, 0, 0, 0, 0]), Some(Err(Refusal::NoName)));
+        assert_eq!(of_numbers([0, 10, 0, 0, 0, 0, 0]), Some(Err(Refusal::NoPlace)));
+        let too_long = Refusal::ExampleTooLong { elements: 2, links: 1 };
+        assert_eq!(of_numbers([0, 11, 0, 0, 0, 2, 1]), Some(Err(too_long)));
+    }
+
+    #[test]
+    fn other_numbers_are_no_answer() {
+        let no_answers = [
+            [0, 0, 0, 0, 0, 0, 0],
+            [3, 0, 8, 7, 1, 0, 0],
+            [1, 1, 8, 7, 1, 2, 1],
+            [1, 0, 8, 7, 1, 3, 1],
+            [1, 0, 8, 7, 1, 2, 2],
+            [2, 0, 8, 7, 1, 2, 0],
+            [0, 1, 1, 0, 0, 0, 0],
+            [0, 10, 0, 0, 0, 0, 1],
+            [0, 11, 0, 1, 0, 2, 1],
+            [0, 12, 0, 0, 0, 0, 0],
+        ];
+        assert!(no_answers.into_iter().all(|numbers| of_numbers(numbers).is_none()));
+    }
+}

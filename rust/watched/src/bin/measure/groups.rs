@@ -1,0 +1,77 @@
+//! The files that are timed, in their groups. All get a verdict in the areas of their group.
+
+use compare::chains::{alternatives, delay_line, shift_register, Delay, THOUSAND_STATES};
+use compare::{random_file, Prng, Shape};
+use plain::{answer, Answer, Lent, Used};
+
+/// A file with areas that are just enough for it.
+pub struct Subject {
+    pub file: Vec<u8>,
+    pub used: Used,
+    pub enough: Lent,
+}
+
+impl Subject {
+    /// `None` if the file gets no verdict in areas of these lengths.
+    fn new(file: Vec<u8>, lent: &Lent) -> Option<Subject> {
+        let (used, elements, links) = match answer(&file, lent) {
+            Answer::Cannot { used } => (used, 0, 0),
+            Answer::Can { used, elements, links } => (used, elements.len(), links.len()),
+            Answer::Refused(_) | Answer::Short(_) | Answer::TooLong { .. } => return None,
+        };
+        Some(Subject { file, used, enough: Lent::just(used, elements, links) })
+    }
+}
+
+/// Files that are alike, and the areas that a program would lend for them.
+pub struct Group {
+    pub name: &'static str,
+    pub lent: Lent,
+    pub subjects: Vec<Subject>,
+}
+
+/// All groups.
+pub fn groups() -> Vec<Group> {
+    let (by_program, most) = (Lent::by_program(), Lent::most());
+    let group = |name, lent, subjects| Group { name, lent, subjects };
+    vec![
+        group("small", by_program, random(100, SMALL, &by_program, |_| true)),
+        group("40 to 64 rows", by_program, random(40, LARGE, &by_program, is_large)),
+        group("thousand states", most, thousand_states(&most)),
+        group("many alternatives", by_program, many_alternatives(&by_program)),
+    ]
+}
+
+/// One kind of file in rising sizes, for the growth of the time with the nodes used.
+pub fn rising() -> Vec<Subject> {
+    let file = |line| delay_line(Delay { line, pause: 3, tail: 8 }, true);
+    (4..=12).filter_map(|line| Subject::new(file(line), &Lent::most())).collect()
+}
+
+const SMALL: Shape = Shape { names: 2, roles: 2, compound: 10, rules: 3, text: 0 };
+const LARGE: Shape = Shape { names: 6, roles: 3, compound: 52, rules: 12, text: 0 };
+const INVERSE: Shape = Shape { names: 3, roles: 1, compound: 30, rules: 3, text: 0 };
+
+/// The place of the number of rows, from a file's end.
+const ROWS_FROM_END: usize = 6;
+
+fn is_large(subject: &Subject) -> bool {
+    subject.file[subject.file.len() - ROWS_FROM_END] >= 40 && subject.used.nodes >= 100
+}
+
+/// The first so many random files of a shape that pass.
+fn random(count: usize, shape: Shape, lent: &Lent, passes: impl Fn(&Subject) -> bool) -> Vec<Subject> {
+    let mut prng = Prng::new(21);
+    let files = std::iter::repeat_with(|| random_file(&mut prng, shape));
+    files.filter_map(|file| Subject::new(file, lent)).filter(passes).take(count).collect()
+}
+
+fn thousand_states(lent: &Lent) -> Vec<Subject> {
+    let files = [true, false].map(|forbid| [delay_line(THOUSAND_STATES, forbid), shift_register(forbid)]);
+    files.into_iter().flatten().filter_map(|file| Subject::new(file, lent)).collect()
+}
+
+fn many_alternatives(lent: &Lent) -> Vec<Subject> {
+    let made = (3..=5).filter_map(|names| Subject::new(alternatives(names), lent));
+    made.chain(random(20, INVERSE, lent, |subject| subject.used.alternatives >= 10)).collect()
+}

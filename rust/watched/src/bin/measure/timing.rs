@@ -1,0 +1,62 @@
+//! Times of one file in the engine and in the plain program, taken by turns.
+
+use crate::groups::Subject;
+use gumbyra::{fit, Areas};
+use plain::Lent;
+use std::hint::black_box;
+use std::time::{Duration, Instant};
+
+/// A sample takes at least about this long, so that the clock's grain does not matter.
+const SAMPLE: Duration = Duration::from_micros(300);
+
+/// Seconds of one run, in each of the rounds.
+pub struct Times {
+    pub engine: Vec<f64>,
+    pub plain: Vec<f64>,
+}
+
+impl Times {
+    /// Engine over plain, by the least times.
+    pub fn ratio(&self) -> f64 {
+        least(&self.engine) / least(&self.plain)
+    }
+}
+
+/// Takes the times of a file in areas of these lengths. They are zero at first and then hold what the run before left.
+pub fn times(subject: &Subject, lent: &Lent, rounds: usize) -> Times {
+    let lengths = [lent.nodes, lent.edges, lent.alternatives, lent.elements, lent.links];
+    let mut buffers = lengths.map(|length| vec![0; length]);
+    let mut engine = || {
+        let [nodes, edges, alternatives, elements, links] = buffers.each_mut().map(Vec::as_mut_slice);
+        let outcome = fit(black_box(&subject.file), Areas { nodes, edges, alternatives, elements, links });
+        black_box(outcome.is_ok());
+    };
+    let mut plain = || {
+        black_box(plain::answer(black_box(&subject.file), lent));
+    };
+    let (engine_repeats, plain_repeats) = (repeats(&mut engine), repeats(&mut plain));
+    let round = |_| (sample(&mut engine, engine_repeats), sample(&mut plain, plain_repeats));
+    let (engine, plain) = (0..rounds).map(round).unzip();
+    Times { engine, plain }
+}
+
+/// How often a sample repeats the run.
+fn repeats(run: &mut impl FnMut()) -> usize {
+    let mut repeats = 1;
+    while sample(run, repeats) * (repeats as f64) < SAMPLE.as_secs_f64() {
+        repeats *= 2;
+    }
+    repeats
+}
+
+/// Seconds of one run, from so many.
+fn sample(run: &mut impl FnMut(), repeats: usize) -> f64 {
+    let start = Instant::now();
+    (0..repeats).for_each(|_| run());
+    start.elapsed().as_secs_f64() / repeats as f64
+}
+
+/// The least: the run that other programs disturbed least.
+pub fn least(values: &[f64]) -> f64 {
+    values.iter().copied().fold(f64::INFINITY, f64::min)
+}

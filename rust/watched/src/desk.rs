@@ -1,0 +1,147 @@
+//! The line protocol of the tests: an answer for each question, by the engine in watched areas. One function for each word.
+
+use crate::lending::Lending;
+use compare::{one_line, Fit, Prng};
+use gumbyra::{ALTERNATIVE_BYTES, EDGE_BYTES, NODE_BYTES};
+use plain::Lent;
+
+/// Why a question has no answer of the engine.
+enum Trouble {
+    /// It is no question; the text tells what would be one.
+    Unknown(&'static str),
+    /// A promise is broken; the text tells which.
+    Broken(String),
+}
+
+const WORDS: &str = "the words are: fit";
+const FIT: &str = "fit FILE N E A EB LB";
+
+/// Where questions are answered.
+pub struct Desk {
+    lending: Lending,
+}
+
+impl Desk {
+    /// A desk that asks this engine.
+    pub fn new(lending: Lending) -> Desk {
+        Desk { lending }
+    }
+
+    /// The answer to a question, one line. It begins with `BROKEN` if a promise is broken, and with `UNKNOWN` if the line is no
+    /// question.
+    pub fn answer(&mut self, question: &[u8]) -> String {
+        match self.answer_word(&String::from_utf8_lossy(question)) {
+            Ok(answer) => answer,
+            Err(Trouble::Unknown(instead)) => format!("UNKNOWN {instead}"),
+            Err(Trouble::Broken(promise)) => format!("BROKEN {promise}"),
+        }
+    }
+
+    /// Answers by the question's word.
+    fn answer_word(&mut self, question: &str) -> Result<String, Trouble> {
+        let (word, rest) = question.split_once(' ').unwrap_or((question, ""));
+        match word {
+            "fit" => self.fit(rest),
+            _ => Err(Trouble::Unknown(WORDS)),
+        }
+    }
+
+    /// What the printing program prints with these sizes lent.
+    fn fit(&mut self, rest: &str) -> Result<String, Trouble> {
+        let Fit { file, lent } = Fit::parse(rest).ok_or(Trouble::Unknown(FIT))?;
+        let lent = with_broken_records(lent, &mut Prng::of_bytes(rest.as_bytes()));
+        let answer = self.lending.watch(&file, &lent).map_err(Trouble::Broken)?;
+        Ok(one_line(&answer))
+    }
+}
+
+/// The same areas, each work area with some bytes more, less than one record.
+fn with_broken_records(whole: Lent, prng: &mut Prng) -> Lent {
+    let mut more = |record: usize| 1 + prng.below(record - 1);
+    Lent {
+        nodes: whole.nodes + more(NODE_BYTES),
+        edges: whole.edges + more(EDGE_BYTES),
+        alternatives: whole.alternatives + more(ALTERNATIVE_BYTES),
+        ..whole
+    }
+}
+
+#[cfg(test)]
+mod tests {
+    use super::*;
+    use crate::lending::Engine;
+    use gumbyra::{fit, Areas, Refusal, Verdict};
+
+    const CAN: &[u8] = b"fit 010000000000010000464954 9 9 9 99 99";
+    const CANNOT: &[u8] = b"fit 0100000002000000030000010000030002464954 9 9 9 99 99";
+    const REFUSED: &[u8] = b"fit - 9 9 9 99 99";
+
+    fn answer(engine: Engine, question: &[u8]) -> String {
+        Desk::new(Lending::to(engine)).answer(question)
+    }
+
+    #[test]
+    fn the_engine_breaks_no_promise() {
+        assert_eq!(answer(fit, CAN), "CAN 1 0;USED 3 2 0;E 0 0000000000000001");
+        assert_eq!(answer(fit, CANNOT), "CANNOT;USED 3 2 0");
+        assert_eq!(answer(fit, REFUSED), "REFUSED 1");
+    }
+
+    /// Touches the last byte of a work area and of an example area.
+    fn touching<'a>(file: &[u8], areas: Areas<'a>) -> Result<Verdict<'a>, Refusal> {
+        let (Some(edge), Some(element)) = (areas.edges.last_mut(), areas.elements.last_mut()) else {
+            panic!("no bytes")
+        };
+        (*edge, *element) = (edge.wrapping_add(1), element.wrapping_add(1));
+        fit(file, areas)
+    }
+
+    #[test]
+    fn a_touched_byte_is_told() {
+        assert_eq!(answer(touching, CAN), "BROKEN elements: bytes past the example changed");
+        assert_eq!(answer(touching, CANNOT), "BROKEN elements: the area changed");
+        assert_eq!(answer(touching, REFUSED), "BROKEN edges: the area changed");
+    }
+
+    /// Leaves the last eight bytes of a work area as they were.
+    fn leaving<'a>(file: &[u8], areas: Areas<'a>) -> Result<Verdict<'a>, Refusal> {
+        let all_but_eight = areas.nodes.len() - 8;
+        fit(file, Areas { nodes: &mut areas.nodes[..all_but_eight], ..areas })
+    }
+
+    #[test]
+    fn a_byte_left_over_is_told() {
+        assert_eq!(answer(leaving, CAN), "BROKEN nodes: a byte is not zero");
+        assert_eq!(answer(leaving, CANNOT), "BROKEN nodes: a byte is not zero");
+        assert_eq!(answer(leaving, REFUSED), "REFUSED 1");
+    }
+
+    fn failing<'a>(_: &[u8], _: Areas<'a>) -> Result<Verdict<'a>, Refusal> {
+        panic!("no answer\nof the engine")
+    }
+
+    #[test]
+    fn a_call_without_answer_is_told() {
+        assert_eq!(answer(failing, CAN), "BROKEN no answer of the engine");
+    }
+
+    #[test]
+    fn a_line_that_is_no_question_is_told() {
+        let other_words = [b"".as_slice(), b" ", b"fits", b"FIT - 1 1 1 1 1", b"\xff\xfe", b"fit\t- 1 1 1 1 1"];
+        assert!(other_words.iter().all(|line| answer(fit, line) == format!("UNKNOWN {WORDS}")));
+        let other_fits = [b"fit".as_slice(), b"fit ", b"fit 0 1 1 1 1 1", b"fit - 1 1 1 1", b"fit - 1 1 1 1 1\r"];
+        assert!(other_fits.iter().all(|line| answer(fit, line) == format!("UNKNOWN {FIT}")));
+    }
+
+    #[test]
+    fn every_work_area_has_a_broken_record() {
+        let whole = Lent::records(1, 2, 3, 4, 5);
+        let mut prng = Prng::new(1);
+        for _ in 0..1000 {
+            let lent = with_broken_records(whole, &mut prng);
+            assert_eq!(lent.capacity(), whole.capacity());
+            assert!(lent.nodes > whole.nodes && lent.edges > whole.edges && lent.alternatives > whole.alternatives);
+            assert_eq!((lent.elements, lent.links), (whole.elements, whole.links));
+        }
+    }
+}

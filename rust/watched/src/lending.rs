@@ -1,0 +1,121 @@
+//! The five areas lent for one run after the other, and the promises about them (document 01, "Areas").
+
+use crate::area::{Area, Fate};
+use compare::Prng;
+use gumbyra::{Areas, Example, Refusal, Verdict};
+use plain::{Answer, Lent, RowSet, Used};
+use std::any::Any;
+use std::panic::{catch_unwind, AssertUnwindSafe};
+
+/// The areas in their order.
+const NAMES: [&str; 5] = ["nodes", "edges", "alternatives", "elements", "links"];
+
+/// The engine's call, `gumbyra::fit`, or what stands in for it.
+pub type Engine = for<'a> fn(&[u8], Areas<'a>) -> Result<Verdict<'a>, Refusal>;
+
+/// An engine with areas to run in.
+pub struct Lending {
+    engine: Engine,
+    areas: [Area; 5],
+}
+
+impl Lending {
+    /// Areas for the engine.
+    pub fn new() -> Lending {
+        Lending::to(gumbyra::fit)
+    }
+
+    /// Areas for what stands in for the engine.
+    pub fn to(engine: Engine) -> Lending {
+        Lending { engine, areas: [1, 2, 3, 4, 5].map(Area::new) }
+    }
+
+    /// Runs the engine in areas of these lengths, full of noise. The same file in the same lengths meets the same noise. An
+    /// error tells why there is no answer.
+    pub fn run(&mut self, file: &[u8], lent: &Lent) -> Result<Answer, String> {
+        let mut prng = Prng::of_bytes(file);
+        let Lent { nodes, edges, alternatives, elements, links } = *lent;
+        let mut lengths = [nodes, edges, alternatives, elements, links].into_iter();
+        let [nodes, edges, alternatives, elements, links] =
+            self.areas.each_mut().map(|area| area.lend(lengths.next().expect("five lengths"), &mut prng));
+        let areas = Areas { nodes, edges, alternatives, elements, links };
+        let run = || (self.engine)(file, areas).map_or_else(refused, decided);
+        catch_unwind(AssertUnwindSafe(run)).map_err(reason)
+    }
+
+    /// The promise that is broken if this was the answer to the last run.
+    pub fn broken(&self, answer: &Answer) -> Option<String> {
+        let mut areas = NAMES.iter().zip(&self.areas).zip(fates(answer));
+        areas.find_map(|((name, area), fate)| Some(format!("{name}: {}", area.broken(&fate)?)))
+    }
+
+    /// Runs the engine and looks after every promise. An error tells which is broken.
+    pub fn watch(&mut self, file: &[u8], lent: &Lent) -> Result<Answer, String> {
+        let answer = self.run(file, lent)?;
+        self.broken(&answer).map_or(Ok(answer), Err)
+    }
+
+    /// The engine as an answering function.
+    ///
+    /// # Panics
+    /// If a promise is broken.
+    pub fn answer(&mut self, file: &[u8], lent: &Lent) -> Answer {
+        self.watch(file, lent).unwrap_or_else(|broken| panic!("{broken}: {file:02x?} in {lent:?}"))
+    }
+}
+
+impl Default for Lending {
+    fn default() -> Lending {
+        Lending::new()
+    }
+}
+
+/// A refusal in the words of `plain`. Refusal 10 does not tell which area is short.
+fn refused(refusal: Refusal) -> Answer {
+    match refusal {
+        Refusal::NoPlace => Answer::Short(None),
+        Refusal::ExampleTooLong { elements, links } => Answer::TooLong { elements, links },
+        of_the_file => Answer::Refused(of_the_file.number()),
+    }
+}
+
+/// A verdict in the words of `plain`.
+fn decided(verdict: Verdict) -> Answer {
+    let used = |gumbyra::Used { nodes, edges, alternatives }| Used { nodes, edges, alternatives };
+    match verdict {
+        Verdict::Cannot { used: records } => Answer::Cannot { used: used(records) },
+        Verdict::Can { used: records, example } => {
+            let (elements, links) = read(example);
+            Answer::Can { used: used(records), elements, links }
+        }
+    }
+}
+
+/// An example in the words of `plain`.
+fn read(example: Example) -> (Vec<RowSet>, Vec<(u16, u16, u16)>) {
+    let elements = example.elements().map(|set| set.rows().collect()).collect();
+    (elements, example.links().map(|link| (link.from, link.role, link.to)).collect())
+}
+
+/// Why a call panicked, in one line.
+fn reason(panic: Box<dyn Any + Send>) -> String {
+    let text = panic.downcast_ref::<String>().map(String::as_str).or(panic.downcast_ref::<&str>().copied());
+    text.unwrap_or("the call has no answer").replace('\n', " ")
+}
+
+/// After a verdict, 10 or 11 every byte of the work areas is zero. The example areas change only with "can", and only in the
+/// bytes that the example fills. After refusals 1 to 9 all areas are as they were.
+fn fates(answer: &Answer) -> [Fate; 5] {
+    match answer {
+        Answer::Refused(_) => [Fate::Kept, Fate::Kept, Fate::Kept, Fate::Kept, Fate::Kept],
+        Answer::Short(_) | Answer::TooLong { .. } | Answer::Cannot { .. } => {
+            [Fate::Zero, Fate::Zero, Fate::Zero, Fate::Kept, Fate::Kept]
+        }
+        Answer::Can { elements, links, .. } => {
+            let elements = elements.iter().flat_map(|rows| rows.record()).collect();
+            let links =
+                links.iter().flat_map(|&(from, role, to)| [from, role, to]).flat_map(u16::to_le_bytes).collect();
+            [Fate::Zero, Fate::Zero, Fate::Zero, Fate::Begins(elements), Fate::Begins(links)]
+        }
+    }
+}

@@ -1,0 +1,28 @@
+//! The deepest chains on a stack of 1 MiB, in areas of the most records that count.
+
+use compare::chains::{delay_line, shift_register, THOUSAND_STATES};
+use compare::checks::STACK;
+use compare::on_stack;
+use plain::{print, Lent};
+use watched::Lending;
+
+/// The engine and the plain program agree on a file. The plain one runs where it has room.
+fn check(file: Vec<u8>, verdict: &str) {
+    let lent = Lent::most();
+    let expected = print(&plain::answer(&file, &lent));
+    assert!(expected.starts_with(verdict), "{expected}");
+    let answer = on_stack(STACK, move || Lending::new().answer(&file, &lent));
+    assert_eq!(print(&answer), expected);
+}
+
+#[test]
+fn never_goes_back_through_a_long_chain() {
+    check(shift_register(true), "CANNOT\n");
+    check(shift_register(false), "CAN ");
+}
+
+#[test]
+fn never_goes_through_a_thousand_states() {
+    check(delay_line(THOUSAND_STATES, true), "CANNOT\n");
+    check(delay_line(THOUSAND_STATES, false), "CAN ");
+}

@@ -1,0 +1,106 @@
+//! The engine against the plain program: the answer and every byte of all five areas, on valid and damaged files in areas of
+//! random lengths.
+
+use compare::{cases, damage, random_bytes, random_file, random_lent, Prng, Shape};
+use gumbyra::{ALTERNATIVE_BYTES, EDGE_BYTES, NODE_BYTES};
+use plain::{print, Answer, Lent};
+use watched::Lending;
+
+/// How often each kind of answer came: refusals 1 to 11 by their number, then "cannot", "can".
+type Kinds = [usize; 14];
+
+fn kind(answer: &Answer) -> usize {
+    match answer {
+        Answer::Refused(number) => usize::from(*number),
+        Answer::Short(_) => 10,
+        Answer::TooLong { .. } => 11,
+        Answer::Cannot { .. } => 12,
+        Answer::Can { .. } => 13,
+    }
+}
+
+/// Printing tells answers apart, but for the area that is short. The areas must be as the plain program's answer says.
+fn check(lending: &mut Lending, file: &[u8], lent: &Lent, kinds: &mut Kinds) {
+    let expected = plain::answer(file, lent);
+    let answer = lending.run(file, lent).unwrap_or_else(|broken| panic!("{broken}: {file:02x?} in {lent:?}"));
+    assert_eq!(print(&answer), print(&expected), "{file:02x?} in {lent:?}");
+    let broken = lending.broken(&expected);
+    assert_eq!(broken, None, "{file:02x?} in {lent:?}");
+    kinds[kind(&expected)] += 1;
+}
+
+/// Mostly short areas that decide the answer, now and then the printing program's.
+fn lent(prng: &mut Prng) -> Lent {
+    match prng.below(8) {
+        0 => Lent::by_program(),
+        _ => random_lent(prng),
+    }
+}
+
+#[test]
+fn valid_files() {
+    let shapes = [
+        Shape { names: 1, roles: 1, compound: 6, rules: 2, text: 4 },
+        Shape { names: 2, roles: 1, compound: 14, rules: 4, text: 300 },
+        Shape { names: 3, roles: 2, compound: 20, rules: 6, text: 40 },
+        Shape { names: 4, roles: 16, compound: 30, rules: 8, text: 3000 },
+    ];
+    let mut prng = Prng::new(11);
+    let (mut lending, mut kinds) = (Lending::new(), Kinds::default());
+    for round in 0..40_000 {
+        let file = random_file(&mut prng, shapes[round % shapes.len()]);
+        let lent = lent(&mut prng);
+        check(&mut lending, &file, &lent, &mut kinds);
+    }
+    println!("valid files: refusals 10 and 11, cannot, can: {:?}", &kinds[10..]);
+    assert!(kinds[10..].iter().all(|&times| times >= 1000), "{kinds:?}");
+}
+
+#[test]
+fn damaged_files() {
+    let shape = Shape { names: 2, roles: 2, compound: 12, rules: 4, text: 8 };
+    let vectors: Vec<Vec<u8>> = cases().into_iter().map(|case| case.file).collect();
+    let mut prng = Prng::new(12);
+    let (mut lending, mut kinds) = (Lending::new(), Kinds::default());
+    for round in 0..40_000 {
+        let mut file = match round % 4 {
+            0 => vectors[prng.below(vectors.len())].clone(),
+            _ => random_file(&mut prng, shape),
+        };
+        damage(&mut prng, &mut file);
+        let lent = lent(&mut prng);
+        check(&mut lending, &file, &lent, &mut kinds);
+    }
+    println!("damaged files: refusals 1 to 11, cannot, can: {:?}", &kinds[1..]);
+    // Refusal 9 cannot happen: row 0 names no lower row, so it is a name or a negation.
+    assert!((1..14).all(|kind| kind == 9 || kinds[kind] >= 100), "{kinds:?}");
+}
+
+#[test]
+fn bytes_at_random() {
+    let mut prng = Prng::new(14);
+    let (mut lending, mut kinds) = (Lending::new(), Kinds::default());
+    for _ in 0..20_000 {
+        let (file, lent) = (random_bytes(&mut prng), lent(&mut prng));
+        check(&mut lending, &file, &lent, &mut kinds);
+    }
+    println!("random bytes: refusals 1 to 11, cannot, can: {:?}", &kinds[1..]);
+    assert!(kinds[1..9].iter().all(|&times| times >= 20), "{kinds:?}");
+}
+
+#[test]
+fn large_files_in_the_largest_areas() {
+    let shape = Shape { names: 6, roles: 3, compound: 52, rules: 12, text: 8 };
+    let mut prng = Prng::new(13);
+    let (mut lending, mut kinds) = (Lending::new(), Kinds::default());
+    for _ in 0..300 {
+        let file = random_file(&mut prng, shape);
+        // Up to 4,196 records and a broken one: every byte ends as promised, also past the last record that counts.
+        let mut records = |bytes: usize| bytes * (4000 + prng.below(196)) + prng.below(bytes);
+        let (nodes, edges, alternatives) = (records(NODE_BYTES), records(EDGE_BYTES), records(ALTERNATIVE_BYTES));
+        let lent = Lent { nodes, edges, alternatives, ..Lent::most() };
+        check(&mut lending, &file, &lent, &mut kinds);
+    }
+    println!("large files: refusals 10 and 11, cannot, can: {:?}", &kinds[10..]);
+    assert!([10, 12, 13].iter().all(|&kind| kinds[kind] >= 10), "{kinds:?}");
+}

@@ -1,0 +1,73 @@
+//! The text of a file from the engine: that part of the file which the plain program says, uncopied.
+
+use compare::files::{encode, Row};
+use compare::{cases, damage, random_bytes, random_file, Prng, Shape};
+use gumbyra::text;
+use plain::RuleFile;
+
+const SHAPE: Shape = Shape { names: 2, roles: 2, compound: 12, rules: 4, text: 40 };
+const ROWS: [Row; 2] = [[1, 0, 0, 0], [6, 1, 0, 0]];
+/// A file of these rows and one rule with the longest text that check 1 lets pass.
+const LONGEST_TEXT: usize = 4096 - 4 * ROWS.len() - 1 - 8;
+
+/// How often each refusal came, by its number, but 0 counts accepted files with a text, 9 those without.
+type Kinds = [usize; 10];
+
+fn check(file: &[u8], kinds: &mut Kinds) {
+    let (text, expected) = (text(file), plain::text(file));
+    assert_eq!((text.as_ptr(), text.len()), (expected.as_ptr(), expected.len()), "{file:02x?}");
+    let kind = match RuleFile::read(file) {
+        Ok(read) if read.text.is_empty() => 9,
+        Ok(_) => 0,
+        Err(number) => usize::from(number),
+    };
+    kinds[kind] += 1;
+}
+
+fn assert_often(what: &str, kinds: &Kinds, least: usize) {
+    println!("{what}: accepted with a text, refusals 1 to 8, accepted without: {kinds:?}");
+    assert!(kinds.iter().all(|&times| times >= least), "{kinds:?}");
+}
+
+#[test]
+fn of_every_case() {
+    let mut kinds = Kinds::default();
+    cases().iter().for_each(|case| check(&case.file, &mut kinds));
+    assert_often("vectors", &kinds, 8);
+}
+
+#[test]
+fn of_random_files_before_and_after_damage() {
+    let mut prng = Prng::new(31);
+    let (mut whole, mut damaged) = (Kinds::default(), Kinds::default());
+    for _ in 0..40_000 {
+        let mut file = random_file(&mut prng, SHAPE);
+        check(&file, &mut whole);
+        damage(&mut prng, &mut file);
+        check(&file, &mut damaged);
+    }
+    assert!(whole[0] >= 5000 && whole[9] >= 5000, "{whole:?}");
+    assert_often("damaged", &damaged, 100);
+}
+
+#[test]
+fn of_random_bytes() {
+    let mut prng = Prng::new(33);
+    let mut kinds = Kinds::default();
+    (0..40_000).for_each(|_| check(&random_bytes(&mut prng), &mut kinds));
+    assert_often("random bytes", &kinds, 40);
+}
+
+#[test]
+fn of_every_length() {
+    let mut prng = Prng::new(32);
+    let mut kinds = Kinds::default();
+    for length in 0..=LONGEST_TEXT + 1 {
+        let mut expected = vec![0; length];
+        prng.fill(&mut expected);
+        let file = encode(&expected, &ROWS, &[1], 0);
+        assert_eq!(text(&file), if length <= LONGEST_TEXT { &expected[..] } else { b"" });
+        check(&file, &mut kinds);
+    }
+    assert_eq!((kinds[0], kinds[1], kinds[9]), (LONGEST_TEXT, 1, 1));
+}
