@@ -4,6 +4,7 @@
 -- A piece may lie past the end of the area, in part or whole: places are counted all the same, and nothing is stored there.
 -- Assumes nothing.
 use mathlib.Core.Path.{_≡_}
+use mathlib.Core.Logic.{_≢_}
 use Prim.Native.Nat.{ℕ, _+_, _*_, _^_, _≤_, _<_}
 use lib.ListN.{length, take}
 use lib.Seq.{sets}
@@ -32,8 +33,10 @@ pub record Pieces (upTo : ℕ → Bytes) (each count : ℕ) (out : Bytes) (at : 
 
 -- ---- what the whole gives
 
--- the count is the length of what is printed; the area holds that and then what it held before, cut at the area's own length
+-- the count is the length of what is printed: at most 64 bytes, and with "can" 30 more for each element and 35 for each link;
+-- the area holds what is printed and then what it held before, cut at the area's own length
 pub record Prints (n : Numbers) (elements links out out′ : Bytes) (count : ℕ) : Type 0 where
   pub counted : count ≡ length (printed n elements links)
   pub shown : out′ ≡ take (length out) (overwrite (printed n elements links) out)
   pub bounded : count ≤ 64 + 30 * n .elements + 35 * n .links
+  pub brief : n .verdict ≢ 1 → count ≤ 64

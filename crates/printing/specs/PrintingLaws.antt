@@ -1,19 +1,21 @@
 -- Laws of Printing: the ways through the functions that print.
 --
--- In order: pieces; the whole; numbers; a loop over pieces; lines; the line of an element and of a link; the lines of an answer; which lines are printed.
+-- In order: pieces; the whole; a whole that has room; numbers; a loop over pieces; lines; the line of an element and of a link; the lines of an answer; which lines are printed.
 -- Assumes nothing.
 use mathlib.Core.Path.{_≡_, refl, sym, ap, ap₂, subst, _∙_}
 use mathlib.Core.Bool.{Bool, true, false}
+use mathlib.Core.Logic.{_≢_}
 use mathlib.Core.List.{[], _∷_, _++_, append-nil, append-assoc}
 use Prim.Native.Nat.{ℕ, suc, _+_, _-_, _*_, _/_, _%_, _^_, _≤_, _<_}
 use native.Mathlib.Nat.{mul-suc}
 use native.Mathlib.Omega.{arith}
 use lib.Dec.{eqb}
-use lib.ListN.{length, getD, set, take, length-append}
-use lib.Seq.{sets, length-sets, set-out, take-length, take-suc}
-use borrow.Author.Tests.{eq-eqb, ne-eqb}
+use lib.ListN.{length, getD, set, take, drop, length-append, length-drop}
+use lib.Seq.{sets, length-sets, set-out, length-take-le, take-all, take-length, take-suc, take-at, drop-at}
+use borrow.Author.Tests.{eqb-true, eqb-false, eq-eqb, ne-eqb}
 use Rattle.rulefile.specs.Format.{Bytes}
-use Rattle.run.specs.Run.{Numbers, overwrite}
+use Rattle.run.specs.Run.{Lengths, Numbers, overwrite}
+use Rattle.run.specs.RunLaws.{Room}
 use Rattle.run.specs.ExampleBytes.{linkAt}
 use Rattle.run.specs.Printed.{ascii, digit, hexadecimal, decimal, spaced, line, elementLine, linkLine, elementLines, linkLines, usedLine, refusedLine, canLines, cannotLines, printed}
 use Rattle.run.specs.PrintedLaws.{decimal-last, decimal-more, length-decimal-word, hexadecimal-more}
@@ -69,10 +71,45 @@ sets-cut [] (x ∷ out) = sym (take-length (x ∷ out))
 sets-cut (b ∷ text) (x ∷ out) = sets-cons b out 0 text ∙ ap (λ (o : Bytes). b ∷ o) (sets-cut text out)
 
 pub wrote-whole : {n : Numbers} {elements links text out out′ : Bytes} {most next : ℕ} → Wrote most text out 0 out′ next → text ≡ printed n elements links
-    → most ≤ 64 + 30 * n .elements + 35 * n .links → Prints n elements links out out′ next
-wrote-whole {n} {elements} {links} {out = out} w e h =
-    let v = wrote-as w {most′ = 64 + 30 * n .elements + 35 * n .links} e h in
-    record { counted = omega (arith, v .after); shown = v .stored ∙ sets-cut (printed n elements links) out; bounded = omega (arith, v .after, v .bounded) }
+    → most ≤ 64 + 30 * n .elements + 35 * n .links → (n .verdict ≢ 1 → most ≤ 64) → Prints n elements links out out′ next
+wrote-whole {n} {elements} {links} {out = out} {most = most} w e h brief =
+    let v = wrote-as w {most′ = most} e (omega arith) in
+    record {
+      counted = omega (arith, v .after);
+      shown = v .stored ∙ sets-cut (printed n elements links) out;
+      bounded = omega (arith, v .after, v .bounded);
+      brief = λ c. omega (arith, v .after, v .bounded, brief c);
+    }
+
+-- ---- a whole that has room
+
+module _ {n : Numbers} {elements links out out′ : Bytes} {count : ℕ} (p : Prints n elements links out out′ count) where
+  -- what is printed is bounded by the lengths of the areas, if with "can" they hold the example
+  pub prints-within : (l : Lengths) → (n .verdict ≡ 1 → Room l n) → count ≤ 64 + 30 * (l .elements / 8) + 35 * (l .links / 6)
+  prints-within l room = go (eqb (n .verdict) 1) refl
+    where
+      go : (b : Bool) → eqb (n .verdict) 1 ≡ b → count ≤ 64 + 30 * (l .elements / 8) + 35 * (l .links / 6)
+      go true e = let r = room (eqb-true (n .verdict) 1 e) in omega (arith, p .bounded, r .elements, r .links)
+      go false e = omega (arith, p .brief (eqb-false (n .verdict) 1 e))
+
+  pub prints-size : length out′ ≡ length out
+  prints-size = ap length (p .shown) ∙ length-take-le (length out) (overwrite (printed n elements links) out) (simp (length-append, length-drop) (omega arith))
+
+  module _ (h : count ≤ length out) where
+    prints-uncut : out′ ≡ overwrite (printed n elements links) out
+    prints-uncut =
+        p .shown
+        ∙ take-all (length out) (overwrite (printed n elements links) out) (simp (length-append, length-drop) (omega (arith, p .counted)))
+
+    -- the text, and behind it what the area held before
+    pub prints-text : take count out′ ≡ printed n elements links
+    prints-text = ap (take count) prints-uncut ∙ take-at (printed n elements links) (drop (length (printed n elements links)) out) count (sym (p .counted))
+
+    pub prints-rest : drop count out′ ≡ drop count out
+    prints-rest =
+        ap (drop count) prints-uncut
+        ∙ drop-at (printed n elements links) (drop (length (printed n elements links)) out) count (sym (p .counted))
+        ∙ ap (λ (k : ℕ). drop k out) (sym (p .counted))
 
 -- ---- numbers
 

@@ -269,8 +269,8 @@ fn refused(answer: Answer, out: &mut [u8]) -> usize
     line_of_one(out, 0, b"REFUSED", answer.refusal)
 }
 
-// Writes what is printed for an answer and the two example areas, and answers its length, which is at most 64 bytes, 30 for each
-// element and 35 for each link. Where `out` is shorter it holds as much as has room. Bytes of `out` after the text stay as they were.
+// Writes what is printed for an answer and the two example areas, and answers its length, which is at most 64 bytes, and with "can"
+// 30 more for each element and 35 for each link. Where `out` is shorter it holds as much as has room. Bytes of `out` after the text stay as they were.
 pub fn print(answer: Answer, elements: &[u8], links: &[u8], out: &mut [u8]) -> usize
     ensures { λ r. ⌜ Prints (numbersOf answer) (now (elements .entry)) (now (links .entry)) (now (out .entry)) (now (out .exit)) r ⌝ }
 {

@@ -48,33 +48,25 @@ module _ {b : Bytes} {l : Layout} (P : Placed b l) where
   pub whole : (l .text + 4 * l .rows + l .rules + 8 ≡ length b) × (length b ≤ 4096)
   whole = rw (P .layout) (P .parts .parts, P .parts .most)
 
-  pub rows-part : take (l .text + 4 * l .rows - l .text) (drop (l .text) b) ≡ rowsPart b
-  rows-part =
-      let n : firstRow b + 4 * rowCount b - firstRow b ≡ 4 * rowCount b = omega arith in
-      rw (P .layout) (ap (λ (m : ℕ). take m (drop (firstRow b) b)) n)
+  pub rows-part : take (4 * l .rows) (drop (l .text) b) ≡ rowsPart b
+  rows-part = rw (P .layout)
 
-  pub rules-part : take (l .text + 4 * l .rows + l .rules - (l .text + 4 * l .rows)) (drop (l .text + 4 * l .rows) b) ≡ rules b
-  rules-part =
-      let from = firstRow b + 4 * rowCount b in
-      let n : from + ruleCount b - from ≡ ruleCount b = omega arith in
-      rw (P .layout) (ap (λ (m : ℕ). take m (drop from b)) n ∙ sym (map-getD-range b from (ruleCount b) 0 (omega (arith, P .parts .parts))))
+  pub rules-part : take (l .rules) (drop (l .text + 4 * l .rows) b) ≡ rules b
+  rules-part = rw (P .layout) (sym (map-getD-range b (firstRow b + 4 * rowCount b) (ruleCount b) 0 (omega (arith, P .parts .parts))))
 
-  pub wanted-part : take (length b - 4 + 1 - (length b - 4)) (drop (length b - 4) b) ≡ wantedRows b
+  pub wanted-part : take 1 (drop (length b - 4) b) ≡ wantedRows b
   unfolding range
   wanted-part =
-      let n : length b - 4 + 1 - (length b - 4) ≡ 1 = omega arith in
       let p : length b - 4 + 0 ≡ length b - 8 + 4 = omega (arith, P .parts .least) in
-      ap (λ (m : ℕ). take m (drop (length b - 4) b)) n
-      ∙ sym (map-getD-range b (length b - 4) 1 0 (omega (arith, P .parts .least)))
-      ∙ ap (λ (k : ℕ). getD b k 0 ∷ []) p
+      sym (map-getD-range b (length b - 4) 1 0 (omega (arith, P .parts .least))) ∙ ap (λ (k : ℕ). getD b k 0 ∷ []) p
 
 -- ---- the text
 
--- its text is a leading part, as long as the layout says
-pub laid-text : {kinds : Kinds} {b : Bytes} {l : Layout} → Laid kinds b l → take (l .text - 0) (drop 0 b) ≡ textOf kinds b
+-- a leading part, as long as the layout says
+pub laid-text : {kinds : Kinds} {b : Bytes} {l : Layout} → Laid kinds b l → take (l .text) (drop 0 b) ≡ textOf kinds b
 laid-text {kinds} {b} {l} L =
-    let n : l .text - 0 ≡ length (textOf kinds b) = omega (arith, ap (λ (k : Layout). k .text) (L .layout), ap length (text-accepted kinds b (L .file) (L .reads))) in
+    let n : l .text ≡ length (textOf kinds b) = ap (λ (k : Layout). k .text) (L .layout) ∙ ap length (sym (text-accepted kinds b (L .file) (L .reads))) in
     rw n (take-textOf kinds b)
 
-pub laid-inside : {kinds : Kinds} {b : Bytes} {l : Layout} → Laid kinds b l → l .text ≤ length b
-laid-inside L = let P = laid-placed L in omega (arith, whole P)
+pub laid-inside : {kinds : Kinds} {b : Bytes} {l : Layout} → Laid kinds b l → 0 + l .text ≤ length b
+laid-inside L = omega (arith, whole (laid-placed L))

@@ -6,7 +6,7 @@
 ghost use mathlib.Core.Path.{_≡_};
 ghost use mathlib.Core.Bool.{cond};
 ghost use mathlib.Core.Option.{none};
-ghost use Prim.Native.Nat.{_+_, _-_, _*_, _≤_, _<_};
+ghost use Prim.Native.Nat.{_+_, _*_, _≤_, _<_};
 ghost use lib.Dec.{leb};
 ghost use lib.ListN.{length, take, drop};
 ghost use Rattle.concepts.specs.Lists.{any};
@@ -189,7 +189,10 @@ fn decode(kinds: u16, kind: u8, role: u8, left: u8, right: u8) -> Row
         return Row::Malformed;
     }
     if (kind == 1) | (kind == 2) {
-        return only((role == 0) & ((right == 0) & (left <= LAST_NAME)), Row::Literal);
+        return only(
+            (role == 0) & ((right == 0) & (left <= LAST_NAME)),
+            Row::Literal,
+        );
     }
     if (kind == 3) | (kind == 4) {
         return only(role == 0, Row::Binary(left, right));
@@ -392,11 +395,12 @@ pub fn read(file: &[u8], kinds: u16) -> Outcome
     Outcome::Accepted(layout_of(file))
 }
 
-// The bytes of the file from one place to another, as that part of the file.
-fn part(file: &[u8], from: usize, to: usize) -> &[u8]
-    requires { ⌜ (from ≤ to) × (to ≤ length (now file)) ⌝ }
-    ensures { λ r. ⌜ (now r ≡ take (to - from) (drop from (now (file .entry)))) × Starts (r .ptr) (file .entry .ptr) from ⌝ }
+// So many bytes of the file from a place on, as that part of the file.
+fn part(file: &[u8], from: usize, count: usize) -> &[u8]
+    requires { ⌜ from + count ≤ length (now file) ⌝ }
+    ensures { λ r. ⌜ (now r ≡ take count (drop from (now (file .entry)))) × Starts (r .ptr) (file .entry .ptr) from ⌝ }
 {
+    let to = from + count;
     &file[from..to]
 }
 
@@ -415,7 +419,7 @@ pub fn rows_of(file: &[u8], layout: Layout) -> &[u8]
     requires { ⌜ Placed (now file) layout ⌝ }
     ensures { λ r. ⌜ now r ≡ Format.rowsPart (now (file .entry)) ⌝ }
 {
-    part(file, layout.text, layout.text + ROW * layout.rows)
+    part(file, layout.text, ROW * layout.rows)
 }
 
 // The rules of an accepted file, a list of row numbers.
@@ -423,8 +427,7 @@ pub fn rules_of(file: &[u8], layout: Layout) -> &[u8]
     requires { ⌜ Placed (now file) layout ⌝ }
     ensures { λ r. ⌜ now r ≡ Format.rules (now (file .entry)) ⌝ }
 {
-    let from = layout.text + ROW * layout.rows;
-    part(file, from, from + layout.rules)
+    part(file, layout.text + ROW * layout.rows, layout.rules)
 }
 
 // The wanted rows of an accepted file: a list of one.
@@ -432,6 +435,5 @@ pub fn wanted_of(file: &[u8], layout: Layout) -> &[u8]
     requires { ⌜ Placed (now file) layout ⌝ }
     ensures { λ r. ⌜ now r ≡ Format.wantedRows (now (file .entry)) ⌝ }
 {
-    let from = file.len() - WANTED;
-    part(file, from, from + 1)
+    part(file, file.len() - WANTED, 1)
 }

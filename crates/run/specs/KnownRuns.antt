@@ -34,7 +34,7 @@ row kind role left right = kind ∷ role ∷ left ∷ right ∷ []
 abbrev lend : ℕ → ℕ → ℕ → Lengths
 lend n e a = record { nodes = n * 64; edges = e * 16; alternatives = a * 16; elements = 8192; links = 49152 }
 
-abbrev program : Lengths
+abbrev pub program : Lengths
 program = lend 1024 4096 4096
 
 abbrev counts : ℕ → ℕ → ℕ → Used
@@ -46,7 +46,7 @@ showing elements links = record { elements = elements; links = links }
 abbrev link : ℕ → ℕ → ℕ → RoleLink
 link d ρ e = record { from = d; role = ρ; to = e }
 
-abbrev eightNodes : Bytes
+abbrev pub eightNodes : Bytes
 eightNodes = written (row 1 0 0 0 ∷ row 5 1 0 0 ∷ row 6 0 1 0 ∷ []) [] 2
 
 -- ---- the table

@@ -1,5 +1,6 @@
--- The whole run of document 01, its known runs, its example read back from its bytes, what the engine promises, and the answer as it is printed.
+-- The whole run of document 01, its known runs, its example read back from its bytes, what the engine promises, the answer as it is printed, and the program.
 pub mod Run
+pub mod RunLaws
 pub mod Claim
 pub mod KnownRuns
 pub mod ExampleBytes
@@ -7,3 +8,5 @@ pub mod ExampleBytesLaws
 pub mod Promise
 pub mod Printed
 pub mod PrintedLaws
+pub mod Program
+pub mod ProgramLaws

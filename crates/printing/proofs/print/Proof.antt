@@ -17,7 +17,7 @@ returns : tie.Need-returns
 returns c =
     let a = c .before .before .before .before .before .before .before .before .before .args in
     let choice = printed-can (numbersOf (a .answer)) (a .elements .now) (a .links .now) (c .before .before .before .before .if1 .taken) in
-    wrote-whole (c .before .before .can .ensures) choice (omega arith)
+    wrote-whole (c .before .before .can .ensures) choice (omega arith) (λ other. absurd (other (c .before .before .before .before .if1 .taken)))
 
 cannot-requires : tie.Need-cannot-requires
 cannot-requires c κs = search needs
@@ -29,7 +29,7 @@ returns-2 : tie.Need-returns-2
 returns-2 c =
     let a = c .before .before .before .before .before .before .before .before .before .before .before .args in
     let choice = printed-cannot (numbersOf (a .answer)) (a .elements .now) (a .links .now) (c .before .before .before .before .if2 .taken) in
-    wrote-whole (c .before .before .cannot .ensures) choice (omega arith)
+    wrote-whole (c .before .before .cannot .ensures) choice (omega arith) (λ other. omega arith)
 
 refused-requires : tie.Need-refused-requires
 refused-requires c κs = search needs
@@ -45,7 +45,7 @@ returns-3 c =
     let start = at-if1 .before .before .before .before .before in
     let a = start .args in
     let choice = printed-refused (numbersOf (a .answer)) (a .elements .now) (a .links .now) (at-if1 .if1 .left) (at-if2 .if2 .left) in
-    wrote-whole (at-refused .refused .ensures) choice (omega arith)
+    wrote-whole (at-refused .refused .ensures) choice (omega arith) (λ other. omega arith)
 
 pub print-spec : {M : Type 1} → statement M
 print-spec =

@@ -20,9 +20,9 @@ only-requires c κs = search needs
 
 returns-2 : tie.Need-returns-2
 returns-2 c =
-  let a = c .before .before .before .before .args in
-  let allowed = sym (c .before .before .before .allowed .ensures) ∙ not-false _ (c .before .before .if1 .left) in
-  c .only .ensures ∙ sym (named-literal (a .kinds) (a .kind) (a .role) (a .left) (a .right) allowed (c .before .if2 .taken))
+    let a = c .before .before .before .before .args in
+    let allowed = sym (c .before .before .before .allowed .ensures) ∙ not-false _ (c .before .before .if1 .left) in
+    c .only .ensures ∙ sym (named-literal (a .kinds) (a .kind) (a .role) (a .left) (a .right) allowed (c .before .if2 .taken))
 
 only-requires-2 : tie.Need-only-requires-2
 only-requires-2 c κs = search needs

@@ -8,16 +8,13 @@ use Rattle.rulefile.proofs.rows_of.Statement.{statement}
 use Rattle.rulefile.proofs.rows_of.Tie as tie
 
 mul-part : tie.Need-mul-part
-mul-part c = omega (arith, whole (c .before .before .pre))
-
-add-part : tie.Need-add-part
-add-part c = omega (arith, whole (c .before .before .before .pre))
+mul-part c = let s : tie.Start = search in omega (arith, whole (s .pre))
 
 part-requires : tie.Need-part-requires
-part-requires c κs = (omega arith, omega (arith, whole (c .before .before .before .pre)))
+part-requires c κs = let s : tie.Start = search in omega (arith, whole (s .pre))
 
 returns : tie.Need-returns
-returns c = c .part .ensures .0 ∙ rows-part (c .before .before .before .before .pre)
+returns c = let s : tie.Start = search in c .part .ensures .0 ∙ rows-part (s .pre)
 
 pub rows-of-spec : {M : Type 1} → statement M
-rows-of-spec = tie.close (tie.spec mul-part add-part part-requires returns)
+rows-of-spec = tie.close (tie.spec mul-part part-requires returns)

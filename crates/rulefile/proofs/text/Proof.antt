@@ -1,7 +1,6 @@
 -- `rulefile::text` meets its contract: the part that is handed back starts where the file starts, and is as long as the text.
 -- Assumes nothing.
 use mathlib.Core.Path.{sym, _∙_}
-use native.Mathlib.Omega.{arith}
 use borrow.Author.Needs.{needs}
 use Rattle.rulefile.specs.ReadLaws.{text-refused}
 use Rattle.rulefile.specs.PartLaws.{reads-refused, reads-accepted, laid-text, laid-inside}
@@ -24,7 +23,7 @@ part-requires-2 : tie.Need-part-requires-2
 part-requires-2 c κs =
     let s = c .before .before .before in
     let a = s .before .before .args in
-    (omega arith, laid-inside (reads-accepted (a .kinds) (a .file .now) _ (sym (c .before .layout .given .1) ∙ s .read .ensures)))
+    laid-inside (reads-accepted (a .kinds) (a .file .now) _ (sym (c .before .layout .given .1) ∙ s .read .ensures))
 
 returns : tie.Need-returns
 returns c =

@@ -6,17 +6,14 @@ use Rattle.rulefile.specs.PartLaws.{wanted-part}
 use Rattle.rulefile.proofs.wanted_of.Statement.{statement}
 use Rattle.rulefile.proofs.wanted_of.Tie as tie
 
-sub-from : tie.Need-sub-from
-sub-from c = search needs
-
-add-part : tie.Need-add-part
-add-part c = search needs
+sub-part : tie.Need-sub-part
+sub-part c = search needs
 
 part-requires : tie.Need-part-requires
 part-requires c κs = search needs
 
 returns : tie.Need-returns
-returns c = c .part .ensures .0 ∙ wanted-part (c .before .before .pre)
+returns c = let s : tie.Start = search in c .part .ensures .0 ∙ wanted-part (s .pre)
 
 pub wanted-of-spec : {M : Type 1} → statement M
-wanted-of-spec = tie.close (tie.spec sub-from add-part part-requires returns)
+wanted-of-spec = tie.close (tie.spec sub-part part-requires returns)

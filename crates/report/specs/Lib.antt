@@ -1,0 +1,3 @@
+-- What a report gives, and the way through it.
+pub mod Report
+pub mod ReportLaws
