@@ -17,7 +17,7 @@ use Rattle.procedure.proofs.Bare.{bare}
 use Rattle.procedure.proofs.Whole.{Ended, run-ends}
 use Rattle.procedure.proofs.Can.{goodIf}
 use Rattle.procedure.proofs.Correct.{finished-at, root-set}
-use Rattle.run.specs.Run.{Areas, Lengths, lengths, used, Answer, cannot, answerCan, answerRoot, answerResult, areasAfter}
+use Rattle.run.specs.Run.{Areas, areasOf, Lengths, lengths, used, Answer, cannot, answerCan, answerRoot, answerResult, areasAfter}
 use Rattle.records.specs.Areas.{Bytes}
 use Rattle.records.specs.Codes.{statusOf}
 use Rattle.records.specs.Records.{nodeOf, nodeIn}
@@ -31,7 +31,7 @@ use Rattle.records.specs.declared.Step.the-variants.{Done, Full}
 use Rattle.settests.specs.Rows.{tableOf}
 use Rattle.rounds.specs.Contracts.{RunAsks, RunGives}
 use Rattle.walk.specs.Contracts.{WalkAsks}
-use Rattle.conclusion.specs.Contracts.{areasOf, Decided, ShowGives, goodRoot, ConcludeAsks, ConcludeGives, DecideGives}
+use Rattle.conclusion.specs.Contracts.{Decided, ShowGives, goodRoot, ConcludeAsks, ConcludeGives, DecideGives}
 use Rattle.conclusion.specs.ShowWays.{used-counts}
 use Rattle.conclusion.specs.declared.Decision.{Decision}
 use Rattle.conclusion.specs.declared.Decision.the-variants.{Short, Cannot}

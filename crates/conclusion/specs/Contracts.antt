@@ -23,10 +23,6 @@ use Rattle.conclusion.specs.declared.Decision.the-variants.{Short, Canno
 
 -- ---- a decision
 
--- the five areas
-abbrev pub areasOf : (n e a elements links : Bytes) → Areas
-areasOf n e a elements links = record { nodes = n; edges = e; alternatives = a; elements = elements; links = links }
-
 -- the numbers of records
 abbrev pub usedOf : Counts → Used
 usedOf c = record { nodes = c .nodes; edges = c .edges; alternatives = c .alternatives }

@@ -8,18 +8,19 @@ use Prim.Native.Nat.{ℕ}
 use native.Mathlib.Omega.{arith}
 use lib.ListN.{length, replicate}
 use Rattle.concepts.specs.Concept.{Table}
-use Rattle.rulefile.specs.Format.{Bytes, ruleKinds, rowsPart, rules, wantedRows, RuleFile, refused, reading}
+use Rattle.rulefile.specs.Format.{Bytes, rowsPart, rules, wantedRows, RuleFile, refused, reading}
+use Rattle.decoding.specs.Decoding.{ruleKinds}
 use Rattle.rulefile.specs.CheckLaws.{accepted-contents}
 use Rattle.rulefile.specs.Read.{Laid}
 use Rattle.rulefile.specs.declared.Layout.{Layout}
 use Rattle.procedure.specs.Tableau.{run}
-use Rattle.run.specs.Run.{Areas, lengths, capacity, Answer, answerResult, Numbers, refusedWith, numbers, answer, zeros, areasAfter}
+use Rattle.run.specs.Run.{Areas, areasOf, lengths, capacity, Answer, answerResult, Numbers, refusedWith, numbers, answer, zeros, areasAfter}
 use Rattle.run.specs.Promise.{Promise}
 use Rattle.run.proofs.Verdict.{answer-accepted, answer-refused}
 use Rattle.run.proofs.Kept.{promise-kept}
 use Rattle.settests.specs.FileRows.{accepted-table}
 use Rattle.settests.specs.Rows.{tableOf}
-use Rattle.conclusion.specs.Contracts.{areasOf, Decides, Decided, DecideGives}
+use Rattle.conclusion.specs.Contracts.{Decides, Decided, DecideGives}
 use Rattle.conclusion.specs.declared.Decision.{Decision}
 use Rattle.conclusion.specs.declared.Decision.the-variants.{Short, Cannot, Can, TooLong}
 use Rattle.engine.specs.Contracts.{decidedNumbers, Answered}

@@ -4,7 +4,8 @@ use mathlib.Core.Path.{_≡_, sym, ap, _∙_, subst}
 use mathlib.Core.List.{List}
 use Prim.Native.Nat.{ℕ}
 use Rattle.concepts.specs.Concept.{Table, WellFormed}
-use Rattle.rulefile.specs.Format.{Bytes, ruleKinds, rowsPart, rules, wantedRows, RuleFile}
+use Rattle.rulefile.specs.Format.{Bytes, rowsPart, rules, wantedRows, RuleFile}
+use Rattle.decoding.specs.Decoding.{ruleKinds}
 use Rattle.rulefile.specs.FormatLaws.{accepted-admitted}
 use Rattle.rulefile.specs.CheckLaws.{accepted-contents}
 use Rattle.rulefile.specs.Read.{Laid}

@@ -3,7 +3,7 @@
 use libc::STDIN_FILENO;
 use libc::STDOUT_FILENO;
 use rulefile::Outcome;
-use rulefile::RULE_KINDS;
+use decoding::RULE_KINDS;
 
 // Room for one file, above the 4,096 bytes that may pass.
 const ROOM: usize = 8192;

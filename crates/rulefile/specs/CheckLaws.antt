@@ -13,7 +13,8 @@ use lib.ListN.{length, getD}
 use borrow.Author.Tests.{ltb-false, eqb-true, eqb-false, not-false}
 use Rattle.concepts.specs.Tests.{or-neither}
 use Rattle.concepts.specs.ListLaws.{getD-mem, first-at, first-nowhere, first-none}
-use Rattle.rulefile.specs.Format.{Bytes, Kinds, firstRow, rowCount, ruleCount, badLength, badCounts, badPlace, Check, checks, refusal, RuleFile, contents, Reading, refused, accepted, readingOf}
+use Rattle.rulefile.specs.Format.{Bytes, firstRow, rowCount, ruleCount, badLength, badCounts, badPlace, Check, checks, refusal, RuleFile, contents, Reading, refused, accepted, readingOf}
+use Rattle.decoding.specs.Decoding.{Kinds}
 use Rattle.rulefile.specs.Checks.{noCheck, checkAt, refusesAt, Passed, Parted}
 
 -- ---- reading, check by check

@@ -8,7 +8,8 @@ use mathlib.Core.Bool.{Bool, false}
 use Prim.Native.Nat.{ℕ, _+_, _*_, _≤_, _<_}
 use lib.ListN.{length, getD}
 use Rattle.concepts.specs.Lists.{NoneBelow}
-use Rattle.rulefile.specs.Format.{Bytes, Kinds, firstRow, rowCount, ruleCount, Check, checks}
+use Rattle.rulefile.specs.Format.{Bytes, firstRow, rowCount, ruleCount, Check, checks}
+use Rattle.decoding.specs.Decoding.{Kinds}
 
 -- past the end of the list nothing is refused
 abbrev pub noCheck : Check

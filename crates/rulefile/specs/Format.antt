@@ -1,18 +1,18 @@
 -- The rule file (01, The rule file; Refusals, in checking order).
 --
--- In order: where the parts of a file stand; the kinds of rows that are allowed; a row's bytes and its concept; the checks 1 to 9; what a file holds; reading.
+-- In order: where the parts of a file stand; the checks 1 to 9; what a file holds; reading. A row's bytes and its concept are in Decoding.
 -- A file is a list of bytes, numbers below 256. Places past its end read as 0.
--- Which kinds are allowed is a parameter of all that looks at rows; a rule file is read with `ruleKinds`.
+-- Which kinds of rows are allowed is a parameter of all that looks at rows; a rule file is read with `ruleKinds`.
 -- Assumes nothing.
-use mathlib.Core.Bool.{Bool, true, false, not, _&&_, _||_, cond}
+use mathlib.Core.Bool.{Bool, true, false, not, _&&_, _||_}
 use mathlib.Core.List.{List, [], _∷_, map}
 use mathlib.Core.Option.{Option, none, some}
 use Prim.Native.Nat.{ℕ, _+_, _-_, _*_}
 use lib.Dec.{eqb, ltb, leb}
 use lib.ListN.{length, getD, take, drop}
 use Rattle.concepts.specs.Lists.{range, any, first}
-use Rattle.concepts.specs.RowSet.{mem}
-use Rattle.concepts.specs.Concept.{Concept, atomic, negated, conj, disj, univ, exist, Table, arguments}
+use Rattle.concepts.specs.Concept.{Concept, Table, arguments}
+use Rattle.decoding.specs.Decoding.{Kinds, ruleKinds, malformed, conceptOf}
 
 abbrev pub Bytes : Type 0
 Bytes = List ℕ
@@ -55,44 +55,6 @@ wantedRows b = wantedRow b ∷ []
 -- the part of the file that has the rows
 abbrev pub rowsPart : Bytes → Bytes
 rowsPart b = take (4 * rowCount b) (drop (firstRow b) b)
-
--- ---- the kinds that are allowed
-
--- a set of kinds, kind n as bit n
-abbrev pub Kinds : Type 0
-Kinds = ℕ
-
--- the kinds of a rule file: 1 to 6
-abbrev pub ruleKinds : Kinds
-ruleKinds = 126
-
--- ---- a row, by its kind
-
--- the concept, if its bytes pass a test
-abbrev pub only : Bool → Concept → Option Concept
-only test c = cond test (some c) none
-
--- the concept of four bytes by their kind: none for a kind outside 1 to 6, "a non-zero unused byte, a role above 31 or a name above 63"
-unfoldable pub ofKind : ℕ → ℕ → ℕ → ℕ → Option Concept
-ofKind kind role left right =
-    cond (eqb kind 1) (only (eqb role 0 && (eqb right 0 && leb left 63)) (atomic left))
-    (cond (eqb kind 2) (only (eqb role 0 && (eqb right 0 && leb left 63)) (negated left))
-    (cond (eqb kind 3) (only (eqb role 0) (conj left right))
-    (cond (eqb kind 4) (only (eqb role 0) (disj left right))
-    (cond (eqb kind 5) (only (eqb right 0 && leb role 31) (univ role left))
-    (cond (eqb kind 6) (only (eqb right 0 && leb role 31) (exist role left))
-    none)))))
-
--- the one decoding of a row: none if its kind is not allowed or its bytes are not as the kind uses them
-unfoldable pub decode : Kinds → ℕ → ℕ → ℕ → ℕ → Option Concept
-decode kinds kind role left right = cond (mem kind kinds) (ofKind kind role left right) none
-
-abbrev pub malformed : Kinds → ℕ → ℕ → ℕ → ℕ → Bool
-malformed kinds kind role left right = elim (decode kinds kind role left right) [ some c ↦ false | none ↦ true ]
-
--- a malformed row stands for a name; no accepted file has one
-abbrev pub conceptOf : Kinds → ℕ → ℕ → ℕ → ℕ → Concept
-conceptOf kinds kind role left right = elim (decode kinds kind role left right) [ some c ↦ c | none ↦ atomic 0 ]
 
 -- ---- the checks, each over all rows
 

@@ -17,9 +17,10 @@ use Rattle.concepts.specs.Tests.{or-neither, decide, as-false, from-false}
 use Rattle.concepts.specs.Lists.{range, any, every}
 use Rattle.concepts.specs.ListLaws.{range-mem, mem-range, every-mem, length-map-range, getD-map-range, not-any, any-range-found, none-any-range, least-below}
 use Rattle.concepts.specs.Concept.{Concept, atomic, conceptAt, arguments, roleOf, Ordered, WellFormed}
-use Rattle.rulefile.specs.Format.{Bytes, Kinds, rowCount, ruleCount, wantedRow, rowByte, rule, conceptIn, badRow, badArgument, badRule, isName, checks, refusal, RuleFile, contents, accepted, readingOf}
+use Rattle.rulefile.specs.Format.{Bytes, rowCount, ruleCount, wantedRow, rowByte, rule, conceptIn, badRow, badArgument, badRule, isName, checks, refusal, RuleFile, contents, accepted, readingOf}
+use Rattle.decoding.specs.Decoding.{Kinds}
 use Rattle.rulefile.specs.Checks.{checkAt, refusesAt, Passed}
-use Rattle.rulefile.specs.DecodeLaws.{role-small, literal-kind}
+use Rattle.decoding.specs.DecodingLaws.{role-small, literal-kind}
 use Rattle.rulefile.specs.CheckLaws.{refusal-at, refusal-none, accepted-contents, accepted-passed, accepted-parted, parted}
 
 -- ---- what an accepted file holds, once checks 1 to 8 have passed

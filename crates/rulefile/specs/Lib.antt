@@ -2,7 +2,6 @@
 pub mod Format
 pub mod Checks
 pub mod Read
-pub mod DecodeLaws
 pub mod CheckLaws
 pub mod FormatLaws
 pub mod ReadLaws

@@ -9,7 +9,8 @@ use native.Mathlib.Omega.{arith}
 use lib.ListN.{length, getD, take, drop}
 use Rattle.concepts.specs.Lists.{range}
 use Rattle.concepts.specs.ListLaws.{map-getD-range}
-use Rattle.rulefile.specs.Format.{Bytes, Kinds, firstRow, rowCount, ruleCount, wantedRows, rules, rowsPart, Reading, refused, accepted, readingOf, textOf}
+use Rattle.rulefile.specs.Format.{Bytes, firstRow, rowCount, ruleCount, wantedRows, rules, rowsPart, Reading, refused, accepted, readingOf, textOf}
+use Rattle.decoding.specs.Decoding.{Kinds}
 use Rattle.rulefile.specs.CheckLaws.{accepted-contents, accepted-parted}
 use Rattle.rulefile.specs.Read.{layoutOf, readOf, Placed, Laid}
 use Rattle.rulefile.specs.ReadLaws.{layout-trailer, text-accepted, take-textOf}

@@ -1,24 +1,20 @@
 -- What the reader answers, and what its checks 5 to 9 look for in each row or rule.
 --
--- In order: the answer to a reading; where a part of a file starts; a file with its layout; the rows that a row names; the findings of checks 5 to 9.
+-- In order: the answer to a reading; where a part of a file starts; a file with its layout; the findings of checks 5 to 9.
 -- Assumes nothing.
 use mathlib.Core.Path.{_≡_}
-use mathlib.Core.Bool.{Bool, true, false}
-use mathlib.Core.List.{List, [], _∷_}
-use mathlib.Core.Option.{Option, none, some}
+use mathlib.Core.Bool.{Bool}
 use Prim.Native.Nat.{ℕ, _+_}
 use lib.Dec.{leb}
 use lib.ListN.{length, getD}
 use Rattle.concepts.specs.Lists.{range, any}
-use Rattle.concepts.specs.Concept.{arguments}
+use Rattle.decoding.specs.Decoding.{Kinds}
 use Rattle.rulefile.specs.declared.Layout.{Layout}
 use Rattle.rulefile.specs.declared.Outcome.{Outcome}
 use Rattle.rulefile.specs.declared.Outcome.the-variants.{Refused, Accepted}
-use Rattle.rulefile.specs.declared.Row.{Row}
-use Rattle.rulefile.specs.declared.Row.the-variants as Row
 use Rattle.rulefile.specs.declared.Finding.{Finding}
 use Rattle.rulefile.specs.declared.Finding.the-variants.{Malformed, Argument, Repeated, Rule, Name}
-use Rattle.rulefile.specs.Format.{Bytes, Kinds, firstRow, rowCount, ruleCount, wantedRow, rule, decode, badRow, badArgument, repeated, isName, RuleFile, Reading, refused, accepted, readingOf}
+use Rattle.rulefile.specs.Format.{Bytes, firstRow, rowCount, ruleCount, wantedRow, rule, badRow, badArgument, repeated, isName, RuleFile, Reading, refused, accepted, readingOf}
 use Rattle.rulefile.specs.Checks.{Parted}
 
 -- how long each part of a file is, and which row is wanted
@@ -49,25 +45,6 @@ pub record Laid (kinds : Kinds) (b : Bytes) (l : Layout) : Type 0 where
   pub file : RuleFile
   pub reads : readingOf kinds b ≡ accepted file
   pub layout : l ≡ layoutOf file
-
--- ---- the rows that a row names
-
--- none if the bytes are malformed
-abbrev pub namedRows : Kinds → ℕ → ℕ → ℕ → ℕ → Option (List ℕ)
-namedRows kinds kind role left right = elim (decode kinds kind role left right) [ some c ↦ some (arguments c) | none ↦ none ]
-
-abbrev pub isMalformed : Option (List ℕ) → Bool
-isMalformed o = elim o [ some ls ↦ false | none ↦ true ]
-
-abbrev pub rowsOf : Option (List ℕ) → List ℕ
-rowsOf o = elim o [ some ls ↦ ls | none ↦ [] ]
-
--- what the decoded row says
-abbrev pub namedBy : Row → Option (List ℕ)
-namedBy Row.Malformed = none
-namedBy Row.Literal = some []
-namedBy (Row.Modal l) = some (l ∷ [])
-namedBy (Row.Binary l r) = some (l ∷ r ∷ [])
 
 -- ---- what checks 5 to 9 look for
 

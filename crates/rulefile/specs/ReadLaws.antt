@@ -9,7 +9,8 @@ use lib.ListN.{length, take}
 use lib.Seq.{length-take-le}
 use Rattle.concepts.specs.Lists.{range}
 use Rattle.concepts.specs.ListLaws.{length-map-range, take-length-take}
-use Rattle.rulefile.specs.Format.{Bytes, Kinds, firstRow, rowCount, ruleCount, conceptIn, rule, refusal, RuleFile, contents, Reading, refused, accepted, readingOf, textOf}
+use Rattle.rulefile.specs.Format.{Bytes, firstRow, rowCount, ruleCount, conceptIn, rule, refusal, RuleFile, contents, Reading, refused, accepted, readingOf, textOf}
+use Rattle.decoding.specs.Decoding.{Kinds}
 use Rattle.rulefile.specs.Checks.{Parted}
 use Rattle.rulefile.specs.Read.{layoutOf, trailerLayout}
 

@@ -1,19 +1,20 @@
 // The reader of rule files (01, The rule file; Refusals, in checking order).
 //
-// In order: the answer; the bounds; the trailer, a row's bytes and a rule; checks 1 to 4; a row, decoded; what checks 5 to 9 look for
-// in a row or rule; the search for it; check by check; the reader; the parts of an accepted file.
-// Which kinds of rows are allowed is a parameter, `kinds`: kind n as bit n. A rule file is read with RULE_KINDS.
+// In order: the answer; the bounds; the trailer, a row's bytes and a rule; checks 1 to 4; what checks 5 to 9 look for in a row or
+// rule; the search for it; check by check; the reader; the parts of an accepted file.
+// Which kinds of rows are allowed is a parameter, `kinds`, as in `decoding`. A rule file is read with its RULE_KINDS.
 ghost use mathlib.Core.Path.{_≡_};
-ghost use mathlib.Core.Bool.{cond};
-ghost use mathlib.Core.Option.{none};
 ghost use Prim.Native.Nat.{_+_, _*_, _≤_, _<_};
-ghost use lib.Dec.{leb};
 ghost use lib.ListN.{length, take, drop};
-ghost use Rattle.concepts.specs.Lists.{any};
-ghost use Rattle.concepts.specs.RowSet.{mem};
+ghost use Rattle.decoding.specs.Decoding.{Kinds};
+ghost use Rattle.decoding.specs.Named.{namedRows, namedBy};
 ghost use Rattle.rulefile.specs.Format as Format;
 ghost use Rattle.rulefile.specs.Checks.{Parted, Passed, checkAt, refusesAt};
-ghost use Rattle.rulefile.specs.Read.{readOf, trailerLayout, Starts, Placed, namedRows, namedBy, isMalformed, rowsOf, extent, foundAt, found};
+ghost use Rattle.rulefile.specs.Read.{readOf, trailerLayout, Starts, Placed, extent, foundAt, found};
+use decoding::Row;
+use decoding::decode;
+use decoding::is_malformed;
+use decoding::names_from;
 
 // The length of the text, which is the place of the first row, the numbers of rows and rules, and the wanted row.
 pub struct Layout {
@@ -27,14 +28,6 @@ pub struct Layout {
 pub enum Outcome {
     Refused(u8),
     Accepted(Layout),
-}
-
-// The rows that a row names, by what its kind uses: a name, a role and a row, two rows.
-enum Row {
-    Malformed,
-    Literal,
-    Modal(u8),
-    Binary(u8, u8),
 }
 
 // What check 5, 6, 7, 8 and 9 looks for in each row or rule.
@@ -57,14 +50,6 @@ const MOST_ROWS: u8 = 64;
 const MOST_RULES: u8 = 64;
 
 const ROW: usize = 4;
-
-// "name 0 to 63"; role codes 0 to 31.
-const LAST_NAME: u8 = 63;
-
-const LAST_ROLE: u8 = 31;
-
-// The kinds of a rule file, 1 to 6.
-pub const RULE_KINDS: u16 = 126;
 
 // The refusals of the checks, in checking order.
 const CHECKS: usize = 9;
@@ -164,45 +149,6 @@ fn bad_place(file: &[u8]) -> bool
         != file.len()
 }
 
-// Whether a kind is allowed.
-fn allowed(kinds: u16, kind: u8) -> bool
-    ensures { λ r. ⌜ r ≡ mem kind kinds ⌝ }
-{
-    if kind < 16 {
-        return (kinds >> kind) % 2 == 1;
-    }
-    false
-}
-
-// The row, if its bytes pass a test.
-fn only(test: bool, row: Row) -> Row
-    ensures { λ r. ⌜ namedBy r ≡ cond test (namedBy row) none ⌝ }
-{
-    if test { row } else { Row::Malformed }
-}
-
-// The one decoding of a row: malformed if its kind is not allowed or its bytes are not as the kind uses them.
-fn decode(kinds: u16, kind: u8, role: u8, left: u8, right: u8) -> Row
-    ensures { λ r. ⌜ namedBy r ≡ namedRows kinds kind role left right ⌝ }
-{
-    if !allowed(kinds, kind) {
-        return Row::Malformed;
-    }
-    if (kind == 1) | (kind == 2) {
-        return only(
-            (role == 0) & ((right == 0) & (left <= LAST_NAME)),
-            Row::Literal,
-        );
-    }
-    if (kind == 3) | (kind == 4) {
-        return only(role == 0, Row::Binary(left, right));
-    }
-    if (kind == 5) | (kind == 6) {
-        return only((right == 0) & (role <= LAST_ROLE), Row::Modal(left));
-    }
-    Row::Malformed
-}
-
 // Row k, decoded.
 fn row_at(file: &[u8], kinds: u16, k: usize) -> Row
     requires { ⌜ Parted (now file) × (k < Format.rowCount (now file)) ⌝ }
@@ -215,30 +161,6 @@ fn row_at(file: &[u8], kinds: u16, k: usize) -> Row
         row_byte(file, k, 2),
         row_byte(file, k, 3),
     )
-}
-
-// Whether a row is malformed.
-fn is_malformed(row: Row) -> bool
-    ensures { λ r. ⌜ r ≡ isMalformed (namedBy row) ⌝ }
-{
-    match row {
-        Row::Malformed => true,
-        Row::Literal => false,
-        Row::Modal(_) => false,
-        Row::Binary(_, _) => false,
-    }
-}
-
-// Whether a row names a row that isn't lower than k.
-fn names_from(row: Row, k: usize) -> bool
-    ensures { λ r. ⌜ r ≡ any (λ l. leb k l) (rowsOf (namedBy row)) ⌝ }
-{
-    match row {
-        Row::Malformed => false,
-        Row::Literal => false,
-        Row::Modal(l) => k <= l as usize,
-        Row::Binary(l, r) => (k <= l as usize) | (k <= r as usize),
-    }
 }
 
 // Whether row k is malformed.
@@ -363,7 +285,7 @@ fn refuses(file: &[u8], kinds: u16, i: usize) -> bool
 // The refusal that the check at place i gives.
 fn number(i: usize) -> u8
     requires { ⌜ i < 9 ⌝ }
-    ensures { λ r. ⌜ ((kinds : Format.Kinds) → r ≡ checkAt kinds i .number) ⌝ }
+    ensures { λ r. ⌜ ((kinds : Kinds) → r ≡ checkAt kinds i .number) ⌝ }
 {
     NUMBERS[i]
 }

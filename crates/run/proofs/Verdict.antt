@@ -14,7 +14,8 @@ use lib.Pow.{pow-mono}
 use Rattle.concepts.specs.Concept.{WellFormed}
 use Rattle.concepts.specs.RowSet.{RowSet}
 use Rattle.meaning.specs.Meaning.{Model}
-use Rattle.rulefile.specs.Format.{Bytes, ruleKinds, RuleFile, Reading, refused, accepted, reading}
+use Rattle.rulefile.specs.Format.{Bytes, RuleFile, Reading, refused, accepted, reading}
+use Rattle.decoding.specs.Decoding.{ruleKinds}
 use Rattle.rulefile.specs.FormatLaws.{accepted-admitted}
 use Rattle.procedure.specs.Status.{Status, unset, «open», sat, unsat, toosmall}
 use Rattle.procedure.specs.Graph.{Graph, Capacity, Result, reached, noPlace, outOfFuel, nodeAt, nodeCount}

@@ -7,7 +7,8 @@ use lib.ListN.{length}
 use Rattle.concepts.specs.Lists.{range, select, any, every, consAnswer, answers, first}
 use Rattle.concepts.specs.Role.{inverse}
 use Rattle.concepts.specs.RowSet.{RowSet, mem, single, union, fromList, members}
-use Rattle.rulefile.specs.Format.{Bytes, ofKind, decode, badLength, badMark, badCounts, badPlace, badRow, badArgument, sameRow, repeated, badRule, isName, checks, refusal, readingOf}
+use Rattle.rulefile.specs.Format.{Bytes, badLength, badMark, badCounts, badPlace, badRow, badArgument, sameRow, repeated, badRule, isName, checks, refusal, readingOf}
+use Rattle.decoding.specs.Decoding.{ofKind, decode}
 use Rattle.procedure.specs.Status.{branchTable, stateTable, entry, foldStatus}
 use Rattle.procedure.specs.SetTests.{clash, lowestConj, lowestDisj, unfinished, box, lacking, existentials}
 use Rattle.procedure.specs.Graph.{nodeArea, edgeArea, alternativeArea, _>>=_, forEach, addNode, addEdge, hasAlternative, addAlternative, children, parents, alternativesOf, lowest, findState, lowestUnset}

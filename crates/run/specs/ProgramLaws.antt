@@ -11,7 +11,8 @@ use lib.Dec.{leb}
 use lib.ListN.{length, getD, take, drop, length-replicate}
 use lib.Seq.{length-take-le, take-all}
 use borrow.Author.Tests.{leb-true, leb-false, lt-ltb, le-ltb}
-use Rattle.rulefile.specs.Format.{Bytes, ruleKinds, badLength, checks, Reading, refused, reading}
+use Rattle.rulefile.specs.Format.{Bytes, badLength, checks, Reading, refused, reading}
+use Rattle.decoding.specs.Decoding.{ruleKinds}
 use Rattle.rulefile.specs.CheckLaws.{reading-refused}
 use Rattle.run.specs.Run.{lengths, Answer, undefined, answerReading, answer, numbers, elementBytes, linkBytes, areasAfter}
 use Rattle.run.specs.KnownRuns.{program, eightNodes, knownRuns, known-runs}

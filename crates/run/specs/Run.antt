@@ -26,6 +26,9 @@ pub record Areas : Type 0 where
   pub elements : Bytes
   pub links : Bytes
 
+abbrev pub areasOf : (nodes edges alternatives elements links : Bytes) → Areas
+areasOf nodes edges alternatives elements links = record { nodes = nodes; edges = edges; alternatives = alternatives; elements = elements; links = links }
+
 -- their lengths in bytes
 pub record Lengths : Type 0 where
   pub nodes : ℕ

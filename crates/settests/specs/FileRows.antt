@@ -11,7 +11,8 @@ use Rattle.concepts.specs.Lists.{range}
 use Rattle.concepts.specs.ListLaws.{range-mem, map-same}
 use Rattle.concepts.specs.Concept.{Ordered}
 use Rattle.rulefile.specs.Format as Format
-use Rattle.rulefile.specs.Format.{ruleKinds, rowsPart}
+use Rattle.rulefile.specs.Format.{rowsPart}
+use Rattle.decoding.specs.Decoding.{ruleKinds, conceptOf, malformed}
 use Rattle.rulefile.specs.Checks.{Parted, Passed}
 use Rattle.rulefile.specs.CheckLaws.{parted, accepted-contents, accepted-parted}
 use Rattle.rulefile.specs.FormatLaws.{row-formed, contents-admitted, accepted-eight}
@@ -44,7 +45,7 @@ module _ (b : Format.Bytes) (p : Parted b) where
       ap (λ (n : ℕ). map (conceptIn (rowsPart b)) (range 0 n)) rowCount-rowsPart
       ∙ map-same (conceptIn (rowsPart b)) (Format.conceptIn ruleKinds b) (range 0 (Format.rowCount b)) (λ k m.
       let h : k < Format.rowCount b = omega (arith, range-mem 0 (Format.rowCount b) k m .1) in
-      four-bytes (λ kind role left right. Format.conceptOf ruleKinds kind role left right ≡ Format.conceptIn ruleKinds b k) k h refl)
+      four-bytes (λ kind role left right. conceptOf ruleKinds kind role left right ≡ Format.conceptIn ruleKinds b k) k h refl)
 
 module _ (b : Format.Bytes) (passed : Passed ruleKinds b 8) where
   rows-rowsPart : Rows (rowsPart b)
@@ -54,7 +55,7 @@ module _ (b : Format.Bytes) (passed : Passed ruleKinds b 8) where
         few = omega (arith, rowCount-rowsPart b p, p .fewRows);
         formed = λ k h.
             let l : k < Format.rowCount b = omega (arith, rowCount-rowsPart b p) in
-            four-bytes b p (λ kind role left right. Format.malformed ruleKinds kind role left right ≡ false) k l (unfold Format.badRow in row-formed ruleKinds b passed k l);
+            four-bytes b p (λ kind role left right. malformed ruleKinds kind role left right ≡ false) k l (unfold Format.badRow in row-formed ruleKinds b passed k l);
         ordered = subst Ordered (sym (table-rowsPart b p)) (contents-admitted ruleKinds b passed .wellFormed .ordered);
       }
 

@@ -15,8 +15,8 @@ use borrow.Author.Tests.{ne-eqb}
 use Rattle.concepts.specs.Tests.{and-both}
 use Rattle.concepts.specs.ListLaws.{length-map-range, getD-map-range}
 use Rattle.concepts.specs.Concept.{Concept, atomic, negated, conj, disj, univ, exist, conceptAt, arguments, roleOf}
-use Rattle.rulefile.specs.Format.{ruleKinds, only, ofKind, conceptOf, malformed}
-use Rattle.rulefile.specs.DecodeLaws.{only-some, formed-kind}
+use Rattle.decoding.specs.Decoding.{ruleKinds, only, ofKind, conceptOf, malformed}
+use Rattle.decoding.specs.DecodingLaws.{only-some, formed-kind}
 use Rattle.rowset.specs.Value.{width}
 use Rattle.settests.specs.Rows.{rowByte, rowCount, conceptIn, tableOf, Rows, kindOf, leftOf, rightOf}
 

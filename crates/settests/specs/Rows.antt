@@ -10,7 +10,7 @@ use Prim.Native.Nat.{ℕ, _+_, _*_, _/_, _≤_, _<_}
 use lib.ListN.{length, getD}
 use Rattle.concepts.specs.Lists.{range}
 use Rattle.concepts.specs.Concept.{Concept, atomic, negated, conj, disj, univ, exist, Table, Ordered}
-use Rattle.rulefile.specs.Format.{ruleKinds, conceptOf, malformed}
+use Rattle.decoding.specs.Decoding.{ruleKinds, conceptOf, malformed}
 use Rattle.rowset.specs.Value.{width}
 
 -- "A row is four bytes: kind, role, left, right"

@@ -10,8 +10,8 @@ use native.Mathlib.Decide.{decLt}
 use native.Mathlib.Omega.{arith}
 use lib.ListN.{List·getD-eq-default}
 use Rattle.concepts.specs.Concept.{exist, Table, conceptAt, roleOf}
-use Rattle.rulefile.specs.Format.{ruleKinds}
-use Rattle.rulefile.specs.DecodeLaws.{role-small}
+use Rattle.decoding.specs.Decoding.{ruleKinds}
+use Rattle.decoding.specs.DecodingLaws.{role-small}
 use Rattle.procedure.specs.Status.{Status}
 use Rattle.procedure.specs.Graph.{children}
 use Rattle.procedure.specs.Example.{example}

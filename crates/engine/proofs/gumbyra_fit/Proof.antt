@@ -1,7 +1,7 @@
 -- The call: the promise, for every file. Assumes nothing.
 use mathlib.Core.Path.{sym, _∙_}
-use Rattle.conclusion.specs.Contracts.{areasOf}
-use Rattle.rulefile.specs.Format.{ruleKinds}
+use Rattle.run.specs.Run.{areasOf}
+use Rattle.decoding.specs.Decoding.{ruleKinds}
 use Rattle.rulefile.specs.PartLaws.{reads-refused, reads-accepted}
 use Rattle.engine.specs.AnswerWays.{promised, refused-answered}
 use borrow.Author.Needs.{needs}

@@ -2,7 +2,7 @@
 use mathlib.Core.Path.{ap, _∙_}
 use lib.ListN.{length}
 use borrow.Author.Needs.{needs}
-use Rattle.rulefile.specs.Format.{ruleKinds}
+use Rattle.decoding.specs.Decoding.{ruleKinds}
 use Rattle.rulefile.specs.ReadLaws.{take-textOf}
 use Rattle.engine.proofs.gumbyra_text.Statement.{statement}
 use Rattle.engine.proofs.gumbyra_text.Tie as tie

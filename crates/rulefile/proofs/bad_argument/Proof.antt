@@ -7,8 +7,8 @@ use lib.Dec.{leb}
 use borrow.Author.Needs.{needs}
 use Rattle.concepts.specs.Lists.{any}
 use Rattle.rulefile.specs.Format.{rowByte, badArgument}
-use Rattle.rulefile.specs.Read.{rowsOf}
-use Rattle.rulefile.specs.DecodeLaws.{arguments-named}
+use Rattle.decoding.specs.Named.{rowsOf}
+use Rattle.decoding.specs.DecodingLaws.{arguments-named}
 use Rattle.rulefile.proofs.bad_argument.Statement.{statement}
 use Rattle.rulefile.proofs.bad_argument.Tie as tie
 

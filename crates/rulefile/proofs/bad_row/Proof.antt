@@ -3,8 +3,8 @@
 use mathlib.Core.Path.{sym, ap, _∙_}
 use borrow.Author.Needs.{needs}
 use Rattle.rulefile.specs.Format.{rowByte, badRow}
-use Rattle.rulefile.specs.Read.{isMalformed}
-use Rattle.rulefile.specs.DecodeLaws.{malformed-named}
+use Rattle.decoding.specs.Named.{isMalformed}
+use Rattle.decoding.specs.DecodingLaws.{malformed-named}
 use Rattle.rulefile.proofs.bad_row.Statement.{statement}
 use Rattle.rulefile.proofs.bad_row.Tie as tie
 

@@ -1,4 +1,4 @@
--- `rulefile::allowed` meets its contract: the bit that it tests is that of the definition, and a set of 16 bits has no kind above them.
+-- `decoding::allowed` meets its contract: the bit that it tests is that of the definition, and a set of 16 bits has no kind above them.
 -- Assumes nothing.
 use mathlib.Core.Path.{sym}
 use native.Mathlib.Omega.{arith}
@@ -7,8 +7,8 @@ use borrow.Author.Needs.{needs}
 use Rattle.concepts.specs.Tests.{as-false}
 use Rattle.concepts.specs.RowSet.{mem}
 use Rattle.concepts.specs.RowSetLaws.{mem-lt}
-use Rattle.rulefile.proofs.allowed.Statement.{statement}
-use Rattle.rulefile.proofs.allowed.Tie as tie
+use Rattle.decoding.proofs.allowed.Statement.{statement}
+use Rattle.decoding.proofs.allowed.Tie as tie
 
 shr-result : tie.Need-shr-result
 shr-result c = search needs

@@ -1,11 +1,11 @@
--- `rulefile::decode` meets its contract: at each `return` the tests that led there say which case of the definition holds.
+-- `decoding::decode` meets its contract: at each `return` the tests that led there say which case of the definition holds.
 -- Assumes nothing.
 use mathlib.Core.Path.{sym, _∙_}
 use borrow.Author.Tests.{not-true, not-false}
 use borrow.Author.Needs.{needs}
-use Rattle.rulefile.specs.DecodeLaws.{named-refused, named-literal, named-binary, named-modal, named-unknown}
-use Rattle.rulefile.proofs.decode.Statement.{statement}
-use Rattle.rulefile.proofs.decode.Tie as tie
+use Rattle.decoding.specs.DecodingLaws.{named-refused, named-literal, named-binary, named-modal, named-unknown}
+use Rattle.decoding.proofs.decode.Statement.{statement}
+use Rattle.decoding.proofs.decode.Tie as tie
 
 allowed-requires : tie.Need-allowed-requires
 allowed-requires c κs = search needs

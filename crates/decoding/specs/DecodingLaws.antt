@@ -13,8 +13,8 @@ use lib.Dec.{eqb, leb, T, leb→le}
 use Rattle.concepts.specs.Tests.{and-both}
 use Rattle.concepts.specs.RowSet.{mem}
 use Rattle.concepts.specs.Concept.{Concept, atomic, negated, conj, disj, univ, exist, arguments, roleOf}
-use Rattle.rulefile.specs.Format.{Kinds, only, ofKind, decode, malformed, conceptOf}
-use Rattle.rulefile.specs.Read.{namedRows, isMalformed, rowsOf}
+use Rattle.decoding.specs.Decoding.{only, ofKind, decode, malformed, conceptOf}
+use Rattle.decoding.specs.Named.{namedRows, isMalformed, rowsOf}
 
 -- ---- a row by the tests of its kind and of its bytes, of which ofKind is made
 

@@ -1,11 +1,11 @@
--- `rulefile::names_from` meets its contract: at each variant the rows that are named are tested one by one.
+-- `decoding::names_from` meets its contract: at each variant the rows that are named are tested one by one.
 -- Assumes nothing.
 use mathlib.Core.Path.{sym}
 use borrow.Author.Needs.{needs}
 use Rattle.concepts.specs.Tests.{or-nothing}
 use Rattle.concepts.specs.Lists.{any}
-use Rattle.rulefile.proofs.names_from.Statement.{statement}
-use Rattle.rulefile.proofs.names_from.Tie as tie
+use Rattle.decoding.proofs.names_from.Statement.{statement}
+use Rattle.decoding.proofs.names_from.Tie as tie
 
 enum-told : tie.Need-enum-told
 enum-told c = search needs
