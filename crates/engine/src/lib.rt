@@ -14,12 +14,12 @@ ghost use Rattle.engine.specs.Contracts.{verdictWith, tooLongWith, decid
 use answers::Answer;
 use conclusion::Decision;
 use conclusion::decide;
+use decoding::RULE_KINDS;
 use marks::Sizes;
 use records::Counts;
 use records::clear;
 use rulefile::Layout;
 use rulefile::Outcome;
-use decoding::RULE_KINDS;
 use rulefile::read;
 use rulefile::rows_of;
 use rulefile::rules_of;

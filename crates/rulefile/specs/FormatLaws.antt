@@ -17,7 +17,8 @@ use Rattle.concepts.specs.Tests.{or-neither, decide, as-false, from-false}
 use Rattle.concepts.specs.Lists.{range, any, every}
 use Rattle.concepts.specs.ListLaws.{range-mem, mem-range, every-mem, length-map-range, getD-map-range, not-any, any-range-found, none-any-range, least-below}
 use Rattle.concepts.specs.Concept.{Concept, atomic, conceptAt, arguments, roleOf, Ordered, WellFormed}
-use Rattle.rulefile.specs.Format.{Bytes, rowCount, ruleCount, wantedRow, rowByte, rule, conceptIn, badRow, badArgument, badRule, isName, checks, refusal, RuleFile, contents, accepted, readingOf}
+use Rattle.rulefile.specs.Format.{Bytes, rowCount, ruleCount, wantedRow, rowByte, rule, conceptIn, badRow}
+use Rattle.rulefile.specs.Format.{badArgument, badRule, isName, checks, refusal, RuleFile, contents, accepted, readingOf}
 use Rattle.decoding.specs.Decoding.{Kinds}
 use Rattle.rulefile.specs.Checks.{checkAt, refusesAt, Passed}
 use Rattle.decoding.specs.DecodingLaws.{role-small, literal-kind}

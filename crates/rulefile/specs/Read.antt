@@ -4,17 +4,20 @@
 -- Assumes nothing.
 use mathlib.Core.Path.{_≡_}
 use mathlib.Core.Bool.{Bool}
+use mathlib.Core.List.{List}
+use mathlib.Core.Option.{Option}
 use Prim.Native.Nat.{ℕ, _+_}
 use lib.Dec.{leb}
 use lib.ListN.{length, getD}
 use Rattle.concepts.specs.Lists.{range, any}
 use Rattle.decoding.specs.Decoding.{Kinds}
+use Rattle.decoding.specs.Named.{namedRows}
 use Rattle.rulefile.specs.declared.Layout.{Layout}
 use Rattle.rulefile.specs.declared.Outcome.{Outcome}
 use Rattle.rulefile.specs.declared.Outcome.the-variants.{Refused, Accepted}
 use Rattle.rulefile.specs.declared.Finding.{Finding}
 use Rattle.rulefile.specs.declared.Finding.the-variants.{Malformed, Argument, Repeated, Rule, Name}
-use Rattle.rulefile.specs.Format.{Bytes, firstRow, rowCount, ruleCount, wantedRow, rule, badRow, badArgument, repeated, isName, RuleFile, Reading, refused, accepted, readingOf}
+use Rattle.rulefile.specs.Format.{Bytes, firstRow, rowCount, ruleCount, wantedRow, rowByte, rule, badRow, badArgument, repeated, isName, RuleFile, Reading, refused, accepted, readingOf}
 use Rattle.rulefile.specs.Checks.{Parted}
 
 -- how long each part of a file is, and which row is wanted
@@ -47,6 +50,10 @@ pub record Laid (kinds : Kinds) (b : Bytes) (l : Layout) : Type 0 where
   pub layout : l ≡ layoutOf file
 
 -- ---- what checks 5 to 9 look for
+
+-- the rows that row k names, none if it is malformed
+abbrev pub namedAt : Kinds → Bytes → ℕ → Option (List ℕ)
+namedAt kinds b k = namedRows kinds (rowByte b k 0) (rowByte b k 1) (rowByte b k 2) (rowByte b k 3)
 
 -- how many rows or rules are searched
 unfoldable pub extent : Finding → Bytes → ℕ

@@ -7,10 +7,10 @@ ghost use mathlib.Core.Path.{_≡_};
 ghost use Prim.Native.Nat.{_+_, _*_, _≤_, _<_};
 ghost use lib.ListN.{length, take, drop};
 ghost use Rattle.decoding.specs.Decoding.{Kinds};
-ghost use Rattle.decoding.specs.Named.{namedRows, namedBy};
+ghost use Rattle.decoding.specs.Named.{namedBy};
 ghost use Rattle.rulefile.specs.Format as Format;
 ghost use Rattle.rulefile.specs.Checks.{Parted, Passed, checkAt, refusesAt};
-ghost use Rattle.rulefile.specs.Read.{readOf, trailerLayout, Starts, Placed, extent, foundAt, found};
+ghost use Rattle.rulefile.specs.Read.{readOf, trailerLayout, Starts, Placed, namedAt, extent, foundAt, found};
 use decoding::Row;
 use decoding::decode;
 use decoding::is_malformed;
@@ -152,7 +152,7 @@ fn bad_place(file: &[u8]) -> bool
 // Row k, decoded.
 fn row_at(file: &[u8], kinds: u16, k: usize) -> Row
     requires { ⌜ Parted (now file) × (k < Format.rowCount (now file)) ⌝ }
-    ensures { λ r. ⌜ namedBy r ≡ namedRows kinds (Format.rowByte (now (file .entry)) k 0) (Format.rowByte (now (file .entry)) k 1) (Format.rowByte (now (file .entry)) k 2) (Format.rowByte (now (file .entry)) k 3) ⌝ }
+    ensures { λ r. ⌜ namedBy r ≡ namedAt kinds (now (file .entry)) k ⌝ }
 {
     decode(
         kinds,
