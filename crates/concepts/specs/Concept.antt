@@ -1,9 +1,11 @@
 -- Concepts: the rows of a rule file, decoded (01, The rule file). A row is a concept whose arguments are numbers of lower rows.
 --
--- In order: a concept; a table of them; the arguments and the role of one; well-formed tables.
+-- In order: a concept; a table of them; views of a concept by its kind; the arguments and the role of one; well-formed tables.
+-- Whoever asks for rows of one kind asks by a view, and takes the answer apart by its law in ConceptLaws; so a further kind changes this file and few others.
 -- Assumes nothing.
 use mathlib.Core.Path.{_≡_}
 use mathlib.Core.List.{List, [], _∷_, List·Memᴰ}
+use mathlib.Core.Option.{Option, none, some}
 use Prim.Native.Nat.{ℕ, _<_}
 use lib.ListN.{length, getD}
 
@@ -22,6 +24,58 @@ Table = List Concept
 
 abbrev pub conceptAt : Table → ℕ → Concept
 conceptAt t k = getD t k (atomic 0)
+
+-- ---- views: what a concept of one kind holds, none of any other kind
+
+abbrev pub asAtomic : Concept → Option ℕ
+asAtomic (atomic a) = some a
+asAtomic (negated a) = none
+asAtomic (conj l r) = none
+asAtomic (disj l r) = none
+asAtomic (univ ρ l) = none
+asAtomic (exist ρ l) = none
+
+abbrev pub asNegated : Concept → Option ℕ
+asNegated (atomic a) = none
+asNegated (negated a) = some a
+asNegated (conj l r) = none
+asNegated (disj l r) = none
+asNegated (univ ρ l) = none
+asNegated (exist ρ l) = none
+
+abbrev pub asConj : Concept → Option (ℕ × ℕ)
+asConj (atomic a) = none
+asConj (negated a) = none
+asConj (conj l r) = some (l, r)
+asConj (disj l r) = none
+asConj (univ ρ l) = none
+asConj (exist ρ l) = none
+
+abbrev pub asDisj : Concept → Option (ℕ × ℕ)
+asDisj (atomic a) = none
+asDisj (negated a) = none
+asDisj (conj l r) = none
+asDisj (disj l r) = some (l, r)
+asDisj (univ ρ l) = none
+asDisj (exist ρ l) = none
+
+abbrev pub asUniv : Concept → Option (ℕ × ℕ)
+asUniv (atomic a) = none
+asUniv (negated a) = none
+asUniv (conj l r) = none
+asUniv (disj l r) = none
+asUniv (univ ρ l) = some (ρ, l)
+asUniv (exist ρ l) = none
+
+abbrev pub asExist : Concept → Option (ℕ × ℕ)
+asExist (atomic a) = none
+asExist (negated a) = none
+asExist (conj l r) = none
+asExist (disj l r) = none
+asExist (univ ρ l) = none
+asExist (exist ρ l) = some (ρ, l)
+
+-- ---- the rows and the role that a concept names
 
 -- the argument rows that a row names
 abbrev pub arguments : Concept → List ℕ

@@ -6,5 +6,8 @@ pub mod Begins
 pub mod Counting
 pub mod Role
 pub mod Concept
+pub mod ConceptLaws
 pub mod RowSet
 pub mod RowSetLaws
+pub mod Lowest
+pub mod LowestLaws

@@ -1,11 +1,11 @@
 -- Laws of Lists.
 --
--- In order: places (`getD`, `map`, `zip`), `range`, `take`, `select`, `any`, `every`, `any` over a range, `map`, `answers`, `first`;
+-- In order: places (`getD`, `map`, `zip`), `range`, `take`, `select`, `any`, `every`, `provided`, `any` over a range, `map`, `answers`, `first`;
 -- what stands in each, by membership.
 -- Not here: other laws of `length`, `getD`, `take`, `_++_` (`lib.ListN`, `lib.Seq`).
 -- Assumes nothing.
 use mathlib.Core.Path.{_≡_, refl, sym, ap, ap₂, _∙_, subst}
-use mathlib.Core.Bool.{Bool, true, false, not}
+use mathlib.Core.Bool.{Bool, true, false, not, cond}
 use mathlib.Core.List.{List, [], _∷_, _++_, map, zip, zipWith, List·Memᴰ, List·Memᴰ·head, List·Memᴰ·tail, List·Memᴰ·cases-cons, List·Memᴰ·not-nil}
 use mathlib.Core.Logic.{_⊎_, inl, inr}
 use mathlib.Core.Option.{Option, none, some}
@@ -16,8 +16,8 @@ use native.Mathlib.Omega.{arith}
 use lib.Dec.{T, T-not, not-T}
 use lib.ListN.{length, getD, take, drop, length-map, length-drop}
 use lib.Seq.{length-take-le, getD-take, getD-drop, ext-getD}
-use Rattle.concepts.specs.Lists.{range, NoneBelow, select, any, every, consAnswer, answers, first}
-use Rattle.concepts.specs.Tests.{or-cases, or-left, or-right, and-both, by-test, as-true, as-false, from-true, from-false}
+use Rattle.concepts.specs.Lists.{range, NoneBelow, select, any, every, provided, consAnswer, answers, first}
+use Rattle.concepts.specs.Tests.{impossible, or-cases, or-left, or-right, and-both, by-test, as-true, as-false, from-true, from-false}
 
 -- ---- places
 
@@ -221,6 +221,23 @@ module _ {A : Type 0} where
       let (p, q) = and-both (f y) (every f ys) t in
       elim (List·Memᴰ·cases-cons m) [ inl e ↦ rw e p | inr v ↦ every-mem f ys x q v ]
 
+  -- ---- provided
+
+  pub cond-some : (b : Bool) (x y : A) → cond b (some x) none ≡ some y → T b × (x ≡ y)
+  cond-some true x y e = (tt, cc)
+  cond-some false x y e = impossible cc
+
+  cond-none : (b : Bool) (x : A) → cond b (some x) none ≡ none → T (not b)
+  cond-none true x e = impossible cc
+  cond-none false x e = tt
+
+  pub provided-some : (f : A → Bool) (o : Option A) (x : A) → provided f o ≡ some x → (o ≡ some x) × T (f x)
+  provided-some f none x e = impossible cc
+  provided-some f (some y) x e = let (h, p) = cond-some (f y) y x e in (ap some p, subst (λ (z : A). T (f z)) p h)
+
+  pub provided-none : (f : A → Bool) (x : A) → provided f (some x) ≡ none → T (not (f x))
+  provided-none f x e = cond-none (f x) x e
+
 -- ---- any over the numbers below n
 
 pub any-range-found : (f : ℕ → Bool) (n i : ℕ) → i < n → f i ≡ true → any f (range 0 n) ≡ true
@@ -307,7 +324,7 @@ module _ {A B : Type 0} where
 
   pub first-some : (f : A → Option B) (xs : List A) (y : B) → first f xs ≡ some y → (x : A) × List·Memᴰ x xs × (f x ≡ some y)
   unfolding first
-  first-some f [] y e = let z : _≡_ {A = ℕ} 0 1 = cc in absurd (omega arith)
+  first-some f [] y e = impossible cc
   first-some f (z ∷ zs) y e = from (f z) refl (first-some f zs y) e
     where
       from : (o : Option B) → f z ≡ o → (first f zs ≡ some y → (x : A) × List·Memᴰ x zs × (f x ≡ some y))
@@ -323,7 +340,7 @@ module _ {A B : Type 0} where
       from : (o : Option B) → f z ≡ o → (first f zs ≡ none → List·Memᴰ x zs → f x ≡ none)
           → _≡_ {A = Option B} (elim o [ none ↦ first f zs | some w ↦ some w ]) none → f x ≡ none
       from none p ih q = elim (List·Memᴰ·cases-cons m) [ inl u ↦ ap f u ∙ p | inr v ↦ ih q v ]
-      from (some w) p ih q = let z : _≡_ {A = ℕ} 0 1 = cc in absurd (omega arith)
+      from (some w) p ih q = impossible cc
 
   pub first-same : (f g : A → Option B) (xs : List A) → ((x : A) → f x ≡ g x) → first f xs ≡ first g xs
   unfolding first

@@ -1,7 +1,7 @@
 -- Laws of RowSet, for any width.
 --
--- In order: membership in each set (`mem-empty`, `mem-union`, `mem-single`, `mem-insert`, `mem-common`, `mem-minus`), a set is its
--- rows (`set-ext`), union, `mem-fromList`, `members`, `missing`, sets of rows below n (`fromList-lt`, `mem-lt`).
+-- In order: membership in each set (`mem-empty`, `mem-union`, `mem-single`, `mem-insert`, `mem-common`, `mem-minus`; by digits, `mem-zero` and `mem-suc`), a set is its
+-- rows (`set-ext`), union, `mem-fromList`, `members`, `missing`, sets of rows below n (`fromList-lt`, `set-lt`, `mem-lt`).
 -- Assumes nothing.
 use mathlib.Core.Path.{_≡_, refl, sym, ap, _∙_}
 use mathlib.Core.Bool.{Bool, true, false, not, _&&_, _||_, cond}
@@ -18,7 +18,7 @@ use lib.Bits.{bitOr, bitAnd, or-shr, or-mod, or-lt, or-comm, or-zero-l, or-zero-
 use lib.ListN.{length, getD, drop, drop-of-length-le}
 use lib.Pow.{shr-shr, pow-pos, pow-lt, pow-mono}
 use lib.Seq.{drop-cons}
-use Rattle.concepts.specs.Tests.{or-cases, or-left, or-right, or-assoc, decide}
+use Rattle.concepts.specs.Tests.{or-cases, or-left, or-right, or-assoc, decide, same-test}
 use Rattle.concepts.specs.Lists.{range}
 use Rattle.concepts.specs.ListLaws.{mem-range, range-mem, select-mem, mem-select}
 use Rattle.concepts.specs.RowSet.{RowSet, mem, empty, single, union, common, minus, insert, fromList, members, missing, Subset}
@@ -48,7 +48,7 @@ mem-union k a b =
     ap (λ (x : ℕ). eqb (x % 2) 1) (or-shr a b k) ∙ ap (λ (x : ℕ). eqb x 1) (or-mod (a / 2 ^ k) (b / 2 ^ k) 1)
     ∙ or-bit (a / 2 ^ k % 2) (b / 2 ^ k % 2) (mod-lt (a / 2 ^ k) (lit< tt)) (mod-lt (b / 2 ^ k) (lit< tt))
 
-mem-suc : (k s : ℕ) → mem (suc k) s ≡ mem k (s / 2)
+pub mem-suc : (k s : ℕ) → mem (suc k) s ≡ mem k (s / 2)
 unfolding mem
 mem-suc k s = ap (λ (x : ℕ). eqb (x % 2) 1) (sym (shr-shr s 1 k ∙ ap (λ (x : ℕ). s / 2 ^ x) (omega arith)))
 
@@ -100,7 +100,7 @@ minus-half : (a b : RowSet) → minus a b / 2 ≡ minus (a / 2) (b / 2)
 unfolding minus
 minus-half a b = omega (arith, and-step a b, and-le-l (a / 2) (b / 2))
 
-mem-zero : (s : RowSet) → mem 0 s ≡ eqb (s % 2) 1
+pub mem-zero : (s : RowSet) → mem 0 s ≡ eqb (s % 2) 1
 unfolding mem
 mem-zero s = let e : s / 2 ^ 0 ≡ s = omega arith in ap (λ (x : ℕ). eqb (x % 2) 1) e
 
@@ -269,6 +269,14 @@ pub fromList-lt : (n : ℕ) (ks : List ℕ) → ((k : ℕ) → List·Memᴰ k ks
 unfolding fromList
 fromList-lt n [] h = pow-pos n
 fromList-lt n (j ∷ js) h = insert-lt n j (fromList js) (h j (List·Memᴰ·head refl)) (fromList-lt n js (λ k m. h k (List·Memᴰ·tail m)))
+
+-- a set all of whose rows are below n
+pub set-lt : (n : ℕ) (s : RowSet) → ((k : ℕ) → T (mem k s) → k < n) → s < 2 ^ n
+set-lt n s below =
+    let rows = members n s in
+    let same : s ≡ fromList rows = set-ext s (fromList rows) (λ k. same-test (mem k s) (mem k (fromList rows))
+    (λ h. mem-fromList k rows (mem-members n k s (below k h) h)) (λ h. members-mem n k s (fromList-mem k rows h) .1)) in
+    rw same (fromList-lt n rows (λ k m. members-mem n k s m .0))
 
 pub mem-lt : (n k : ℕ) (s : RowSet) → s < 2 ^ n → T (mem k s) → k < n
 unfolding mem

@@ -1,6 +1,6 @@
 -- Boolean tests as facts.
 --
--- In order: disjunction, conjunction, a test or its negation, and a choice by a test (`by-test`).
+-- In order: what can't be (`impossible`); disjunction, conjunction, a test or its negation, and a choice by a test (`by-test`).
 -- Not here: tests on numbers (`lib.Dec`, `borrow.Author.Tests`).
 -- Assumes nothing.
 use mathlib.Core.Path.{_≡_, refl}
@@ -9,6 +9,12 @@ use mathlib.Core.Logic.{_⊎_, inl, inr}
 use Prim.Native.Nat.{ℕ}
 use native.Mathlib.Omega.{arith}
 use lib.Dec.{T}
+
+-- ---- what can't be
+
+-- two constructors are not equal: `cc` makes of such an equation that 0 is 1
+pub impossible : {A : Type 0} → _≡_ {A = ℕ} 0 1 → A
+impossible e = absurd (omega arith)
 
 -- ---- one of two
 
@@ -29,7 +35,7 @@ or-nothing true = refl
 or-nothing false = refl
 
 pub or-neither : (a b : Bool) → (a || b) ≡ false → (a ≡ false) × (b ≡ false)
-or-neither true b e = let z : _≡_ {A = ℕ} 0 1 = cc in absurd (omega arith)
+or-neither true b e = impossible cc
 or-neither false b e = (refl, e)
 
 pub or-assoc : (a b c : Bool) → ((a || b) || c) ≡ (a || (b || c))
@@ -45,6 +51,18 @@ and-both false b t = absurd t
 pub and-make : (a b : Bool) → T a → T b → T (a && b)
 and-make true b t u = u
 and-make false b t u = absurd t
+
+pub and-true : (a b : Bool) → (a && b) ≡ true → (a ≡ true) × (b ≡ true)
+and-true true b e = (refl, e)
+and-true false b e = impossible cc
+
+pub and-nothing : (a : Bool) → (a && false) ≡ false
+and-nothing true = refl
+and-nothing false = refl
+
+pub and-all : (a : Bool) → (a && true) ≡ a
+and-all true = refl
+and-all false = refl
 
 -- ---- a test passes or its negation does
 

@@ -1,8 +1,7 @@
 -- The structure with no element, and the setting over it: the shape of the graph needs no world.
 -- Assumes nothing.
-use mathlib.Core.List.{List}
-use Prim.Native.Nat.{ℕ}
-use Rattle.concepts.specs.Concept.{Table, WellFormed}
+use Rattle.concepts.specs.Concept.{Table}
+use Rattle.procedure.specs.Problem.{Problem, WellPosed}
 use Rattle.procedure.specs.Graph.{Capacity}
 use Rattle.procedure.proofs.Structure.{Structure}
 use Rattle.procedure.proofs.Setting.{Setting}
@@ -20,14 +19,13 @@ empty-structure t = record {
   there = λ k ρ l d e x. absurd x;
 }
 
-abbrev pub bare : (t : Table) (c : Capacity) (tbox wanted : List ℕ) → WellFormed t tbox wanted → Setting
-bare t c tbox wanted W = record {
-  table = t;
-  tbox = tbox;
-  wanted = wanted;
+abbrev pub bare : (P : Problem) → Capacity → WellPosed P → Setting
+bare P c W = record {
+  problem = P;
   capacity = c;
-  wellFormed = W;
-  structure = empty-structure t;
-  rules = λ k m d. absurd d;
+  wellPosed = W;
+  structure = empty-structure (P .table);
+  exclusive = λ j k d o x y. x;
+  rules = λ d. absurd d;
   kit = λ d. absurd d;
 }

@@ -13,9 +13,10 @@ use native.Mathlib.Omega.{arith}
 use lib.Dec.{T}
 use lib.ListN.{length, getD, List·getD-eq-default}
 use lib.Pow.{pow-pos}
+use Rattle.concepts.specs.Tests.{impossible}
 use Rattle.concepts.specs.ListLaws.{map-mem, mem-map}
 use Rattle.concepts.specs.Role.{inverse}
-use Rattle.concepts.specs.RowSet.{fromList, Subset}
+use Rattle.concepts.specs.RowSet.{Subset}
 use Rattle.procedure.specs.Status.{Status, unset, «open», sat, unsat, toosmall, rank, branchTable, stateTable, foldStatus, isUnset, isOpen, isSat}
 use Rattle.procedure.specs.StatusLaws.{branch-found, state-greatest, live-open}
 use Rattle.procedure.specs.SetTests.{existentials}
@@ -66,7 +67,7 @@ is-sat-good b v e = sat-good b v (rw e tt)
 
 -- at most rank 1 and set: yes or open
 low-good : (b : Bool) (v : Status) → b ≡ true → rank v ≤ 1 → T (not (isUnset v)) → T (goodIf b v)
-low-good false v e r u = let z : _≡_ {A = ℕ} 0 1 = cc in absurd (omega arith)
+low-good false v e r u = impossible cc
 low-good true unset e r u = absurd u
 low-good true «open» e r u = tt
 low-good true sat e r u = tt
@@ -94,7 +95,8 @@ module _ (S : Setting) (g : Graph) (I : Inv S g) (Q : QuietBut S None g) (b : Bo
         (c, m, low-good b (nodeAt g c .status) f (omega arith) (allSet f c (I .ends x c m .1)))
   ]
 
-  next : (x : ℕ) → x < nodeCount g → nodeAt g x .isState ≡ false → ((y : ℕ) → nodeAt g x .link ≢ toState y) → T (good (nodeAt g x .status)) → (c : ℕ) × Child g x c × T (good (nodeAt g c .status))
+  next : (x : ℕ) → x < nodeCount g → nodeAt g x .isState ≡ false → ((y : ℕ) → nodeAt g x .link ≢ toState y) → T (good (nodeAt g x .status))
+      → (c : ℕ) × Child g x c × T (good (nodeAt g c .status))
   next x hx ns d t = elim (good-cases b (nodeAt g x .status) t) [
     | inl e ↦ by-yes (nodeAt g x .link) refl (subst (λ (v : Status). BranchSays S g x (nodeAt g x) v) e (branch-fact S g I x hx ns .1))
     | inr e ↦ by-open (nodeAt g x .link) refl (e .0) (quiet-open x hx (e .1) false ns)
@@ -110,7 +112,8 @@ module _ (S : Setting) (g : Graph) (I : Inv S g) (Q : QuietBut S None g) (b : Bo
       by-open lapsed e f q = fold-child x f q
       by-open (toState y) e f q = absurd (d y e)
 
-  down : (x c : ℕ) → x < nodeCount g → nodeAt g x .isState ≡ false → ((y : ℕ) → nodeAt g x .link ≢ toState y) → Child g x c → T (isSat (nodeAt g c .status) || isOpen (nodeAt g c .status))
+  down : (x c : ℕ) → x < nodeCount g → nodeAt g x .isState ≡ false → ((y : ℕ) → nodeAt g x .link ≢ toState y) → Child g x c
+      → T (isSat (nodeAt g c .status) || isOpen (nodeAt g c .status))
       → (x < c) × Under g (nodeAt g x .pst) (nodeAt g x .prl) c × Subset (nodeAt g x .rows) (nodeAt g c .rows)
   down x c hx ns d m t = kind (nodeAt g c .isState) refl
     where
@@ -139,11 +142,17 @@ module _ (S : Setting) (g : Graph) (I : Inv S g) (Q : QuietBut S None g) (b : Bo
 
   -- ---- states
 
-  saturated : (x : ℕ) → x < nodeCount g → nodeAt g x .isState ≡ true → x ≢ 0 → Saturated (S .table) (nodeAt g x .rows) × Subset (fromList (S .tbox)) (nodeAt g x .rows)
+  saturated : (x : ℕ) → x < nodeCount g → nodeAt g x .isState ≡ true → x ≢ 0 → Saturated (S .problem .table) (nodeAt g x .rows) × Subset (S .problem .rules) (nodeAt g x .rows)
   saturated x hx st d =
       let s = nodeAt g x .rows in
-      let K = state-fact S g I x hx st .0 in
-      (record { noClash = no-clash (S .table) s (K .clashFree d); conjDone = conj-done (S .table) s (K .finished); disjDone = disj-done (S .table) s (K .finished) }, I .fact x hx .rules d)
+      let K = state-fact S g I x hx st .0 in (
+        record {
+          noClash = λ j k a jl kl p q. no-clash (S .problem) s (K .clashFree d) j k jl kl (S .wellPosed .names j k a p q);
+          conjDone = conj-done (S .problem .table) s (K .finished);
+          disjDone = disj-done (S .problem .table) s (K .finished);
+        },
+        I .fact x hx .rules d,
+      )
 
   good-children : (x c : ℕ) → x < nodeCount g → nodeAt g x .isState ≡ true → T (good (nodeAt g x .status)) → Child g x c → T (good (nodeAt g c .status))
   good-children x c hx st t m = elim (good-cases b (nodeAt g x .status) t) [
@@ -167,14 +176,16 @@ module _ (S : Setting) (g : Graph) (I : Inv S g) (Q : QuietBut S None g) (b : Bo
   answer-length x (e ∷ es) [] A = absurd A
   answer-length x (e ∷ es) (y ∷ ys) A = ap suc (answer-length x es ys (A .1))
 
-  answer-at : (x : ℕ) (es : List (ℕ × ℕ)) (ys : List ℕ) (i : ℕ) → AnswerAll S g x es ys → i < length ys → Answers (S .table) (S .tbox) (S .wanted) g x (getD es i (0, 0) .0) (getD es i (0, 0) .1) (getD ys i 0)
+  answer-at : (x : ℕ) (es : List (ℕ × ℕ)) (ys : List ℕ) (i : ℕ) → AnswerAll S g x es ys → i < length ys
+      → Answers (S .problem) g x (getD es i (0, 0) .0) (getD es i (0, 0) .1) (getD ys i 0)
   answer-at x [] [] i A h = absurd (not-suc-le-zero h)
   answer-at x [] (y ∷ ys) i A h = absurd A
   answer-at x (e ∷ es) [] i A h = absurd A
   answer-at x (e ∷ es) (y ∷ ys) zero A h = A .0
   answer-at x (e ∷ es) (y ∷ ys) (suc i) A h = answer-at x es ys i (A .1) (le-of-suc-le-suc h)
 
-  answered : (x : ℕ) → x < nodeCount g → nodeAt g x .isState ≡ true → x ≢ 0 → T (good (nodeAt g x .status)) → AnswerAll S g x (existentials (S .table) (nodeAt g x .rows)) (children g x)
+  answered : (x : ℕ) → x < nodeCount g → nodeAt g x .isState ≡ true → x ≢ 0 → T (good (nodeAt g x .status))
+      → AnswerAll S g x (existentials (S .problem .table) (nodeAt g x .rows)) (children g x)
   answered zero hx st d t = absurd (d refl)
   answered (suc x) hx st d t = expanded (suc x) hx st t
 
@@ -186,7 +197,7 @@ module _ (S : Setting) (g : Graph) (I : Inv S g) (Q : QuietBut S None g) (b : Bo
     | no d ↦ rw (List·getD-eq-default (g .nodes) noNode {n = x} (omega arith)) (pow-pos (rowCount S))
   ]
 
-  pub run-finished : T (good (nodeAt g 0 .status)) → Finished (S .table) (S .tbox) (S .wanted) g good
+  pub run-finished : T (good (nodeAt g 0 .status)) → Finished (S .problem) g good
   run-finished t =
       let (h0, st0) = I .root in
       let (c, e, U, w) = expanded 0 h0 st0 t in
@@ -197,11 +208,11 @@ module _ (S : Setting) (g : Graph) (I : Inv S g) (Q : QuietBut S None g) (b : Bo
         down = down;
         linked = λ x y hx e. let L = link-at x y hx e .1 in (L .there, L .notRoot, L .isState, L .rows);
         linked-good = linked-good;
-        linked-back = λ x y hx e. lacking-none (S .table) (nodeAt g x .rows) (inverse (nodeAt g x .prl)) (nodeAt g (nodeAt g x .pst) .rows) (link-at x y hx e .1 .back);
+        linked-back = λ x y hx e. lacking-none (S .problem .table) (nodeAt g x .rows) (inverse (nodeAt g x .prl)) (nodeAt g (nodeAt g x .pst) .rows) (link-at x y hx e .1 .back);
         saturated = saturated;
         good-children = good-children;
-        answers-length = λ x hx st d q. answer-length x (existentials (S .table) (nodeAt g x .rows)) (children g x) (answered x hx st d q);
-        answers = λ x i hx st d q h. answer-at x (existentials (S .table) (nodeAt g x .rows)) (children g x) i (answered x hx st d q) h;
+        answers-length = λ x hx st d q. answer-length x (existentials (S .problem .table) (nodeAt g x .rows)) (children g x) (answered x hx st d q);
+        answers = λ x i hx st d q h. answer-at x (existentials (S .problem .table) (nodeAt g x .rows)) (children g x) i (answered x hx st d q) h;
         bounded = bounded;
         root = (h0, st0, state-fact S g I 0 h0 st0 .0 .link, t);
         root-child = (c, e, U .there, U .noState, U .pst, w);

@@ -11,9 +11,11 @@ use mathlib.Core.Option.{Option, some}
 use Prim.Native.Nat.{ℕ, zero, suc, _+_, _≤_, _<_}
 use native.Mathlib.Omega.{arith}
 use lib.Dec.{T}
+use Rattle.concepts.specs.Tests.{impossible}
 use Rattle.concepts.specs.Role.{inverse}
 use Rattle.concepts.specs.Concept.{Table}
-use Rattle.concepts.specs.RowSet.{Subset, fromList}
+use Rattle.concepts.specs.RowSet.{Subset}
+use Rattle.procedure.specs.Problem.{Problem}
 use Rattle.procedure.specs.Status.{Status}
 use Rattle.procedure.specs.Graph.{Link, unlinked, toState, lapsed, Graph, nodeAt, nodeCount, children}
 use Rattle.procedure.specs.Example.{_>>=_, liveChild, descendBy, descendWithin, descend}
@@ -33,7 +35,7 @@ pub record Lands (t : Table) (g : Graph) (good : Status → Bool) (x y : ℕ) : 
   pub more : Subset (nodeAt g x .rows) (nodeAt g y .rows)
   pub back : Along t (nodeAt g y .rows) (inverse (nodeAt g x .prl)) (nodeAt g (nodeAt g x .pst) .rows)
 
-module _ (t : Table) (tbox wanted : List ℕ) (g : Graph) (good : Status → Bool) (F : Finished t tbox wanted g good) where
+module _ (P : Problem) (g : Graph) (good : Status → Bool) (F : Finished P g good) where
   -- a walk goes from x to a good child, if x has any
   pub liveChild-good : (x c : ℕ) → List·Memᴰ c (children g x) → T (good (nodeAt g c .status))
       → (y : ℕ) × (liveChild g x ≡ some y) × List·Memᴰ y (children g x) × T (good (nodeAt g y .status))
@@ -43,9 +45,9 @@ module _ (t : Table) (tbox wanted : List ℕ) (g : Graph) (good : Status → Boo
 
   -- from x the way down lands, with this much left of the bound
   abbrev Descends : ℕ → ℕ → Type 0
-  Descends f x = (y : ℕ) × (descendWithin f g x ≡ some y) × Lands t g good x y
+  Descends f x = (y : ℕ) × (descendWithin f g x ≡ some y) × Lands (P .table) g good x y
 
-  descend-linked : (x y : ℕ) → x < nodeCount g → T (good (nodeAt g x .status)) → nodeAt g x .link ≡ toState y → Lands t g good x y
+  descend-linked : (x y : ℕ) → x < nodeCount g → T (good (nodeAt g x .status)) → nodeAt g x .link ≡ toState y → Lands (P .table) g good x y
   descend-linked x y h q e =
       let (there, nonRoot, state, same) = F .linked x y h e in
       record {
@@ -56,7 +58,7 @@ module _ (t : Table) (tbox wanted : List ℕ) (g : Graph) (good : Status → Boo
 
   descend-child : (f x : ℕ) → x < nodeCount g → nodeAt g x .isState ≡ false → T (good (nodeAt g x .status)) → ((y : ℕ) → nodeAt g x .link ≢ toState y)
       → ((c : ℕ) → c < nodeCount g → nodeAt g c .isState ≡ false → T (good (nodeAt g c .status)) → x < c → Descends f c)
-      → (y : ℕ) × ((liveChild g x >>= (λ c. descendWithin f g c)) ≡ some y) × Lands t g good x y
+      → (y : ℕ) × ((liveChild g x >>= (λ c. descendWithin f g c)) ≡ some y) × Lands (P .table) g good x y
   unfolding _>>=_
   descend-child f x h s q n rec =
       let (c, m, p) = F .next x h s n q in
@@ -72,13 +74,13 @@ module _ (t : Table) (tbox wanted : List ℕ) (g : Graph) (good : Status → Boo
   descend-within (suc f) x h s q l = go (λ c hc sc qc up. descend-within f c hc sc qc (omega arith)) (nodeAt g x .link) refl
     where
       go : ((c : ℕ) → c < nodeCount g → nodeAt g c .isState ≡ false → T (good (nodeAt g c .status)) → x < c → Descends f c)
-          → (k : Link) → nodeAt g x .link ≡ k → (y : ℕ) × (descendBy (λ c. descendWithin f g c) k g x ≡ some y) × Lands t g good x y
+          → (k : Link) → nodeAt g x .link ≡ k → (y : ℕ) × (descendBy (λ c. descendWithin f g c) k g x ≡ some y) × Lands (P .table) g good x y
       go rec (toState y) e = (y, refl, descend-linked x y h q e)
-      go rec unlinked e = descend-child f x h s q (λ y p. let z : _≡_ {A = ℕ} 0 1 = cc in absurd (omega arith)) rec
-      go rec lapsed e = descend-child f x h s q (λ y p. let z : _≡_ {A = ℕ} 0 1 = cc in absurd (omega arith)) rec
+      go rec unlinked e = descend-child f x h s q (λ y p. impossible cc) rec
+      go rec lapsed e = descend-child f x h s q (λ y p. impossible cc) rec
 
   pub descend-lands : (x : ℕ) → x < nodeCount g → nodeAt g x .isState ≡ false → T (good (nodeAt g x .status))
-      → (y : ℕ) × (descend g x ≡ some y) × Lands t g good x y
+      → (y : ℕ) × (descend g x ≡ some y) × Lands (P .table) g good x y
   unfolding descend
   descend-lands x h s q = descend-within (suc (nodeCount g)) x h s q (omega arith)
 
@@ -97,7 +99,7 @@ module _ (t : Table) (tbox wanted : List ℕ) (g : Graph) (good : Status → Boo
       ∙ ap (λ (o : Option ℕ). o >>= (λ b. descendWithin (nodeCount g) g b)) e ∙ f
 
   -- the way down from the root lands on a state with every wanted row
-  pub descend-root : (y : ℕ) × (descend g 0 ≡ some y) × Usable g good y × Subset (fromList wanted) (nodeAt g y .rows)
+  pub descend-root : (y : ℕ) × (descend g 0 ≡ some y) × Usable g good y × Subset (P .wanted) (nodeAt g y .rows)
   descend-root =
       let (here, state, noLink, q) = F .root in
       let (c, only, there, noState, above, wants) = F .root-child in

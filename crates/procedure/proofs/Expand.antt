@@ -8,7 +8,7 @@ use mathlib.Core.List.{List·Memᴰ·head, Memᴰ·append-right}
 use mathlib.Core.Logic.{_⊎_, inl, inr}
 use mathlib.Core.Option.{Option, none, some}
 use Prim.Native.Nat.{ℕ, _<_, _^_}
-use native.Mathlib.Omega.{arith}
+use Rattle.concepts.specs.Tests.{impossible}
 use Rattle.concepts.specs.RowSet.{RowSet, insert, Subset}
 use Rattle.concepts.specs.RowSetLaws.{insert-more, insert-lt}
 use Rattle.procedure.specs.Status.{Status, unset}
@@ -62,7 +62,7 @@ module _ (S : Setting) (g : Graph) (x : ℕ) (I : Inv S g) (Q : QuietBut S None 
   }
 
   -- a put under x
-  pub put-expanding : (h : Graph) → Grown h → (p ρ : ℕ) (s : RowSet) → PutPre S Busy h x p ρ s → Sure (PutPost S Busy h x p ρ s) (put (S .table) (S .capacity) x p ρ s h)
+  pub put-expanding : (h : Graph) → Grown h → (p ρ : ℕ) (s : RowSet) → PutPre S Busy h x p ρ s → Sure (PutPost S Busy h x p ρ s) (put (S .problem) (S .capacity) x p ρ s h)
   put-expanding h A p ρ s pre = put-right S Busy h x p ρ s (A .inv) (A .quiet) pre (few-missing S s)
 
   -- ---- a node that is no state
@@ -95,43 +95,43 @@ module _ (S : Setting) (g : Graph) (x : ℕ) (I : Inv S g) (Q : QuietBut S None 
     new-child h s k B d q = (nodeCount h, rw (B .ownChildren) (Memᴰ·append-right (children h x) (List·Memᴰ·head refl)), B .fresh .noState, rw (B .fresh .rows) q)
 
     -- what the puts of a conjunction and of a disjunction may rely on
-    pub conj-pre : (lr : ℕ × ℕ) → lowestConj (S .table) (n .rows) ≡ some lr → PutPre S Busy g x (n .pst) (n .prl) (insert (lr .0) (insert (lr .1) (n .rows)))
+    pub conj-pre : (lr : ℕ × ℕ) → lowestConj (S .problem .table) (n .rows) ≡ some lr → PutPre S Busy g x (n .pst) (n .prl) (insert (lr .0) (insert (lr .1) (n .rows)))
     conj-pre lr e =
-        let (a, b) = lowestConj-lt (S .table) (n .rows) (S .wellFormed .ordered) lr e in
+        let (a, b) = lowestConj-lt (S .problem .table) (n .rows) (S .wellPosed .ordered) lr e in
         branch-pre g grown-refl (insert (lr .0) (insert (lr .1) (n .rows))) (λ k m. insert-more (lr .0) (insert (lr .1) (n .rows)) k (insert-more (lr .1) (n .rows) k m))
         (insert-lt (rowCount S) (lr .0) (insert (lr .1) (n .rows)) a (insert-lt (rowCount S) (lr .1) (n .rows) b (I .fact x hx .bounded)))
 
-    pub disj-pre : (lr : ℕ × ℕ) → lowestDisj (S .table) (n .rows) ≡ some lr → (h : Graph) → Grown h
+    pub disj-pre : (lr : ℕ × ℕ) → lowestDisj (S .problem .table) (n .rows) ≡ some lr → (h : Graph) → Grown h
         → PutPre S Busy h x (n .pst) (n .prl) (insert (lr .0) (n .rows)) × PutPre S Busy h x (n .pst) (n .prl) (insert (lr .1) (n .rows))
     disj-pre lr e h A =
-        let (a, b) = lowestDisj-lt (S .table) (n .rows) (S .wellFormed .ordered) lr e in (
+        let (a, b) = lowestDisj-lt (S .problem .table) (n .rows) (S .wellPosed .ordered) lr e in (
           branch-pre h A (insert (lr .0) (n .rows)) (insert-more (lr .0) (n .rows)) (insert-lt (rowCount S) (lr .0) (n .rows) a (I .fact x hx .bounded)),
           branch-pre h A (insert (lr .1) (n .rows)) (insert-more (lr .1) (n .rows)) (insert-lt (rowCount S) (lr .1) (n .rows) b (I .fact x hx .bounded)),
         )
 
-    conj-expanded : (lr : ℕ × ℕ) → lowestConj (S .table) (n .rows) ≡ some lr → Sure Branched (expandConj (S .table) (S .capacity) (S .tbox) (S .wanted) x (some lr) g)
+    conj-expanded : (lr : ℕ × ℕ) → lowestConj (S .problem .table) (n .rows) ≡ some lr → Sure Branched (expandConj (S .problem) (S .capacity) x (some lr) g)
     unfolding expandConj
     conj-expanded lr e =
         let s = insert (lr .0) (insert (lr .1) (n .rows)) in
-        sure-map (PutPost S Busy g x (n .pst) (n .prl) s) Branched (put (S .table) (S .capacity) x (n .pst) (n .prl) s g) (put-expanding g grown-refl (n .pst) (n .prl) s (conj-pre lr e))
+        sure-map (PutPost S Busy g x (n .pst) (n .prl) s) Branched (put (S .problem) (S .capacity) x (n .pst) (n .prl) s g) (put-expanding g grown-refl (n .pst) (n .prl) s (conj-pre lr e))
         (λ h B. record {
           grown = grown-put g grown-refl (n .pst) (n .prl) s h B;
-          covered = λ d q. new-child g s h B d (conj-satisfied (S .table) (S .structure) (n .rows) d q lr e);
+          covered = λ d q. new-child g s h B d (conj-satisfied (S .problem .table) (S .structure) (n .rows) d q lr e);
         })
 
-    disj-expanded : (lr : ℕ × ℕ) → lowestDisj (S .table) (n .rows) ≡ some lr → Sure Branched (expandDisj (S .table) (S .capacity) (S .tbox) (S .wanted) x (some lr) g)
+    disj-expanded : (lr : ℕ × ℕ) → lowestDisj (S .problem .table) (n .rows) ≡ some lr → Sure Branched (expandDisj (S .problem) (S .capacity) x (some lr) g)
     unfolding expandDisj
     disj-expanded lr e =
         let l = insert (lr .0) (n .rows) in
         let r = insert (lr .1) (n .rows) in
-        sure-bind (PutPost S Busy g x (n .pst) (n .prl) l) Branched (put (S .table) (S .capacity) x (n .pst) (n .prl) l g) (put (S .table) (S .capacity) x (n .pst) (n .prl) r)
+        sure-bind (PutPost S Busy g x (n .pst) (n .prl) l) Branched (put (S .problem) (S .capacity) x (n .pst) (n .prl) l g) (put (S .problem) (S .capacity) x (n .pst) (n .prl) r)
         (put-expanding g grown-refl (n .pst) (n .prl) l (disj-pre lr e g grown-refl .0))
         (λ h B.
         let A = grown-put g grown-refl (n .pst) (n .prl) l h B in
-        sure-map (PutPost S Busy h x (n .pst) (n .prl) r) Branched (put (S .table) (S .capacity) x (n .pst) (n .prl) r h) (put-expanding h A (n .pst) (n .prl) r (disj-pre lr e h A .1))
+        sure-map (PutPost S Busy h x (n .pst) (n .prl) r) Branched (put (S .problem) (S .capacity) x (n .pst) (n .prl) r h) (put-expanding h A (n .pst) (n .prl) r (disj-pre lr e h A .1))
         (λ k C. record {
           grown = grown-put h A (n .pst) (n .prl) r k C;
-          covered = λ d q. elim (disj-satisfied (S .table) (S .structure) (n .rows) d q lr e) [
+          covered = λ d q. elim (disj-satisfied (S .problem .table) (S .structure) (n .rows) d q lr e) [
             | inl u ↦
                 let (y, m, ns, w) = new-child g l h B d u in
                 let N = C .grows .node y (B .inv .ends x y m .1) in
@@ -140,16 +140,17 @@ module _ (S : Setting) (g : Graph) (x : ℕ) (I : Inv S g) (Q : QuietBut S None 
           ];
         }))
 
-    pub branch-expanded : Sure Branched (expandConj (S .table) (S .capacity) (S .tbox) (S .wanted) x (lowestConj (S .table) (n .rows)) g)
+    pub branch-expanded : Sure Branched (expandConj (S .problem) (S .capacity) x (lowestConj (S .problem .table) (n .rows)) g)
     unfolding expandConj
-    branch-expanded = conj (lowestConj (S .table) (n .rows)) refl
+    branch-expanded = conj (lowestConj (S .problem .table) (n .rows)) refl
       where
-        disj : (o : Option (ℕ × ℕ)) → lowestDisj (S .table) (n .rows) ≡ o → lowestConj (S .table) (n .rows) ≡ none → Sure Branched (expandDisj (S .table) (S .capacity) (S .tbox) (S .wanted) x o g)
+        disj : (o : Option (ℕ × ℕ)) → lowestDisj (S .problem .table) (n .rows) ≡ o → lowestConj (S .problem .table) (n .rows) ≡ none
+            → Sure Branched (expandDisj (S .problem) (S .capacity) x o g)
         disj (some lr) e f = disj-expanded lr e
         disj none e f =
-            let (lr, q) = unfinished-disj (S .table) (n .rows) (ready false noState .1) f in
-            let z : _≡_ {A = ℕ} 0 1 = cc (q, e) in absurd (omega arith)
+            let (lr, q) = unfinished-disj (S .problem .table) (n .rows) (ready false noState .1) f in
+            impossible (cc (q, e))
 
-        conj : (o : Option (ℕ × ℕ)) → lowestConj (S .table) (n .rows) ≡ o → Sure Branched (expandConj (S .table) (S .capacity) (S .tbox) (S .wanted) x o g)
+        conj : (o : Option (ℕ × ℕ)) → lowestConj (S .problem .table) (n .rows) ≡ o → Sure Branched (expandConj (S .problem) (S .capacity) x o g)
         conj (some lr) e = conj-expanded lr e
-        conj none e = disj (lowestDisj (S .table) (n .rows)) refl e
+        conj none e = disj (lowestDisj (S .problem .table) (n .rows)) refl e

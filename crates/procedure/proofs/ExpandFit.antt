@@ -5,13 +5,13 @@
 -- Assumes nothing.
 use mathlib.Core.Path.{_≡_, refl, subst}
 use mathlib.Core.Bool.{Bool, true, false}
-use mathlib.Core.List.{List, List·Memᴰ}
+use mathlib.Core.List.{List·Memᴰ}
 use mathlib.Core.Logic.{_≢_}
 use mathlib.Core.Option.{Option, none, some}
 use Prim.Native.Nat.{ℕ, _<_}
-use native.Mathlib.Omega.{arith}
-use Rattle.concepts.specs.Concept.{Table, WellFormed}
-use Rattle.concepts.specs.RowSet.{RowSet, insert, union, fromList}
+use Rattle.concepts.specs.Tests.{impossible}
+use Rattle.concepts.specs.RowSet.{RowSet, insert, union}
+use Rattle.procedure.specs.Problem.{Problem, WellPosed}
 use Rattle.procedure.specs.Status.{unset}
 use Rattle.procedure.specs.SetTests.{lowestConj, lowestDisj, existentials}
 use Rattle.procedure.specs.SetTestLaws.{finished-none, unfinished-disj}
@@ -29,15 +29,15 @@ use Rattle.procedure.proofs.Expand.{None, Busy, ready, Grown, grown-ref
 use Rattle.procedure.proofs.ExpandState.{kit-pre, successor-pre, Judging, judging, Rounded, expand-right}
 use Rattle.procedure.proofs.Fit.{pre-anyone, Fit, PutFit, JudgeFit}
 
-module _ (t : Table) (c : Capacity) (tbox wanted : List ℕ) where
+module _ (P : Problem) (c : Capacity) where
   pub record Still (g : Graph) : Type 0 where
-    pub wellFormed : WellFormed t tbox wanted
-    pub inv : Inv (bare t c tbox wanted wellFormed) g
-    pub quiet : QuietBut (bare t c tbox wanted wellFormed) None g
+    pub wellPosed : WellPosed P
+    pub inv : Inv (bare P c wellPosed) g
+    pub quiet : QuietBut (bare P c wellPosed) None g
 
   module _ (g : Graph) (x : ℕ) (A : Still g) (hx : x < nodeCount g) (fresh : nodeAt g x .status ≡ unset) where
     abbrev S : Setting
-    S = bare t c tbox wanted (A .wellFormed)
+    S = bare P c (A .wellPosed)
 
     abbrev n : Node
     n = nodeAt g x
@@ -55,75 +55,76 @@ module _ (t : Table) (c : Capacity) (tbox wanted : List ℕ) where
     abbrev pub Puts : Graph → (p ρ : ℕ) → RowSet → Type 0
     Puts h p ρ s = PutPre S (Busy S g x (A .inv) (A .quiet) hx fresh) h x p ρ s
 
-    abbrev fit-of : (h : Graph) → Inv S h → Fit t c h
-    fit-of h i = record { tbox = tbox; wanted = wanted; wellFormed = A .wellFormed; inv = i }
+    abbrev fit-of : (h : Graph) → Inv S h → Fit P c h
+    fit-of h i = record { wellPosed = A .wellPosed; inv = i }
 
-    module _ (h : Graph) (G : Growing h) (p ρ : ℕ) (s : RowSet) (P : Puts h p ρ s) where
-      pub puts-fit : PutFit t c h x p ρ s
-      puts-fit = record { fit = fit-of h (G .inv); pre = pre-anyone S (Busy S g x (A .inv) (A .quiet) hx fresh) h x p ρ s P }
+    module _ (h : Graph) (G : Growing h) (p ρ : ℕ) (s : RowSet) (pre : Puts h p ρ s) where
+      pub puts-fit : PutFit P c h x p ρ s
+      puts-fit = record { fit = fit-of h (G .inv); pre = pre-anyone S (Busy S g x (A .inv) (A .quiet) hx fresh) h x p ρ s pre }
 
-      pub puts-done : Sure Growing (put t c x p ρ s h)
+      pub puts-done : Sure Growing (put P c x p ρ s h)
       puts-done =
-          sure-map (PutPost S (Busy S g x (A .inv) (A .quiet) hx fresh) h x p ρ s) Growing (put t c x p ρ s h) (put-expanding S g x (A .inv) (A .quiet) hx fresh h G p ρ s P)
+          sure-map (PutPost S (Busy S g x (A .inv) (A .quiet) hx fresh) h x p ρ s) Growing (put P c x p ρ s h) (put-expanding S g x (A .inv) (A .quiet) hx fresh h G p ρ s pre)
           (λ k B. grown-put S g x (A .inv) (A .quiet) hx fresh h G p ρ s k B)
 
     -- ---- which sets are put
 
     -- a state has nothing unfinished, another node without status has
-    state-finished : n .isState ≡ true → (lowestConj t (n .rows) ≡ none) × (lowestDisj t (n .rows) ≡ none)
-    state-finished st = finished-none t (n .rows) (state-fact S g (A .inv) x hx st .0 .finished)
+    state-finished : n .isState ≡ true → (lowestConj (P .table) (n .rows) ≡ none) × (lowestDisj (P .table) (n .rows) ≡ none)
+    state-finished st = finished-none (P .table) (n .rows) (state-fact S g (A .inv) x hx st .0 .finished)
 
     no-state : (o : Option (ℕ × ℕ)) (lr : ℕ × ℕ) → o ≡ some lr → (n .isState ≡ true → o ≡ none) → n .isState ≡ false
     no-state o lr e f = go (n .isState) (λ b. f b)
       where
         go : (b : Bool) → (b ≡ true → o ≡ none) → b ≡ false
-        go true h = let q : o ≡ none = h refl in let z : _≡_ {A = ℕ} 0 1 = cc in absurd (omega arith)
+        go true h = let q : o ≡ none = h refl in impossible cc
         go false h = refl
 
-    is-state : lowestConj t (n .rows) ≡ none → lowestDisj t (n .rows) ≡ none → n .isState ≡ true
+    is-state : lowestConj (P .table) (n .rows) ≡ none → lowestDisj (P .table) (n .rows) ≡ none → n .isState ≡ true
     is-state e f = go (n .isState) refl
       where
         go : (b : Bool) → n .isState ≡ b → b ≡ true
         go true h = refl
         go false h =
-            let (lr, q) = unfinished-disj t (n .rows) (ready S g x (A .inv) (A .quiet) hx fresh false h .1) e in
-            let z : _≡_ {A = ℕ} 0 1 = cc (q, f) in absurd (omega arith)
+            let (lr, q) = unfinished-disj (P .table) (n .rows) (ready S g x (A .inv) (A .quiet) hx fresh false h .1) e in
+            impossible (cc (q, f))
 
-    pub conj-puts : (lr : ℕ × ℕ) → lowestConj t (n .rows) ≡ some lr → Puts g (n .pst) (n .prl) (insert (lr .0) (insert (lr .1) (n .rows)))
-    conj-puts lr e = conj-pre S g x (A .inv) (A .quiet) hx fresh (no-state (lowestConj t (n .rows)) lr e (λ st. state-finished st .0)) lr e
+    pub conj-puts : (lr : ℕ × ℕ) → lowestConj (P .table) (n .rows) ≡ some lr → Puts g (n .pst) (n .prl) (insert (lr .0) (insert (lr .1) (n .rows)))
+    conj-puts lr e = conj-pre S g x (A .inv) (A .quiet) hx fresh (no-state (lowestConj (P .table) (n .rows)) lr e (λ st. state-finished st .0)) lr e
 
-    pub disj-puts : (lr : ℕ × ℕ) → lowestDisj t (n .rows) ≡ some lr → (h : Graph) → Growing h → Puts h (n .pst) (n .prl) (insert (lr .0) (n .rows)) × Puts h (n .pst) (n .prl) (insert (lr .1) (n .rows))
-    disj-puts lr e h G = disj-pre S g x (A .inv) (A .quiet) hx fresh (no-state (lowestDisj t (n .rows)) lr e (λ st. state-finished st .1)) lr e h G
+    pub disj-puts : (lr : ℕ × ℕ) → lowestDisj (P .table) (n .rows) ≡ some lr → (h : Graph) → Growing h
+        → Puts h (n .pst) (n .prl) (insert (lr .0) (n .rows)) × Puts h (n .pst) (n .prl) (insert (lr .1) (n .rows))
+    disj-puts lr e h G = disj-pre S g x (A .inv) (A .quiet) hx fresh (no-state (lowestDisj (P .table) (n .rows)) lr e (λ st. state-finished st .1)) lr e h G
 
-    module _ (e : lowestConj t (n .rows) ≡ none) (f : lowestDisj t (n .rows) ≡ none) where
-      pub kit-puts : x ≡ 0 → Puts g x noRole (union (fromList wanted) (fromList tbox))
+    module _ (e : lowestConj (P .table) (n .rows) ≡ none) (f : lowestDisj (P .table) (n .rows) ≡ none) where
+      pub kit-puts : x ≡ 0 → Puts g x noRole (union (P .wanted) (P .rules))
       kit-puts z = kit-pre S g x (A .inv) (A .quiet) hx fresh z (is-state e f)
 
-      pub successor-puts : x ≢ 0 → (h : Graph) → Growing h → (u : ℕ × ℕ) → List·Memᴰ u (existentials t (n .rows)) → Puts h x (u .0) (successor t c tbox wanted (n .rows) u)
+      pub successor-puts : x ≢ 0 → (h : Graph) → Growing h → (u : ℕ × ℕ) → List·Memᴰ u (existentials (P .table) (n .rows)) → Puts h x (u .0) (successor P (n .rows) u)
       successor-puts z h G u m = successor-pre S g x (A .inv) (A .quiet) hx fresh (is-state e f) z h G u m
 
     -- ---- the judgement, and the updates after it
 
-    module _ (h : Graph) (e : expandConj t c tbox wanted x (lowestConj t (n .rows)) g ≡ reached h) where
+    module _ (h : Graph) (e : expandConj P c x (lowestConj (P .table) (n .rows)) g ≡ reached h) where
       judging-at : Judging S g x (A .inv) (A .quiet) hx fresh h
       judging-at = subst (λ (r : Result). Sure (Judging S g x (A .inv) (A .quiet) hx fresh) r) e (judging S g x (A .inv) (A .quiet) hx fresh)
 
-      pub judge-fit : JudgeFit t c h x
+      pub judge-fit : JudgeFit P c h x
       judge-fit = record {
         fit = fit-of h (judging-at .inv);
         there = grows-there (judging-at .grows) x hx;
         live = judging-at .live;
-        edge = λ y l. let z : _≡_ {A = ℕ} 0 1 = cc (judging-at .link, l) in absurd (omega arith);
+        edge = λ y l. impossible (cc (judging-at .link, l));
       }
 
-      pub judged-fit : (k : Graph) → judge (put t c) x h ≡ reached k → Fit t c k × (x < nodeCount k)
+      pub judged-fit : (k : Graph) → judge (put P c) x h ≡ reached k → Fit P c k × (x < nodeCount k)
       judged-fit k q =
           let J : Judged S None h x k = subst (λ (r : Result). Sure (Judged S None h x) r) q (judging-at .judged) in
           (fit-of k (J .inv), grows-there (J .grows) x (judge-fit .there))
 
     -- ---- the next graph: one node more has a status
 
-    pub still-after : (h : Graph) → expand t c tbox wanted x g ≡ reached h → Still h × (withAStatus g < withAStatus h)
+    pub still-after : (h : Graph) → expand P c x g ≡ reached h → Still h × (withAStatus g < withAStatus h)
     still-after h e =
         let R : Rounded S g x (A .inv) (A .quiet) hx fresh h = subst (λ (r : Result). Sure (Rounded S g x (A .inv) (A .quiet) hx fresh) r) e (expand-right S g x (A .inv) (A .quiet) hx fresh) in
-        (record { wellFormed = A .wellFormed; inv = R .inv; quiet = R .quiet }, status-rises g h (R .grows) x hx (rw fresh tt) (R .set))
+        (record { wellPosed = A .wellPosed; inv = R .inv; quiet = R .quiet }, status-rises g h (R .grows) x hx (rw fresh tt) (R .set))

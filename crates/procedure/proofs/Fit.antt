@@ -4,7 +4,6 @@
 -- In order: graphs that fit; a put that fits; a node that may be judged; an open node that is judged; an update.
 -- Assumes nothing.
 use mathlib.Core.Path.{_≡_}
-use mathlib.Core.List.{List}
 use mathlib.Core.Bool.{false, not}
 use mathlib.Core.Logic.{_⊎_, inl}
 use native.Mathlib.Omega.{arith}
@@ -12,8 +11,8 @@ use Rattle.concepts.specs.Tests.{from-false}
 use Prim.Native.Nat.{ℕ, _+_, _≤_, _<_}
 use lib.Dec.{T}
 use lib.ListN.{length}
-use Rattle.concepts.specs.Concept.{Table, WellFormed}
 use Rattle.concepts.specs.RowSet.{RowSet, missing}
+use Rattle.procedure.specs.Problem.{Problem, WellPosed}
 use Rattle.procedure.specs.Status.{«open», isOpen, isLive}
 use Rattle.procedure.specs.StatusLaws.{open-live, open-set, not-open-settled}
 use Rattle.procedure.specs.Graph.{toState, Graph, Capacity, nodeAt, nodeCount}
@@ -36,31 +35,29 @@ pub anyone-quiet : (S : Setting) (g : Graph) → QuietBut S Anyone g
 anyone-quiet S g x hx = inl tt
 
 -- a put that any node's excuse allows needs none
-pub pre-anyone : (S : Setting) (P : ℕ → Type 0) (g : Graph) (m p ρ : ℕ) (s : RowSet) → PutPre S P g m p ρ s → PutPre S Anyone g m p ρ s
-pre-anyone S P g m p ρ s A = record { there = A .there; place = A .place; bounded = A .bounded; rules = A .rules; excused = tt; state = A .state; branch = A .branch }
+pub pre-anyone : (S : Setting) (X : ℕ → Type 0) (g : Graph) (m p ρ : ℕ) (s : RowSet) → PutPre S X g m p ρ s → PutPre S Anyone g m p ρ s
+pre-anyone S X g m p ρ s A = record { there = A .there; place = A .place; bounded = A .bounded; rules = A .rules; excused = tt; state = A .state; branch = A .branch }
 
 -- ---- graphs that fit
 
-module _ (t : Table) (c : Capacity) where
-  -- the invariant holds of the graph, for some rules and wanted rows
+module _ (P : Problem) (c : Capacity) where
+  -- the problem is well posed, and the invariant holds of the graph
   pub record Fit (g : Graph) : Type 0 where
-    pub tbox : List ℕ
-    pub wanted : List ℕ
-    pub wellFormed : WellFormed t tbox wanted
-    pub inv : Inv (bare t c tbox wanted wellFormed) g
+    pub wellPosed : WellPosed P
+    pub inv : Inv (bare P c wellPosed) g
 
   -- ---- a put that fits
 
   pub record PutFit (g : Graph) (n p ρ : ℕ) (s : RowSet) : Type 0 where
     pub fit : Fit g
-    pub pre : PutPre (bare t c (fit .tbox) (fit .wanted) (fit .wellFormed)) Anyone g n p ρ s
+    pub pre : PutPre (bare P c (fit .wellPosed)) Anyone g n p ρ s
 
   abbrev pub PutDone : (g : Graph) (n p ρ : ℕ) (s : RowSet) → Fit g → Graph → Type 0
-  PutDone g n p ρ s F h = PutPost (bare t c (F .tbox) (F .wanted) (F .wellFormed)) Anyone g n p ρ s h
+  PutDone g n p ρ s F h = PutPost (bare P c (F .wellPosed)) Anyone g n p ρ s h
 
-  pub put-done : (g : Graph) (n p ρ : ℕ) (s : RowSet) (F : PutFit g n p ρ s) (f : ℕ) → missing (length t) s < f → Sure (PutDone g n p ρ s (F .fit)) (putWithin t c f n p ρ s g)
+  pub put-done : (g : Graph) (n p ρ : ℕ) (s : RowSet) (F : PutFit g n p ρ s) (f : ℕ) → missing (length (P .table)) s < f → Sure (PutDone g n p ρ s (F .fit)) (putWithin P c f n p ρ s g)
   put-done g n p ρ s F f few =
-      let S = bare t c (F .fit .tbox) (F .fit .wanted) (F .fit .wellFormed) in
+      let S = bare P c (F .fit .wellPosed) in
       within-right S f Anyone g n p ρ s (F .fit .inv) (anyone-quiet S g) (F .pre) few
 
   -- ---- a node that may be judged
@@ -75,7 +72,7 @@ module _ (t : Table) (c : Capacity) where
 
   module _ (g : Graph) (x : ℕ) (F : Fit g) (o : nodeAt g x .status ≡ «open») where
     abbrev S : Setting
-    S = bare t c (F .tbox) (F .wanted) (F .wellFormed)
+    S = bare P c (F .wellPosed)
 
     pub open-there : x < nodeCount g
     open-there = set-there g x (open-set (nodeAt g x .status) o)
@@ -97,10 +94,10 @@ module _ (t : Table) (c : Capacity) where
       pub grows : Grows g h
       pub rises : isOpen (nodeAt h x .status) ≡ false → settled g < settled h
 
-    pub open-done : Sure OpenJudged (judge (put t c) x g)
+    pub open-done : Sure OpenJudged (judge (put P c) x g)
     open-done =
-        sure-map (Judged S Anyone g x) OpenJudged (judge (put t c) x g) (open-judged S Anyone g x (F .inv) open-there o everyone) (λ h J. record {
-          fit = record { tbox = F .tbox; wanted = F .wanted; wellFormed = F .wellFormed; inv = J .inv };
+        sure-map (Judged S Anyone g x) OpenJudged (judge (put P c) x g) (open-judged S Anyone g x (F .inv) open-there o everyone) (λ h J. record {
+          fit = record { wellPosed = F .wellPosed; inv = J .inv };
           grows = J .grows;
           rises = λ e. settled-rises g h (J .grows) x open-there (open-live (nodeAt g x .status) o) (not-open-settled (nodeAt h x .status) (from-false (isOpen (nodeAt h x .status)) e) (J .set));
         })
@@ -111,11 +108,11 @@ module _ (t : Table) (c : Capacity) where
     pub fit : Fit h
     pub grows : Grows g h
 
-  pub update-done : (g : Graph) → Fit g → (f x : ℕ) → c .nodeRoom < settled g + f → Sure (UpdateDone g) (updateWithin t c f x g)
+  pub update-done : (g : Graph) → Fit g → (f x : ℕ) → c .nodeRoom < settled g + f → Sure (UpdateDone g) (updateWithin P c f x g)
   update-done g F f x few =
-      let S = bare t c (F .tbox) (F .wanted) (F .wellFormed) in
-      sure-map (Updated S Anyone g) (UpdateDone g) (updateWithin t c f x g) (update-right S f Anyone x g (F .inv) (λ y hy. inl (inl tt)) few)
-      (λ h U. record { fit = record { tbox = F .tbox; wanted = F .wanted; wellFormed = F .wellFormed; inv = U .inv }; grows = U .grows })
+      let S = bare P c (F .wellPosed) in
+      sure-map (Updated S Anyone g) (UpdateDone g) (updateWithin P c f x g) (update-right S f Anyone x g (F .inv) (λ y hy. inl (inl tt)) few)
+      (λ h U. record { fit = record { wellPosed = F .wellPosed; inv = U .inv }; grows = U .grows })
 
   -- a graph that fits has no more settled nodes than places
   pub settled-fits : (g : Graph) → Fit g → settled g ≤ c .nodeRoom

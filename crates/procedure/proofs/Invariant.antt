@@ -9,7 +9,7 @@ use mathlib.Core.Logic.{_⊎_, _≢_}
 use Prim.Native.Nat.{ℕ, zero, suc, _≤_, _<_, _^_}
 use lib.Dec.{T}
 use Rattle.concepts.specs.Role.{inverse}
-use Rattle.concepts.specs.RowSet.{RowSet, mem, empty, fromList, Subset}
+use Rattle.concepts.specs.RowSet.{RowSet, mem, empty, Subset}
 use Rattle.procedure.specs.Status.{Status, unset, «open», sat, unsat, toosmall, branchTable, stateTable, foldStatus, isUnset, isLive}
 use Rattle.procedure.specs.SetTests.{clash, unfinished, lacking, existentials}
 use Rattle.procedure.specs.Graph.{Link, unlinked, toState, lapsed, Node, Graph, nodeAt, nodeCount, children}
@@ -23,7 +23,7 @@ module _ (S : Setting) where
   -- ---- what a status says
 
   abbrev pub Sat : RowSet → Element S → Type 0
-  Sat s d = Satisfies (S .table) (S .structure) s d
+  Sat s d = Satisfies (S .problem .table) (S .structure) s d
 
   -- from the state p along the role; the root reaches every element
   abbrev pub Reach : ℕ → ℕ → Element S → Element S → Type 0
@@ -77,17 +77,17 @@ module _ (S : Setting) where
   AnswerAll g x [] [] = Unit {0}
   AnswerAll g x [] (y ∷ ys) = ⊥
   AnswerAll g x (e ∷ es) [] = ⊥
-  AnswerAll g x (e ∷ es) (y ∷ ys) = Answers (S .table) (S .tbox) (S .wanted) g x (e .0) (e .1) y × AnswerAll g x es ys
+  AnswerAll g x (e ∷ es) (y ∷ ys) = Answers (S .problem) g x (e .0) (e .1) y × AnswerAll g x es ys
 
   abbrev pub Expanded : Graph → ℕ → RowSet → Type 0
-  Expanded g zero s = (y : ℕ) × (children g 0 ≡ y ∷ []) × Under g 0 noRole y × Subset (fromList (S .wanted)) (nodeAt g y .rows)
-  Expanded g (suc x) s = AnswerAll g (suc x) (existentials (S .table) s) (children g (suc x))
+  Expanded g zero s = (y : ℕ) × (children g 0 ≡ y ∷ []) × Under g 0 noRole y × Subset (S .problem .wanted) (nodeAt g y .rows)
+  Expanded g (suc x) s = AnswerAll g (suc x) (existentials (S .problem .table) s) (children g (suc x))
 
   pub record StateShape (g : Graph) (x : ℕ) (n : Node) : Type 0 where
     pub link : n .link ≡ unlinked
     pub root : x ≡ 0 → n .rows ≡ empty
-    pub clashFree : x ≢ 0 → T (not (clash (S .table) (n .rows)))
-    pub finished : T (not (unfinished (S .table) (n .rows)))
+    pub clashFree : x ≢ 0 → T (not (clash (S .problem) (n .rows)))
+    pub finished : T (not (unfinished (S .problem .table) (n .rows)))
     pub expanded : T (not (isUnset (n .status))) → Expanded g x (n .rows)
 
   -- a node that is no state, with the state above p and the role ρ
@@ -103,7 +103,7 @@ module _ (S : Setting) where
     pub notRoot : y ≢ 0
     pub isState : nodeAt g y .isState ≡ true
     pub rows : nodeAt g y .rows ≡ s
-    pub back : lacking (S .table) s (inverse ρ) (nodeAt g p .rows) ≡ empty
+    pub back : lacking (S .problem .table) s (inverse ρ) (nodeAt g p .rows) ≡ empty
 
   abbrev pub LinkShape : Graph → Node → Link → Type 0
   LinkShape g n unlinked = Unit {0}
@@ -116,7 +116,7 @@ module _ (S : Setting) where
 
   pub record Fact (g : Graph) (x : ℕ) (n : Node) : Type 0 where
     pub bounded : n .rows < 2 ^ rowCount S
-    pub rules : x ≢ 0 → Subset (fromList (S .tbox)) (n .rows)
+    pub rules : x ≢ 0 → Subset (S .problem .rules) (n .rows)
     pub link : LinkShape g n (n .link)
     pub kind : KindFact g x n (n .isState)
 
@@ -170,7 +170,7 @@ module _ (S : Setting) where
 
   abbrev pub Ready : Graph → ℕ → Node → Bool → Type 0
   Ready g x n true = children g x ≡ []
-  Ready g x n false = (n .link ≡ unlinked) × T (unfinished (S .table) (n .rows))
+  Ready g x n false = (n .link ≡ unlinked) × T (unfinished (S .problem .table) (n .rows))
 
   abbrev pub QuietLink : Graph → ℕ → Link → Type 0
   QuietLink g x unlinked = foldStatus branchTable unsat (statuses g x) ≡ «open»

@@ -18,7 +18,8 @@ use Rattle.procedure.specs.GraphLaws.{node-same, node-other, Child, chil
 use Rattle.procedure.specs.Tableau.{foldChildren, judgeBranch, judgeState}
 use Rattle.procedure.proofs.Setting.{Setting}
 use Rattle.procedure.proofs.Grows.{Follows, Grows, grows-replace}
-use Rattle.procedure.proofs.Invariant.{Covered, Blocked, Unsatisfied, StateSays, OpenSays, SatSays, BranchSays, Expanded, StateShape, BranchShape, LinkShape, KindFact, EdgeFact, StateEdge, BranchEdge, LinkEdge, Inv, statuses, QuietLink, QuietOpen, QuietBy, Quiet, QuietBut}
+use Rattle.procedure.proofs.Invariant.{Covered, Blocked, Unsatisfied, StateSays, OpenSays, SatSays, BranchSays, Expanded, StateShape, BranchShape, LinkShape, KindFact}
+use Rattle.procedure.proofs.Invariant.{EdgeFact, StateEdge, BranchEdge, LinkEdge, Inv, statuses, QuietLink, QuietOpen, QuietBy, Quiet, QuietBut}
 use Rattle.procedure.proofs.Operations.{inv-replace}
 use Rattle.procedure.proofs.Quiet.{fold-same, quiet-replace}
 
@@ -60,7 +61,8 @@ module _ (S : Setting) where
     unsat-child y hy s e = subst (λ (v : Status). BranchSays S g y (nodeAt g y) v) e (branch-fact y hy s .1)
 
     -- a child that is never or small blocks, below a live state
-    pub blocked-child : (y : ℕ) → y < nodeCount g → nodeAt g y .isState ≡ false → 2 ≤ rank (nodeAt g y .status) → T (isLive (nodeAt g (nodeAt g y .pst) .status)) → Blocked S g (nodeAt g y)
+    pub blocked-child : (y : ℕ) → y < nodeCount g → nodeAt g y .isState ≡ false → 2 ≤ rank (nodeAt g y .status) → T (isLive (nodeAt g (nodeAt g y .pst) .status))
+        → Blocked S g (nodeAt g y)
     blocked-child y hy s r l = go (nodeAt g y .status) r (branch-fact y hy s .1)
       where
         go : (v : Status) → 2 ≤ rank v → BranchSays S g y (nodeAt g y) v → Blocked S g (nodeAt g y)
@@ -117,7 +119,9 @@ module _ (S : Setting) where
         set = λ _. u;
       } in
       let same : (x : ℕ) → children h x ≡ children g x = λ x. children-edges h g refl x in
-      let quietly : (w : Status) → nodeAt h z .status ≡ w → (w ≡ «open» → QuietBy S h z (nodeAt h z) «open») → T (isLive w) ⊎ T (not (isLive w)) → T (not (isUnset w)) → Quiet S h z = λ w e f d nu.
+      let quietly : (w : Status) → nodeAt h z .status ≡ w → (w ≡ «open» → QuietBy S h z (nodeAt h z) «open») → T (isLive w) ⊎ T (not (isLive w)) → T (not (isUnset w))
+      → Quiet S h z =
+      λ w e f d nu.
       subst (λ (w : Status). QuietBy S h z (nodeAt h z) w) (sym e) (elim d [
         | inl l ↦ let o = live-open w l nu in subst (λ (w : Status). QuietBy S h z (nodeAt h z) w) (sym o) (f o)
         | inr s ↦ quiet-settled h z (nodeAt h z) w s
@@ -127,7 +131,8 @@ module _ (S : Setting) where
         | no d ↦ rw (node-other z (withStatus v n) g x d) w
       ] in
       record {
-        inv = inv-replace S z (withStatus v n) g I hz F (record { bounded = I .fact z hz .bounded; rules = I .fact z hz .rules; link = link-status g n v (n .link) (I .fact z hz .link); kind = K }) (λ y m. I .edge z y m);
+        inv = inv-replace S z (withStatus v n) g I hz F
+            (record { bounded = I .fact z hz .bounded; rules = I .fact z hz .rules; link = link-status g n v (n .link) (I .fact z hz .link); kind = K }) (λ y m. I .edge z y m);
         grows = grows-replace z (withStatus v n) g hz F;
         kept = λ x hx d. node-other z (withStatus v n) g x d;
         otherChildren = λ x hx d. same x;
@@ -195,7 +200,8 @@ module _ (S : Setting) where
         let (a, u, w) = blocked-child g I y (I .ends z y m .1) s (omega (arith, child-rank y m)) (rw (E .pst) l) d b (rw (E .pst) sd) (rw (E .pst, E .prl) r) q in
         (a, rw (E .pst) at u, w)
 
-    quiet-branch : (l : Link) → ((y : ℕ) → l ≢ toState y) → (h : Graph) → children h z ≡ children g z → ((y : ℕ) → Child g z y → nodeAt h y ≡ nodeAt g y) → branch-status ≡ «open» → QuietLink S h z l
+    quiet-branch : (l : Link) → ((y : ℕ) → l ≢ toState y) → (h : Graph) → children h z ≡ children g z → ((y : ℕ) → Child g z y → nodeAt h y ≡ nodeAt g y)
+        → branch-status ≡ «open» → QuietLink S h z l
     unfolding branch-status
     quiet-branch unlinked d h kids same e = fold-same S g h z kids (λ y m. ap (λ (a : Node). rank (a .status)) (same y m)) branchTable unsat ∙ e
     quiet-branch lapsed d h kids same e = fold-same S g h z kids (λ y m. ap (λ (a : Node). rank (a .status)) (same y m)) branchTable unsat ∙ e

@@ -37,7 +37,7 @@ module _ (S : Setting) where
         let F = G .node y (U .there) in
         record { there = grows-there G y (U .there); noState = F .isState ∙ U .noState; pst = F .pst ∙ U .pst; prl = F .prl ∙ U .prl }
 
-    pub answers-mono : (x ρ l y : ℕ) → x < nodeCount g → Answers (S .table) (S .tbox) (S .wanted) g x ρ l y → Answers (S .table) (S .tbox) (S .wanted) h x ρ l y
+    pub answers-mono : (x ρ l y : ℕ) → x < nodeCount g → Answers (S .problem) g x ρ l y → Answers (S .problem) h x ρ l y
     answers-mono x ρ l y hx A =
         let F = G .node y (A .under .there) in
         record {
@@ -56,7 +56,7 @@ module _ (S : Setting) where
     expanded-mono zero s hx same (E) =
         let U = E .2 in
         (E .0, same ∙ E .1, under-mono 0 _ (E .0) U, rw (G .node (E .0) (U .there) .rows) (E .3))
-    expanded-mono (suc x) s hx same E = rw same (answer-all-mono (suc x) hx (existentials (S .table) s) (children g (suc x)) E)
+    expanded-mono (suc x) s hx same E = rw same (answer-all-mono (suc x) hx (existentials (S .problem .table) s) (children g (suc x)) E)
 
     module _ (x : ℕ) (n : Node) (hx : x < nodeCount g) (kids : n .isState ≡ true → T (not (isUnset (n .status))) → children h x ≡ children g x) where
       state-says-mono : (v : Status) → (T (not (isUnset v)) → children h x ≡ children g x) → StateSays S g x n v → StateSays S h x n v
@@ -99,7 +99,7 @@ module _ (S : Setting) where
               notRoot = L .1 .notRoot;
               isState = F .isState ∙ L .1 .isState;
               rows = F .rows ∙ L .1 .rows;
-              back = ap (λ (p : RowSet). lacking (S .table) (n .rows) (inverse (n .prl)) p) (G .node (n .pst) (hp (L .0)) .rows) ∙ L .1 .back;
+              back = ap (λ (p : RowSet). lacking (S .problem .table) (n .rows) (inverse (n .prl)) p) (G .node (n .pst) (hp (L .0)) .rows) ∙ L .1 .back;
             },
           )
 

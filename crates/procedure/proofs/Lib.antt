@@ -1,4 +1,4 @@
--- The procedure is right: "cannot" over structures, "can" by the example's world, and the fuel suffices (Correct).
+-- The procedure is right: "cannot" over structures, "can" by the example's world, and the fuel suffices (Outcome, Correct).
 pub mod Structure
 pub mod Semantics
 pub mod FiniteStructure
@@ -28,4 +28,5 @@ pub mod Descend
 pub mod Walk
 pub mod Way
 pub mod Model
+pub mod Outcome
 pub mod Correct

@@ -9,7 +9,7 @@ use mathlib.Core.Logic.{_⊎_, inl, inr, _≢_}
 use Prim.Native.Nat.{ℕ, _≤_, _<_, _^_}
 use native.Mathlib.Omega.{arith}
 use lib.Dec.{T}
-use Rattle.concepts.specs.RowSet.{RowSet, fromList, union, missing, Subset}
+use Rattle.concepts.specs.RowSet.{RowSet, union, missing, Subset}
 use Rattle.concepts.specs.RowSetLaws.{union-left, union-right, union-lt, missing-lt}
 use Rattle.procedure.specs.Status.{Status, unset, «open», sat, unsat, toosmall, isUnset, isLive}
 use Rattle.procedure.specs.Graph.{Link, toState, lapsed, Node, Graph, reached, forEach, withLink, withStatus, nodeAt, nodeCount, children, alternativesOf, setStatus, setLink}
@@ -18,7 +18,8 @@ use Rattle.procedure.specs.Tableau.{Put, judgeBranch, putAlternatives, j
 use Rattle.procedure.proofs.Setting.{Setting, rowCount, Element}
 use Rattle.procedure.proofs.Semantics.{satisfies-union}
 use Rattle.procedure.proofs.Grows.{Follows, Grows, grows-refl, grows-trans, grows-there, grows-child, grows-replace}
-use Rattle.procedure.proofs.Invariant.{Sat, Reach, Covered, StateSays, OpenSays, SatSays, BranchSays, Linked, LinkShape, KindFact, Fact, EdgeFact, AlternativeFact, Inv, QuietLink, QuietOpen, QuietBut}
+use Rattle.procedure.proofs.Invariant.{Sat, Reach, Covered, StateSays, OpenSays, SatSays, BranchSays, Linked, LinkShape, KindFact, Fact, EdgeFact, AlternativeFact, Inv}
+use Rattle.procedure.proofs.Invariant.{QuietLink, QuietOpen, QuietBut}
 use Rattle.procedure.proofs.Keeps.{covered-mono}
 use Rattle.procedure.proofs.Operations.{inv-replace}
 use Rattle.procedure.proofs.Quiet.{quiet-replace}
@@ -41,7 +42,7 @@ module _ (S : Setting) where
     pub there : n < nodeCount g
     pub place : Place g p ρ
     pub bounded : s < 2 ^ rowCount S
-    pub rules : Subset (fromList (S .tbox)) s
+    pub rules : Subset (S .problem .rules) s
     pub excused : P n
     pub state : nodeAt g n .isState ≡ true → T (isUnset (nodeAt g n .status)) × (p ≡ n)
         × ((d : Element S) → Sat S (nodeAt g n .rows) d → (e : Element S) × Reach S n ρ d e × Sat S s e)
@@ -72,7 +73,8 @@ module _ (S : Setting) where
 
   -- a put that is right for sets that lack fewer than k rows
   abbrev pub PutRight : Put → ℕ → Type 1
-  PutRight put k = (P : ℕ → Type 0) (g : Graph) (n p ρ : ℕ) (s : RowSet) → Inv S g → QuietBut S P g → PutPre P g n p ρ s → missing (rowCount S) s < k → Sure (PutPost P g n p ρ s) (put n p ρ s g)
+  PutRight put k = (P : ℕ → Type 0) (g : Graph) (n p ρ : ℕ) (s : RowSet) → Inv S g → QuietBut S P g → PutPre P g n p ρ s → missing (rowCount S) s < k
+      → Sure (PutPost P g n p ρ s) (put n p ρ s g)
 
   -- ---- judging a node z that is linked to y
 
@@ -146,7 +148,12 @@ module _ (S : Setting) where
         some = λ b m. A .some b (List·Memᴰ·tail m);
         done = λ b m. elim (A .done b m) [
           | inl q ↦ elim (List·Memᴰ·cases-cons q) [
-            | inl e ↦ inr (nodeCount h, rw (B .ownChildren) (Memᴰ·append-right (children h z) (List·Memᴰ·head refl)), B .fresh .noState, B .fresh .rows ∙ ap (λ (w : RowSet). union w (nodeAt g y .rows)) (sym e))
+            | inl e ↦ inr (
+              nodeCount h,
+              rw (B .ownChildren) (Memᴰ·append-right (children h z) (List·Memᴰ·head refl)),
+              B .fresh .noState,
+              B .fresh .rows ∙ ap (λ (w : RowSet). union w (nodeAt g y .rows)) (sym e),
+            )
             | inr v ↦ inl v
           ]
           | inr c ↦
@@ -182,7 +189,7 @@ module _ (S : Setting) where
         let (a, al, sa) = enlarged d q in
         elim (A .done a al) [
           | inl e ↦ absurd (List·Memᴰ·not-nil e)
-          | inr c ↦ let (i, ch, st, rs) = c in (i, ch, st, rw rs (satisfies-union (S .table) (S .structure) a (nodeAt g y .rows) d sa q))
+          | inr c ↦ let (i, ch, st, rs) = c in (i, ch, st, rw rs (satisfies-union (S .problem .table) (S .structure) a (nodeAt g y .rows) d sa q))
         ] in
         let F : Follows m n′ = record { rows = refl; isState = refl; pst = refl; prl = refl; settled = λ _. refl; set = λ u. u } in
         let k1 = setLink z lapsed h in
@@ -196,7 +203,8 @@ module _ (S : Setting) where
           link = noState′;
           kind = subst (λ (b : Bool). KindFact S h z n′ b) (sym noState′) (B, says (m .status) live′);
         } in
-        let I1 : Inv S k1 = inv-replace S z n′ h (A .inv) hz′ F fact (λ w c. subst (λ (b : Bool). EdgeFact S h z lapsed w b (nodeAt h w .isState)) (sym noState′) (lapsed-edge h (A .inv) w c noState′ linked′ small′ (nodeAt h w .isState) refl)) in
+        let I1 : Inv S k1 = inv-replace S z n′ h (A .inv) hz′ F fact
+        (λ w c. subst (λ (b : Bool). EdgeFact S h z lapsed w b (nodeAt h w .isState)) (sym noState′) (lapsed-edge h (A .inv) w c noState′ linked′ small′ (nodeAt h w .isState) refl)) in
         let here : nodeAt k1 z ≡ n′ = node-same z n′ h hz′ in
         let Q1 : QuietBut S (λ x. P x ⊎ (x ≡ z)) k1 = quiet-replace S (λ x. P x ⊎ (x ≡ z)) (λ x. P x ⊎ (x ≡ z)) z n′ h hz′ (A .quiet) (λ x d p. p) (inl (inr refl)) (inl refl) in
         let J : Judged S P k1 z (judgeBranch z k1) = branch-judged S P k1 z I1 (grows-there G1 z hz′) (ap (λ (x : Node). x .isState) here ∙ noState′)

@@ -5,7 +5,7 @@
 -- Assumes nothing.
 use mathlib.Core.Path.{_≡_, sym, ap, subst, subst₂}
 use mathlib.Core.Bool.{Bool}
-use mathlib.Core.List.{List, map, List·Memᴰ, Memᴰ·of-map}
+use mathlib.Core.List.{map, List·Memᴰ, Memᴰ·of-map}
 use mathlib.Core.Option.{some}
 use Prim.Native.Nat.{ℕ, _^_, _≤_, _<_}
 use native.Mathlib.Omega.{arith}
@@ -15,10 +15,10 @@ use lib.Seq.{take-length}
 use Rattle.concepts.specs.ListLaws.{getD-map, getD-mem}
 use Rattle.concepts.specs.Counting.{share-le}
 use Rattle.concepts.specs.Role.{inverse}
-use Rattle.concepts.specs.Concept.{exist, Table, conceptAt, Ordered}
-use Rattle.concepts.specs.RowSet.{RowSet, mem, empty, Subset, fromList}
-use Rattle.concepts.specs.RowSetLaws.{mem-fromList}
-use Rattle.meaning.specs.Meaning.{finite, Obeys, Member, Holds}
+use Rattle.concepts.specs.Concept.{exist, conceptAt}
+use Rattle.concepts.specs.RowSet.{RowSet, mem, empty, Subset}
+use Rattle.meaning.specs.Meaning.{finite, Holds}
+use Rattle.procedure.specs.Problem.{Problem, WellPosed}
 use Rattle.procedure.specs.Status.{Status}
 use Rattle.procedure.specs.Graph.{Graph, nodeAt, nodeCount}
 use Rattle.procedure.specs.Example.{RoleLink, Example, Walk, listed, worldOf, example}
@@ -29,15 +29,15 @@ use Rattle.procedure.proofs.Truth.{setAt, size, Hintikka, truth}
 use Rattle.procedure.proofs.Descend.{Usable}
 use Rattle.procedure.proofs.Walk.{stateAt, edgesFrom, Walked, right-few, rowsOf-answer, walk-walked}
 
-pub record ExampleRight (t : Table) (tbox wanted : List ℕ) (g : Graph) (x : Example) : Type 0 where
+pub record ExampleRight (P : Problem) (g : Graph) (x : Example) : Type 0 where
   -- its world obeys every rule, and element 0 is a member of the kit
-  pub obeys : Obeys (finite (worldOf t x)) t tbox
-  pub member : Member (finite (worldOf t x)) t wanted 0
+  pub obeys : (k : ℕ) → T (mem k (P .rules)) → (d : ℕ) → d < length (x .elements) → Holds (finite (worldOf (P .table) x)) (P .table) k d
+  pub member : (0 < length (x .elements)) × ((k : ℕ) → T (mem k (P .wanted)) → Holds (finite (worldOf (P .table) x)) (P .table) k 0)
   -- its records are no more than the graph's, so they find place
   pub few-elements : length (x .elements) ≤ nodeCount g
   pub few-links : length (x .links) ≤ length (g .edges)
   -- each number fits its field: a set has rows of the table, a link has a role code and goes between elements
-  pub element-rows : (s : RowSet) → List·Memᴰ s (x .elements) → s < 2 ^ length t
+  pub element-rows : (s : RowSet) → List·Memᴰ s (x .elements) → s < 2 ^ length (P .table)
   pub link-ends : (l : RoleLink) → List·Memᴰ l (x .links) → (l .from < length (x .elements)) × (l .role < 32) × (l .to < length (x .elements))
 
 -- the example that a walk leaves
@@ -51,64 +51,60 @@ written-size g w = length-map (w .states) (λ y. nodeAt g y .rows)
 written-set : (g : Graph) (w : Walk) (d : ℕ) → d < size (written g w) → setAt (written g w) d ≡ nodeAt g (stateAt w d) .rows
 written-set g w d h = getD-map (λ y. nodeAt g y .rows) (w .states) d 0 empty (omega (arith, written-size g w))
 
-module _ (t : Table) (tbox wanted : List ℕ) (g : Graph) (good : Status → Bool) (codes : (k ρ l : ℕ) → conceptAt t k ≡ exist ρ l → ρ < 32)
-    (F : Finished t tbox wanted g good) (w : Walk) (W : Walked t g good (length (w .states)) w) where
+module _ (P : Problem) (g : Graph) (good : Status → Bool) (codes : (k ρ l : ℕ) → conceptAt (P .table) k ≡ exist ρ l → ρ < 32)
+    (F : Finished P g good) (w : Walk) (W : Walked (P .table) g good (length (w .states)) w) where
   element-usable : (d : ℕ) → d < size (written g w) → Usable g good (stateAt w d)
   element-usable d h = W .right .usable (stateAt w d) (getD-mem (w .states) d 0 (omega (arith, written-size g w)))
 
   -- every element's set is saturated and has every rule
-  element-rules : (d : ℕ) → d < size (written g w) → Saturated t (nodeAt g (stateAt w d) .rows) × Subset (fromList tbox) (nodeAt g (stateAt w d) .rows)
+  element-rules : (d : ℕ) → d < size (written g w) → Saturated (P .table) (nodeAt g (stateAt w d) .rows) × Subset (P .rules) (nodeAt g (stateAt w d) .rows)
   element-rules d h = let U = element-usable d h in F .saturated (stateAt w d) (U .there) (U .state) (U .nonRoot)
 
-  written-answered : (d k ρ l : ℕ) → d < size (written g w) → k < length t → conceptAt t k ≡ exist ρ l → T (mem k (setAt (written g w) d))
+  written-answered : (d k ρ l : ℕ) → d < size (written g w) → k < length (P .table) → conceptAt (P .table) k ≡ exist ρ l → T (mem k (setAt (written g w) d))
       → (e : ℕ) × (e < size (written g w)) × T (listed (w .links) d ρ e) × T (mem l (setAt (written g w) e))
   written-answered d k ρ l h b e m =
       let s = nodeAt g (stateAt w d) .rows in
-      let (c, i, n) = rowsOf-answer t tbox wanted g good codes F (stateAt w d) ρ l (element-usable d h)
-      (mem-existentials t s (ρ, l) k b (subst (λ (u : RowSet). T (mem k u)) (written-set g w d h) m) e) in
+      let (c, i, n) = rowsOf-answer P g good codes F (stateAt w d) ρ l (element-usable d h)
+      (mem-existentials (P .table) s (ρ, l) k b (subst (λ (u : RowSet). T (mem k u)) (written-set g w d h) m) e) in
       let (o, p, q, r) = W .reaches d (omega (arith, written-size g w)) (ρ, c) i in
       let z : o < size (written g w) = omega (arith, written-size g w) in
       (o, z, mem-listed (w .links) (record { from = d; role = ρ; to = o }) q, subst (λ (u : RowSet). T (mem l u)) (sym (written-set g w o z)) (r l n))
 
-  written-hintikka : Hintikka t (written g w)
+  written-hintikka : Hintikka (P .table) (written g w)
   written-hintikka = record {
     saturated = λ d h.
-        subst (Saturated t) (sym (written-set g w d h)) (element-rules d h .0);
+        subst (Saturated (P .table)) (sym (written-set g w d h)) (element-rules d h .0);
     answered = written-answered;
     onward = λ d ρ e hd he i.
         let J = W .right .joins (record { from = d; role = ρ; to = e }) (listed-mem (w .links) d ρ e i) in
-        subst₂ (λ (a b : RowSet). Along t a ρ b) (sym (written-set g w d hd)) (sym (written-set g w e he)) (J .2 .onward);
+        subst₂ (λ (a b : RowSet). Along (P .table) a ρ b) (sym (written-set g w d hd)) (sym (written-set g w e he)) (J .2 .onward);
     backward = λ d ρ e hd he i.
         let J = W .right .joins (record { from = d; role = ρ; to = e }) (listed-mem (w .links) d ρ e i) in
-        subst₂ (λ (a b : RowSet). Along t a (inverse ρ) b) (sym (written-set g w e he)) (sym (written-set g w d hd)) (J .2 .backward);
+        subst₂ (λ (a b : RowSet). Along (P .table) a (inverse ρ) b) (sym (written-set g w e he)) (sym (written-set g w d hd)) (J .2 .backward);
   }
 
-  written-right : Ordered t → ((k : ℕ) → List·Memᴰ k tbox → k < length t) → ((k : ℕ) → List·Memᴰ k wanted → k < length t)
-      → 0 < length (w .states) → Subset (fromList wanted) (nodeAt g (stateAt w 0) .rows) → ExampleRight t tbox wanted g (written g w)
-  unfolding worldOf
-  written-right ordered rules wants here first = record {
-    obeys = λ k m d h. holds k d (rules k m) h (element-rules d h .1 k (mem-fromList k tbox m));
-    member = (nonempty, λ k m. holds k 0 (wants k m) nonempty (first k (mem-fromList k wanted m)));
-    few-elements = omega (arith, written-size g w, right-few t g good w (W .right));
+  written-right : WellPosed P → 0 < length (w .states) → Subset (P .wanted) (nodeAt g (stateAt w 0) .rows) → ExampleRight P g (written g w)
+  written-right posed here first = record {
+    obeys = λ k m d h. holds k d (posed .ruleRows k m) h (element-rules d h .1 k m);
+    member = (nonempty, λ k m. holds k 0 (posed .wantedRows k m) nonempty (first k m));
+    few-elements = omega (arith, written-size g w, right-few (P .table) g good w (W .right));
     few-links = omega (arith, W .few, share-le (λ e. e .from) (g .edges) (w .states) (W .right .distinct), whole);
-    element-rows = λ s m. let (y, n, e) = Memᴰ·of-map (λ y. nodeAt g y .rows) (w .states) m in subst (λ (u : RowSet). u < 2 ^ length t) e (F .bounded y);
+    element-rows = λ s m. let (y, n, e) = Memᴰ·of-map (λ y. nodeAt g y .rows) (w .states) m in subst (λ (u : RowSet). u < 2 ^ length (P .table)) e (F .bounded y);
     link-ends = λ l m. let (a, b, J) = W .right .joins l m in (omega (arith, written-size g w), J .code, omega (arith, written-size g w));
   }
     where
       nonempty : 0 < size (written g w)
       nonempty = omega (arith, written-size g w)
 
-      holds : (k d : ℕ) → k < length t → d < size (written g w) → T (mem k (nodeAt g (stateAt w d) .rows)) → Holds (finite (worldOf t (written g w))) t k d
-      holds k d b h m = truth t (written g w) ordered written-hintikka k d b h (subst (λ (u : RowSet). T (mem k u)) (sym (written-set g w d h)) m)
+      holds : (k d : ℕ) → k < length (P .table) → d < size (written g w) → T (mem k (nodeAt g (stateAt w d) .rows)) → Holds (finite (worldOf (P .table) (written g w))) (P .table) k d
+      holds k d b h m = truth (P .table) (written g w) (posed .ordered) written-hintikka k d b h (subst (λ (u : RowSet). T (mem k u)) (sym (written-set g w d h)) m)
 
       whole : edgesFrom g (take (length (w .states)) (w .states)) ≡ edgesFrom g (w .states)
       whole = ap (edgesFrom g) (take-length (w .states))
 
 -- over a finished graph the walk never fails, and what it writes is right
-pub example-right : (t : Table) (tbox wanted : List ℕ) (g : Graph) (good : Status → Bool) → Ordered t
-    → ((k : ℕ) → List·Memᴰ k tbox → k < length t) → ((k : ℕ) → List·Memᴰ k wanted → k < length t)
-    → ((k ρ l : ℕ) → conceptAt t k ≡ exist ρ l → ρ < 32)
-    → Finished t tbox wanted g good → (x : Example) × (example t g ≡ some x) × ExampleRight t tbox wanted g x
-example-right t tbox wanted g good ordered rules wants codes F =
-    let (w, e, W, here, first) = walk-walked t tbox wanted g good codes F in
-    (written g w, example-some t g w e, written-right t tbox wanted g good codes F w W ordered rules wants here first)
+pub example-right : (P : Problem) (g : Graph) (good : Status → Bool) → WellPosed P → Finished P g good
+    → (x : Example) × (example (P .table) g ≡ some x) × ExampleRight P g x
+example-right P g good posed F =
+    let (w, e, W, here, first) = walk-walked P g good (posed .existRole) F in
+    (written g w, example-some (P .table) g w e, written-right P g good (posed .existRole) F w W posed here first)

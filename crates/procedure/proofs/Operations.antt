@@ -12,7 +12,8 @@ use lib.Dec.{T}
 use Rattle.concepts.specs.RowSet.{RowSet}
 use Rattle.procedure.specs.Status.{toosmall, isUnset}
 use Rattle.procedure.specs.Graph.{Link, Node, Graph, appendNode, appendEdge, appendAlternative, nodeAt, nodeCount, replaceNode}
-use Rattle.procedure.specs.GraphLaws.{count-append, node-old, node-new, node-cases, count-replace, node-same, node-other, Child, children-edges, child-cases, AlternativeOf, alternatives-same, alternative-cases}
+use Rattle.procedure.specs.GraphLaws.{count-append, node-old, node-new, node-cases, count-replace, node-same, node-other, Child, children-edges, child-cases}
+use Rattle.procedure.specs.GraphLaws.{AlternativeOf, alternatives-same, alternative-cases}
 use Rattle.procedure.proofs.Setting.{Setting}
 use Rattle.procedure.proofs.Grows.{Follows, Grows, grows-there, grows-node, grows-edge, grows-alternative, grows-replace}
 use Rattle.procedure.proofs.Invariant.{Fact, EdgeFact, AlternativeFact, Inv}

@@ -13,7 +13,7 @@ use native.Mathlib.Omega.{arith}
 use lib.Dec.{T, eqb, eqb→eq}
 use Rattle.concepts.specs.Tests.{by-test}
 use Rattle.concepts.specs.Role.{inverse}
-use Rattle.concepts.specs.RowSet.{RowSet, empty, fromList, missing, Subset}
+use Rattle.concepts.specs.RowSet.{RowSet, empty, missing, Subset}
 use Rattle.concepts.specs.RowSetLaws.{missing-all}
 use Rattle.procedure.specs.Status.{unset, unsat, toosmall, isUnset}
 use Rattle.procedure.specs.SetTests.{clash, unfinished, lacking}
@@ -59,7 +59,8 @@ module _ (S : Setting) where
         (linked-judged S put f right P h z y (Md .inv) hz (A .link) (A .live) (A .edge) (rw (Md .fresh .rows) few) (Md .quiet) (nodeAt h y .status) refl)
         (λ u K.
         let fresh : Fresh S u z p ρ s = fresh-mono S h u (K .grows) z p ρ s (Md .fresh) in
-        let same : (x : ℕ) → x < nodeCount g → children u x ≡ children g x = λ x hx. K .otherChildren x (grows-there (Md .grows) x hx) (λ (q : x ≡ z). omega arith) ∙ Md .sameChildren x hx in
+        let same : (x : ℕ) → x < nodeCount g → children u x ≡ children g x =
+        λ x hx. K .otherChildren x (grows-there (Md .grows) x hx) (λ (q : x ≡ z). omega arith) ∙ Md .sameChildren x hx in
         record {
           inv = K .inv;
           grows = grows-trans (Md .grows) (K .grows);
@@ -69,36 +70,40 @@ module _ (S : Setting) where
           fresh = fresh;
         }))
 
-    special-judged : lacking (S .table) s (inverse ρ) (nodeAt g p .rows) ≡ empty → QuietBut S P g → s < 2 ^ rowCount S → Subset (fromList (S .tbox)) s → T (not (clash (S .table) s)) → T (not (unfinished (S .table) s))
-        → Sure (Made S P g p ρ s) (linkSpecial (S .table) (S .capacity) p ρ s g >>= judge put z)
+    special-judged : lacking (S .problem .table) s (inverse ρ) (nodeAt g p .rows) ≡ empty → QuietBut S P g → s < 2 ^ rowCount S → Subset (S .problem .rules) s
+        → T (not (clash (S .problem) s)) → T (not (unfinished (S .problem .table) s))
+        → Sure (Made S P g p ρ s) (linkSpecial (S .capacity) p ρ s g >>= judge put z)
     special-judged back Q bd rl cf fin =
-        sure-bind (Started S P g p ρ s) (Made S P g p ρ s) (linkSpecial (S .table) (S .capacity) p ρ s g) (judge put z) (special-started S P g p ρ s I pl back Q bd rl cf fin) start-judged
+        sure-bind (Started S P g p ρ s) (Made S P g p ρ s) (linkSpecial (S .capacity) p ρ s g) (judge put z) (special-started S P g p ρ s I pl back Q bd rl cf fin) start-judged
 
   -- ---- the node of a set, and its edge
 
   module _ (put : Put) (f : ℕ) (right : PutRight S put f) (P : ℕ → Type 0) (g : Graph) where
-    node-made : (p ρ : ℕ) (s : RowSet) → Inv S g → QuietBut S P g → Place S g p ρ → s < 2 ^ rowCount S → Subset (fromList (S .tbox)) s → missing (rowCount S) s ≤ f
-        → Sure (Made S P g p ρ s) (putNode (S .table) (S .capacity) put p ρ s g)
+    node-made : (p ρ : ℕ) (s : RowSet) → Inv S g → QuietBut S P g → Place S g p ρ → s < 2 ^ rowCount S → Subset (S .problem .rules) s → missing (rowCount S) s ≤ f
+        → Sure (Made S P g p ρ s) (putNode (S .problem) (S .capacity) put p ρ s g)
     unfolding putNode putSpecial
     node-made p ρ s I Q pl bd rl few =
         let c = S .capacity in
-        let t = S .table in
+        let t = S .problem .table in
         let a = lacking t s (inverse ρ) (nodeAt g p .rows) in
-        by-test (Sure (Made S P g p ρ s)) (clash t s) (addNode c (below p ρ s unsat unlinked) g) (elim (unfinished t s) [ true ↦ addNode c (below p ρ s unset unlinked) g | false ↦ putSpecial t c put p ρ s g ])
-        (λ b. sure-addNode (Made S P g p ρ s) c (below p ρ s unsat unlinked) g (λ room. made-node S P g p ρ s I pl bd rl unsat unlinked Q room tt (λ d q. clash-unsatisfied t (S .structure) s d q b) (inr tt)))
-        (λ cf. by-test (Sure (Made S P g p ρ s)) (unfinished t s) (addNode c (below p ρ s unset unlinked) g) (putSpecial t c put p ρ s g)
+        by-test (Sure (Made S P g p ρ s)) (clash (S .problem) s) (addNode c (below p ρ s unsat unlinked) g)
+        (elim (unfinished t s) [ true ↦ addNode c (below p ρ s unset unlinked) g | false ↦ putSpecial (S .problem) c put p ρ s g ])
+        (λ b. sure-addNode (Made S P g p ρ s) c (below p ρ s unsat unlinked) g
+        (λ room. made-node S P g p ρ s I pl bd rl unsat unlinked Q room tt (λ d q. clash-unsatisfied (S .problem) (S .structure) (S .exclusive) s d q b) (inr tt)))
+        (λ cf. by-test (Sure (Made S P g p ρ s)) (unfinished t s) (addNode c (below p ρ s unset unlinked) g) (putSpecial (S .problem) c put p ρ s g)
         (λ b. sure-addNode (Made S P g p ρ s) c (below p ρ s unset unlinked) g (λ room. made-node S P g p ρ s I pl bd rl unset unlinked Q room tt tt (inr (refl, b))))
         (λ fin. by-test (Sure (Made S P g p ρ s)) (eqb a empty)
-        (linkSpecial t c p ρ s g >>= judge put (nodeCount g))
-        (addNode c (below p ρ s toosmall lapsed) g >>= joinAlternatives t c p a)
+        (linkSpecial c p ρ s g >>= judge put (nodeCount g))
+        (addNode c (below p ρ s toosmall lapsed) g >>= joinAlternatives c p a)
         (λ e. special-judged put f right P g p ρ s I pl few (eqb→eq a empty e) Q bd rl cf fin)
         (λ e. lapsed-made S P g p ρ s I pl bd rl Q e)))
 
-    pub put-by : (n p ρ : ℕ) (s : RowSet) → Inv S g → QuietBut S P g → PutPre S P g n p ρ s → missing (rowCount S) s ≤ f → Sure (PutPost S P g n p ρ s) (putBy (S .table) (S .capacity) put n p ρ s g)
+    pub put-by : (n p ρ : ℕ) (s : RowSet) → Inv S g → QuietBut S P g → PutPre S P g n p ρ s → missing (rowCount S) s ≤ f
+        → Sure (PutPost S P g n p ρ s) (putBy (S .problem) (S .capacity) put n p ρ s g)
     unfolding putBy
     put-by n p ρ s I Q A few =
         let z = nodeCount g in
-        sure-bind (Made S P g p ρ s) (PutPost S P g n p ρ s) (putNode (S .table) (S .capacity) put p ρ s g) (addEdge (S .capacity) n z)
+        sure-bind (Made S P g p ρ s) (PutPost S P g n p ρ s) (putNode (S .problem) (S .capacity) put p ρ s g) (addEdge (S .capacity) n z)
         (node-made p ρ s I Q (A .place) (A .bounded) (A .rules) few)
         (λ h Md.
         let F = Md .fresh in
@@ -117,7 +122,8 @@ module _ (S : Setting) where
           fresh = fresh-mono S h (appendEdge n z h) G z p ρ s F;
         }))
       where
-        new-edge : (n p ρ : ℕ) (s : RowSet) → PutPre S P g n p ρ s → (h : Graph) → Made S P g p ρ s h → (b : Bool) → nodeAt h n .isState ≡ b → EdgeFact S h n (nodeAt h n .link) (nodeCount g) b false
+        new-edge : (n p ρ : ℕ) (s : RowSet) → PutPre S P g n p ρ s → (h : Graph) → Made S P g p ρ s h → (b : Bool) → nodeAt h n .isState ≡ b
+            → EdgeFact S h n (nodeAt h n .link) (nodeCount g) b false
         new-edge n p ρ s A h Md true e =
             let F = Md .fresh in
             let same = Md .kept n (A .there) in
@@ -140,13 +146,14 @@ module _ (S : Setting) where
 
   -- ---- put
 
-  pub within-right : (f : ℕ) → PutRight S (putWithin (S .table) (S .capacity) f) f
+  pub within-right : (f : ℕ) → PutRight S (putWithin (S .problem) (S .capacity) f) f
   unfolding putWithin
   within-right zero P g n p ρ s I Q A few = absurd (not-suc-le-zero few)
-  within-right (suc f) P g n p ρ s I Q A few = put-by (λ n′ p′ ρ′ s′ g′. putWithin (S .table) (S .capacity) f n′ p′ ρ′ s′ g′) f (within-right f) P g n p ρ s I Q A (omega arith)
+  within-right (suc f) P g n p ρ s I Q A few =
+      put-by (λ n′ p′ ρ′ s′ g′. putWithin (S .problem) (S .capacity) f n′ p′ ρ′ s′ g′) f (within-right f) P g n p ρ s I Q A (omega arith)
 
   -- the fuel of put suffices for every set
-  pub put-right : PutRight S (put (S .table) (S .capacity)) (suc (rowCount S))
+  pub put-right : PutRight S (put (S .problem) (S .capacity)) (suc (rowCount S))
   unfolding put
   put-right P g n p ρ s I Q A few = within-right (suc (rowCount S)) P g n p ρ s I Q A few
 

@@ -1,6 +1,7 @@
 -- In any structure: what the steps of the procedure do to sets of rows that hold at an element.
 --
--- In order: the sets (`satisfies-union`, ..); clash; unfinished rows; what a set lacks of a universal row's arguments; successors.
+-- In order: the sets (`satisfies-union`, ..); unfinished rows; what a set lacks of a universal row's arguments; then for a problem: clash,
+-- successors, and that the test of names is exclusive.
 -- Assumes nothing.
 use mathlib.Core.Path.{_≡_}
 use mathlib.Core.List.{List, List·Memᴰ}
@@ -12,11 +13,12 @@ use Rattle.concepts.specs.Role.{inverse}
 use Rattle.concepts.specs.Concept.{Table}
 use Rattle.concepts.specs.RowSet.{RowSet, empty, union, insert, fromList, Subset}
 use Rattle.concepts.specs.RowSetLaws.{mem-empty, union-cases, insert-cases, fromList-mem}
+use Rattle.procedure.specs.Problem.{Problem, problem}
+use Rattle.procedure.specs.ProblemLaws.{opposed-one-name}
 use Rattle.procedure.specs.SetTests.{clash, lowestConj, lowestDisj, box, lacking, existentials}
 use Rattle.procedure.specs.SetTestLaws.{clash-found, lowestConj-some, lowestDisj-some, box-mem, lacking-mem, existentials-mem}
-use Rattle.procedure.specs.Graph.{Capacity}
 use Rattle.procedure.specs.Tableau.{successor}
-use Rattle.procedure.proofs.Structure.{Structure, Satisfies}
+use Rattle.procedure.proofs.Structure.{Structure, Satisfies, Exclusive}
 
 module _ (t : Table) (M : Structure t) where
   -- ---- sets
@@ -37,13 +39,6 @@ module _ (t : Table) (M : Structure t) where
   satisfies-fromList ks d h k b m = h k (fromList-mem k ks m)
 
   module _ (s : RowSet) (d : M .Element) (holds : Satisfies t M s d) where
-    -- ---- clash
-
-    pub clash-unsatisfied : T (clash t s) → ⊥
-    clash-unsatisfied h =
-        let (j, k, a, jl, kl, jm, km, je, ke) = clash-found t s h in
-        M .opposites j k a d je ke (holds j jl jm) (holds k kl km)
-
     -- ---- unfinished rows
 
     pub conj-satisfied : (lr : ℕ × ℕ) → lowestConj t s ≡ some lr → Satisfies t M (insert (lr .0) (insert (lr .1) s)) d
@@ -69,16 +64,29 @@ module _ (t : Table) (M : Structure t) where
     pub lacking-satisfied : (ρ : ℕ) (p : M .Element) (q : RowSet) → M .Leads ρ p d → Satisfies t M (lacking t s (inverse ρ) q) p
     lacking-satisfied ρ p q r l b m = box-satisfied (inverse ρ) p (M .back ρ p d r) l (lacking-mem t s (inverse ρ) q l m .0)
 
-    pub successor-satisfied : (c : Capacity) (tbox wanted : List ℕ) → ((k : ℕ) → List·Memᴰ k tbox → (x : M .Element) → M .At k x)
-        → (e : ℕ × ℕ) → List·Memᴰ e (existentials t s)
-        → (x : M .Element) × M .Leads (e .0) d x × Satisfies t M (successor t c tbox wanted s e) x
-    unfolding successor
-    successor-satisfied c tbox wanted obeys e u =
-        let (k, b, m, q) = existentials-mem t s e u in
-        let (x, r, h) = M .there k (e .0) (e .1) d q (holds k b m) in (
-          x,
-          r,
-          satisfies-union (insert (e .1) (fromList (box t s (e .0)))) (fromList tbox) x
-              (satisfies-insert (e .1) (fromList (box t s (e .0))) x h (satisfies-fromList (box t s (e .0)) x (box-satisfied (e .0) x r)))
-              (satisfies-fromList tbox x (λ j v. obeys j v x)),
-        )
+-- ---- a problem
+
+module _ (P : Problem) (M : Structure (P .table)) where
+  pub clash-unsatisfied : Exclusive P M → (s : RowSet) (d : M .Element) → Satisfies (P .table) M s d → T (clash P s) → ⊥
+  clash-unsatisfied exclusive s d holds h =
+      let (j, k, jl, kl, jm, km, o) = clash-found P s h in
+      exclusive j k d o (holds j jl jm) (holds k kl km)
+
+  pub successor-satisfied : ((x : M .Element) → Satisfies (P .table) M (P .rules) x) → (s : RowSet) (d : M .Element) → Satisfies (P .table) M s d
+      → (e : ℕ × ℕ) → List·Memᴰ e (existentials (P .table) s)
+      → (x : M .Element) × M .Leads (e .0) d x × Satisfies (P .table) M (successor P s e) x
+  unfolding successor
+  successor-satisfied obeys s d holds e u =
+      let t = P .table in
+      let (k, b, m, q) = existentials-mem t s e u in
+      let (x, r, h) = M .there k (e .0) (e .1) d q (holds k b m) in
+      let boxed = fromList (box t s (e .0)) in (
+        x,
+        r,
+        satisfies-union t M (insert (e .1) boxed) (P .rules) x
+            (satisfies-insert t M (e .1) boxed x h (satisfies-fromList t M (box t s (e .0)) x (box-satisfied t M s d holds (e .0) x r))) (obeys x),
+      )
+
+-- the test of names is exclusive in every structure
+pub names-exclusive : (t : Table) (tbox wanted : List ℕ) (M : Structure t) → Exclusive (problem t tbox wanted) M
+names-exclusive t tbox wanted M j k d o p q = let (a, e, f) = opposed-one-name t j k o in M .opposites j k a d e f p q

@@ -1,28 +1,27 @@
--- What a run of the procedure is about, gathered in one record: a well-formed table with its rules and wanted rows,
--- the places lent, and a structure in which the rules hold.
+-- What the correctness of a run is about, gathered in one record: a well-posed problem, the places lent, and a structure in which
+-- the problem's test is exclusive and its rules hold.
 -- The structure with no element is one; so the shape of the graph needs no world.
 -- Assumes nothing.
-use mathlib.Core.List.{List, List·Memᴰ}
 use Prim.Native.Nat.{ℕ}
 use lib.ListN.{length}
-use Rattle.concepts.specs.Concept.{Table, WellFormed}
+use Rattle.procedure.specs.Problem.{Problem, WellPosed}
 use Rattle.procedure.specs.Graph.{Capacity}
-use Rattle.procedure.proofs.Structure.{Structure}
+use Rattle.procedure.proofs.Structure.{Structure, Satisfies, Exclusive}
 
 pub record Setting : Type 1 where
-  pub table : Table
-  pub tbox : List ℕ
-  pub wanted : List ℕ
+  pub problem : Problem
   pub capacity : Capacity
-  pub wellFormed : WellFormed table tbox wanted
-  pub structure : Structure table
+  pub wellPosed : WellPosed problem
+  pub structure : Structure (problem .table)
+  -- no element has both of two rows that the test calls opposed
+  pub exclusive : Exclusive problem structure
   -- every rule holds at each element
-  pub rules : (k : ℕ) → List·Memᴰ k tbox → (d : structure .Element) → structure .At k d
+  pub rules : (d : structure .Element) → Satisfies (problem .table) structure (problem .rules) d
   -- where there is an element there is a member of the kit
-  pub kit : structure .Element → (d : structure .Element) × ((k : ℕ) → List·Memᴰ k wanted → structure .At k d)
+  pub kit : structure .Element → (d : structure .Element) × Satisfies (problem .table) structure (problem .wanted) d
 
 abbrev pub rowCount : Setting → ℕ
-rowCount S = length (S .table)
+rowCount S = length (S .problem .table)
 
 abbrev pub Element : Setting → Type 0
 Element S = S .structure .Element

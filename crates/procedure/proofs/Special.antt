@@ -13,12 +13,14 @@ use native.Mathlib.Omega.{arith}
 use lib.Dec.{T, eqb, T-not}
 use Rattle.concepts.specs.Tests.{by-test}
 use Rattle.concepts.specs.Role.{inverse, inverse-high}
-use Rattle.concepts.specs.RowSet.{RowSet, empty, fromList, Subset}
+use Rattle.concepts.specs.RowSet.{RowSet, empty, Subset}
 use Rattle.procedure.specs.Status.{Status, unset, toosmall, isUnset, isLive}
 use Rattle.procedure.specs.SetTests.{clash, unfinished, lacking}
 use Rattle.procedure.specs.SetTestLaws.{lacking-no-role, lacking-lt, lacking-witness}
-use Rattle.procedure.specs.Graph.{Link, unlinked, toState, lapsed, Node, Graph, reached, _>>=_, appendNode, appendEdge, appendAlternative, addNode, addAlternative, withLink, nodeAt, nodeCount, children, findState, setLink}
-use Rattle.procedure.specs.GraphLaws.{Sure, sure-bind, sure-addNode, sure-addEdge, sure-addAlternative, count-append, node-old, node-new, node-same, node-other, Child, children-edges, children-own, children-other, AlternativeOf, alternative-new, has-alternative, find-state}
+use Rattle.procedure.specs.Graph.{Link, unlinked, toState, lapsed, Node, Graph, reached, _>>=_, appendNode, appendEdge, appendAlternative, addNode, addAlternative}
+use Rattle.procedure.specs.Graph.{withLink, nodeAt, nodeCount, children, findState, setLink}
+use Rattle.procedure.specs.GraphLaws.{Sure, sure-bind, sure-addNode, sure-addEdge, sure-addAlternative, count-append, node-old, node-new, node-same, node-other, Child}
+use Rattle.procedure.specs.GraphLaws.{children-edges, children-own, children-other, AlternativeOf, alternative-new, has-alternative, find-state}
 use Rattle.procedure.specs.Tableau.{below, state, joinAlternatives, linkTo, linkFound, linkSpecial, noRole}
 use Rattle.procedure.proofs.Setting.{Setting, rowCount}
 use Rattle.procedure.proofs.Semantics.{lacking-satisfied}
@@ -52,7 +54,7 @@ module _ (S : Setting) where
 
   -- ---- a new node that is no state
 
-  module _ (P : ℕ → Type 0) (g : Graph) (p ρ : ℕ) (s : RowSet) (I : Inv S g) (pl : Place S g p ρ) (bounded : s < 2 ^ rowCount S) (rules : Subset (fromList (S .tbox)) s) where
+  module _ (P : ℕ → Type 0) (g : Graph) (p ρ : ℕ) (s : RowSet) (I : Inv S g) (pl : Place S g p ρ) (bounded : s < 2 ^ rowCount S) (rules : Subset (S .problem .rules) s) where
     pub made-node : (v : Status) (l : Link) → QuietBut S P g → nodeCount g < S .capacity .nodeRoom
         → LinkShape S (appendNode (below p ρ s v l) g) (below p ρ s v l) l
         → BranchSays S (appendNode (below p ρ s v l) g) (nodeCount g) (below p ρ s v l) v
@@ -95,27 +97,27 @@ module _ (S : Setting) where
 
     module _ (Q : QuietBut S P g) where
       abbrev a : RowSet
-      a = lacking (S .table) s (inverse ρ) (nodeAt g p .rows)
+      a = lacking (S .problem .table) s (inverse ρ) (nodeAt g p .rows)
 
       -- the root's role is no row's, so the root lacks nothing
       above-not-root : T (not (eqb a empty)) → p ≢ 0
       above-not-root q e =
           let r : ρ ≡ noRole = pl .root e in
-          T-not (eqb a empty) q (rw (lacking-no-role (S .table) s (inverse ρ) (nodeAt g p .rows) (λ k σ l _ u. S .wellFormed .univRole k σ l u) (inverse-high ρ (omega arith))) tt)
+          T-not (eqb a empty) q (rw (lacking-no-role (S .problem .table) s (inverse ρ) (nodeAt g p .rows) (λ k σ l _ u. S .wellPosed .univRole k σ l u) (inverse-high ρ (omega arith))) tt)
 
       alternative-fact : T (not (eqb a empty)) → AlternativeFact S g p a
       alternative-fact q = record {
         there = pl .there;
         notRoot = above-not-root q;
-        bounded = lacking-lt (S .table) s (S .wellFormed .ordered) (inverse ρ) (nodeAt g p .rows);
-        extra = lacking-witness (S .table) s (S .wellFormed .ordered) (inverse ρ) (nodeAt g p .rows) q;
+        bounded = lacking-lt (S .problem .table) s (S .wellPosed .ordered) (inverse ρ) (nodeAt g p .rows);
+        extra = lacking-witness (S .problem .table) s (S .wellPosed .ordered) (inverse ρ) (nodeAt g p .rows) q;
       }
 
       -- whoever has a successor with the set s satisfies a
       blocks : T (not (eqb a empty)) → (h : Graph) → AlternativeOf h p a → nodeAt h p .rows ≡ nodeAt g p .rows → Blocked S h (below p ρ s toosmall lapsed)
       blocks q h m e = λ d b sd r sb. elim r [
         | inl z ↦ absurd (above-not-root q z)
-        | inr w ↦ (a, m, lacking-satisfied (S .table) (S .structure) s b sb ρ d (nodeAt g p .rows) w)
+        | inr w ↦ (a, m, lacking-satisfied (S .problem .table) (S .structure) s b sb ρ d (nodeAt g p .rows) w)
       ]
 
     -- the alternative is there already, or the state above is settled
@@ -124,11 +126,11 @@ module _ (S : Setting) where
         → Made P g p ρ s (appendNode (below p ρ s toosmall lapsed) g)
     made-lapsed Q room C = made-node toosmall lapsed Q room refl C (inr tt)
 
-  made-alternative : (P : ℕ → Type 0) (g : Graph) (p ρ : ℕ) (s : RowSet) → (I : Inv S g) (pl : Place S g p ρ) → s < 2 ^ rowCount S → Subset (fromList (S .tbox)) s → (Q : QuietBut S P g)
-      → T (not (eqb (lacking (S .table) s (inverse ρ) (nodeAt g p .rows)) empty)) → nodeCount g < S .capacity .nodeRoom
-      → Made P g p ρ s (appendAlternative p (lacking (S .table) s (inverse ρ) (nodeAt g p .rows)) (appendNode (below p ρ s toosmall lapsed) g))
+  made-alternative : (P : ℕ → Type 0) (g : Graph) (p ρ : ℕ) (s : RowSet) → (I : Inv S g) (pl : Place S g p ρ) → s < 2 ^ rowCount S → Subset (S .problem .rules) s → (Q : QuietBut S P g)
+      → T (not (eqb (lacking (S .problem .table) s (inverse ρ) (nodeAt g p .rows)) empty)) → nodeCount g < S .capacity .nodeRoom
+      → Made P g p ρ s (appendAlternative p (lacking (S .problem .table) s (inverse ρ) (nodeAt g p .rows)) (appendNode (below p ρ s toosmall lapsed) g))
   made-alternative P g p ρ s I pl bd rl Q q room =
-      let x = lacking (S .table) s (inverse ρ) (nodeAt g p .rows) in
+      let x = lacking (S .problem .table) s (inverse ρ) (nodeAt g p .rows) in
       -- the two records do not meet, so the alternative may be taken to come first
       let k = appendAlternative p x g in
       let n = below p ρ s toosmall lapsed in
@@ -145,18 +147,18 @@ module _ (S : Setting) where
         fresh = M .fresh;
       }
 
-  pub lapsed-made : (P : ℕ → Type 0) (g : Graph) (p ρ : ℕ) (s : RowSet) → (I : Inv S g) (pl : Place S g p ρ) → s < 2 ^ rowCount S → Subset (fromList (S .tbox)) s → (Q : QuietBut S P g)
-      → T (not (eqb (lacking (S .table) s (inverse ρ) (nodeAt g p .rows)) empty))
-      → Sure (Made P g p ρ s) (addNode (S .capacity) (below p ρ s toosmall lapsed) g >>= joinAlternatives (S .table) (S .capacity) p (lacking (S .table) s (inverse ρ) (nodeAt g p .rows)))
+  pub lapsed-made : (P : ℕ → Type 0) (g : Graph) (p ρ : ℕ) (s : RowSet) → (I : Inv S g) (pl : Place S g p ρ) → s < 2 ^ rowCount S → Subset (S .problem .rules) s → (Q : QuietBut S P g)
+      → T (not (eqb (lacking (S .problem .table) s (inverse ρ) (nodeAt g p .rows)) empty))
+      → Sure (Made P g p ρ s) (addNode (S .capacity) (below p ρ s toosmall lapsed) g >>= joinAlternatives (S .capacity) p (lacking (S .problem .table) s (inverse ρ) (nodeAt g p .rows)))
   unfolding joinAlternatives
   lapsed-made P g p ρ s I pl bd rl Q q =
-      let x = lacking (S .table) s (inverse ρ) (nodeAt g p .rows) in
+      let x = lacking (S .problem .table) s (inverse ρ) (nodeAt g p .rows) in
       let n = below p ρ s toosmall lapsed in
       let h = appendNode n g in
       let old = node-old n g p (pl .there) in
-      sure-bind (λ k. (k ≡ h) × (nodeCount g < S .capacity .nodeRoom)) (Made P g p ρ s) (addNode (S .capacity) n g) (joinAlternatives (S .table) (S .capacity) p x)
+      sure-bind (λ k. (k ≡ h) × (nodeCount g < S .capacity .nodeRoom)) (Made P g p ρ s) (addNode (S .capacity) n g) (joinAlternatives (S .capacity) p x)
       (sure-addNode (λ k. (k ≡ h) × (nodeCount g < S .capacity .nodeRoom)) (S .capacity) n g (λ r. (refl, r)))
-      (λ k e. subst (λ (k : Graph). Sure (Made P g p ρ s) (joinAlternatives (S .table) (S .capacity) p x k)) (sym (e .0))
+      (λ k e. subst (λ (k : Graph). Sure (Made P g p ρ s) (joinAlternatives (S .capacity) p x k)) (sym (e .0))
       (by-test (Sure (Made P g p ρ s)) (isLive (nodeAt h p .status)) (addAlternative (S .capacity) p x h) (reached h)
       (λ l. sure-addAlternative (Made P g p ρ s) (S .capacity) p x h
       (λ b. made-lapsed P g p ρ s I pl bd rl Q (e .1) (λ _. blocks P g p ρ s I pl bd rl Q q h (has-alternative p x h b) (ap (λ (c : Node). c .rows) old)))
@@ -180,11 +182,12 @@ module _ (S : Setting) where
     pub live : T (isLive (nodeAt h (nodeCount g) .status))
     pub edge : Child h (nodeCount g) state
 
-  module _ (P : ℕ → Type 0) (g : Graph) (p ρ : ℕ) (s : RowSet) (I : Inv S g) (pl : Place S g p ρ) (back : lacking (S .table) s (inverse ρ) (nodeAt g p .rows) ≡ empty) where
+  module _ (P : ℕ → Type 0) (g : Graph) (p ρ : ℕ) (s : RowSet) (I : Inv S g) (pl : Place S g p ρ) (back : lacking (S .problem .table) s (inverse ρ) (nodeAt g p .rows) ≡ empty) where
     abbrev z : ℕ
     z = nodeCount g
 
-    link-started : (y : ℕ) (h : Graph) → Unlinked P g p ρ s h → y < nodeCount h → y ≢ 0 → nodeAt h y .isState ≡ true → nodeAt h y .rows ≡ s → Sure (Started P g p ρ s) (linkTo (S .table) (S .capacity) z y h)
+    link-started : (y : ℕ) (h : Graph) → Unlinked P g p ρ s h → y < nodeCount h → y ≢ 0 → nodeAt h y .isState ≡ true → nodeAt h y .rows ≡ s
+        → Sure (Started P g p ρ s) (linkTo (S .capacity) z y h)
     unfolding linkTo
     link-started y h U hy y0 ys yr =
         let Md = U .made in
@@ -200,7 +203,7 @@ module _ (S : Setting) where
           notRoot = y0;
           isState = ys;
           rows = yr ∙ sym (F .rows);
-          back = subst (λ (w : ℕ). lacking (S .table) (m .rows) (inverse (m .prl)) (nodeAt h w .rows) ≡ empty) (sym (F .pst)) (rw (F .rows, F .prl, pz) back);
+          back = subst (λ (w : ℕ). lacking (S .problem .table) (m .rows) (inverse (m .prl)) (nodeAt h w .rows) ≡ empty) (sym (F .pst)) (rw (F .rows, F .prl, pz) back);
         } in
         let B = branch-fact S h (Md .inv) z (F .there) (F .noState) .0 in
         let fact : Fact S h z n′ = record {
@@ -216,7 +219,8 @@ module _ (S : Setting) where
         let ns1 : nodeAt k1 z .isState ≡ false = ap (λ (b : Node). b .isState) here ∙ F .noState in
         let lk1 : nodeAt k1 z .link ≡ toState y = ap (λ (b : Node). b .link) here in
         let ys1 : nodeAt k1 y .isState ≡ true = ap (λ (b : Node). b .isState) (node-other z n′ h y zy) ∙ ys in
-        let Q1 : QuietBut S (λ x. P x ⊎ (x ≡ z)) k1 = quiet-replace S (λ x. P x ⊎ (x ≡ z)) (λ x. P x ⊎ (x ≡ z)) z n′ h (F .there) (Md .quiet) (λ x d q. q) (inl (inr refl)) (inl refl) in
+        let Q1 : QuietBut S (λ x. P x ⊎ (x ≡ z)) k1 =
+        quiet-replace S (λ x. P x ⊎ (x ≡ z)) (λ x. P x ⊎ (x ≡ z)) z n′ h (F .there) (Md .quiet) (λ x d q. q) (inl (inr refl)) (inl refl) in
         let k2 = appendEdge z y k1 in
         let notState : nodeAt k1 z .isState ≡ true → T (isUnset (nodeAt k1 z .status)) = λ e. absurd (absurd-bool (nodeAt k1 z .isState) e ns1) in
         let G2 : Grows k1 k2 = grows-edge z y k1 notState in
@@ -240,7 +244,7 @@ module _ (S : Setting) where
         })
 
     -- the state with this set is made
-    with-state : (h : Graph) → Unlinked P g p ρ s h → s < 2 ^ rowCount S → Subset (fromList (S .tbox)) s → T (not (clash (S .table) s)) → T (not (unfinished (S .table) s))
+    with-state : (h : Graph) → Unlinked P g p ρ s h → s < 2 ^ rowCount S → Subset (S .problem .rules) s → T (not (clash (S .problem) s)) → T (not (unfinished (S .problem .table) s))
         → nodeCount h < S .capacity .nodeRoom → Unlinked P g p ρ s (appendNode (state s) h)
     with-state h U bd rl cf fin room =
         let Md = U .made in
@@ -279,13 +283,13 @@ module _ (S : Setting) where
           noChild = children-edges k h refl z ∙ U .noChild;
         }
 
-    pub special-started : QuietBut S P g → s < 2 ^ rowCount S → Subset (fromList (S .tbox)) s → T (not (clash (S .table) s)) → T (not (unfinished (S .table) s))
-        → Sure (Started P g p ρ s) (linkSpecial (S .table) (S .capacity) p ρ s g)
+    pub special-started : QuietBut S P g → s < 2 ^ rowCount S → Subset (S .problem .rules) s → T (not (clash (S .problem) s)) → T (not (unfinished (S .problem .table) s))
+        → Sure (Started P g p ρ s) (linkSpecial (S .capacity) p ρ s g)
     unfolding linkSpecial linkFound
     special-started Q bd rl cf fin =
         let n = below p ρ s unset unlinked in
         let P′ : ℕ → Type 0 = λ x. P x ⊎ (x ≡ z) in
-        sure-bind (Unlinked P g p ρ s) (Started P g p ρ s) (addNode (S .capacity) n g) (λ h. linkFound (S .table) (S .capacity) z s (findState s h) h)
+        sure-bind (Unlinked P g p ρ s) (Started P g p ρ s) (addNode (S .capacity) n g) (λ h. linkFound (S .capacity) z s (findState s h) h)
         (sure-addNode (Unlinked P g p ρ s) (S .capacity) n g (λ room. record {
           made = made-node P′ g p ρ s I pl bd rl unset unlinked (quiet-weaken S P P′ g (λ x q. inl q) Q) room tt tt (inl (inr refl));
           link = ap (λ (a : Node). a .link) (node-new n g);
@@ -294,13 +298,13 @@ module _ (S : Setting) where
         }))
         (λ h U. found h U (findState s h) refl)
       where
-        found : (h : Graph) → Unlinked P g p ρ s h → (o : Option ℕ) → findState s h ≡ o → Sure (Started P g p ρ s) (linkFound (S .table) (S .capacity) z s o h)
+        found : (h : Graph) → Unlinked P g p ρ s h → (o : Option ℕ) → findState s h ≡ o → Sure (Started P g p ρ s) (linkFound (S .capacity) z s o h)
         found h U (some y) e = let (hy, y0, ys, yr) = find-state s h y e in link-started y h U hy y0 ys yr
         found h U none e =
             let k = appendNode (state s) h in
-            sure-bind (λ u. (u ≡ k) × (nodeCount h < S .capacity .nodeRoom)) (Started P g p ρ s) (addNode (S .capacity) (state s) h) (linkTo (S .table) (S .capacity) z (nodeCount h))
+            sure-bind (λ u. (u ≡ k) × (nodeCount h < S .capacity .nodeRoom)) (Started P g p ρ s) (addNode (S .capacity) (state s) h) (linkTo (S .capacity) z (nodeCount h))
             (sure-addNode (λ u. (u ≡ k) × (nodeCount h < S .capacity .nodeRoom)) (S .capacity) (state s) h (λ r. (refl, r)))
-            (λ u e. subst (λ (u : Graph). Sure (Started P g p ρ s) (linkTo (S .table) (S .capacity) z (nodeCount h) u)) (sym (e .0))
+            (λ u e. subst (λ (u : Graph). Sure (Started P g p ρ s) (linkTo (S .capacity) z (nodeCount h) u)) (sym (e .0))
             (let hz = U .made .fresh .there in
             link-started (nodeCount h) k (with-state h U bd rl cf fin (e .1)) (omega (arith, count-append (state s) h)) (λ (q : nodeCount h ≡ 0). omega arith)
             (ap (λ (a : Node). a .isState) (node-new (state s) h)) (ap (λ (a : Node). a .rows) (node-new (state s) h))))

@@ -1,5 +1,7 @@
 -- Structures: as much of the meaning of ALCI as "cannot" rests on, over any elements.
--- A finite world is one, a world on all the whole numbers is another; only half of each clause is asked.
+--
+-- In order: a structure; where a set of rows holds; tests that are exclusive in it.
+-- A finite world is a structure, a world on all the whole numbers is another; only half of each clause is asked.
 -- Assumes nothing.
 use mathlib.Core.Path.{_≡_}
 use mathlib.Core.Logic.{_⊎_}
@@ -9,6 +11,7 @@ use lib.ListN.{length}
 use Rattle.concepts.specs.Role.{inverse}
 use Rattle.concepts.specs.Concept.{atomic, negated, conj, disj, univ, exist, Table, conceptAt}
 use Rattle.concepts.specs.RowSet.{RowSet, mem}
+use Rattle.procedure.specs.Problem.{Problem}
 
 pub record Structure (t : Table) : Type 1 where
   pub Element : Type 0
@@ -24,3 +27,7 @@ pub record Structure (t : Table) : Type 1 where
 -- every row of the set holds at d
 abbrev pub Satisfies : (t : Table) (M : Structure t) → RowSet → M .Element → Type 0
 Satisfies t M s d = (k : ℕ) → k < length t → T (mem k s) → M .At k d
+
+-- no element has two rows that the problem's test calls opposed
+abbrev pub Exclusive : (P : Problem) (M : Structure (P .table)) → Type 0
+Exclusive P M = (j k : ℕ) (d : M .Element) → T (P .opposed j k) → M .At j d → M .At k d → ⊥

@@ -6,6 +6,7 @@ use mathlib.Core.Path.{_≡_, refl, sym, ap, _∙_, ap₂, subst, transport}
 use mathlib.Core.Bool.{Bool, true, false, _||_}
 use mathlib.Core.List.{List·Memᴰ, List·Memᴰ·head, List·Memᴰ·tail, Memᴰ·map, Memᴰ·of-map}
 use mathlib.Core.Logic.{_⊎_, inl, inr, ⊎-swap}
+use mathlib.Core.Option.{Option, none, some}
 use Prim.Native.Nat.{ℕ, zero, suc, _/_, _%_, _<_}
 use native.Mathlib.Nat.{not-suc-le-zero}
 use native.Mathlib.Decide.{ℕ-discrete}
@@ -16,7 +17,8 @@ use borrow.Author.Tests.{eq-eqb, ne-eqb}
 use Rattle.concepts.specs.Tests.{or-cases, or-left, or-right}
 use Rattle.concepts.specs.ListLaws.{any-mem, mem-any}
 use Rattle.concepts.specs.Role.{inverse, inverse-even, inverse-odd, inverse-inverse}
-use Rattle.concepts.specs.Concept.{Concept, atomic, negated, conj, disj, univ, exist, Table, conceptAt, arguments, Ordered}
+use Rattle.concepts.specs.Concept.{Concept, atomic, negated, conj, disj, univ, exist, asAtomic, Table, conceptAt, arguments, Ordered}
+use Rattle.concepts.specs.ConceptLaws.{asAtomic-some}
 use Rattle.concepts.specs.RowSet.{RowSet, mem, members, empty}
 use Rattle.concepts.specs.RowSetLaws.{mem-members, members-mem}
 use Rattle.meaning.specs.Meaning.{finite, leads, Means, Holds}
@@ -43,12 +45,11 @@ pub record Hintikka (t : Table) (x : Example) : Type 0 where
   pub backward : (d ρ e : ℕ) → d < size x → e < size x → T (listed (x .links) d ρ e) → Along t (setAt x e) (inverse ρ) (setAt x d)
 
 isAtomic-path : (a : ℕ) (c : Concept) → T (isAtomic a c) → c ≡ atomic a
-isAtomic-path a (atomic b) h = ap atomic (sym (eqb→eq a b h))
-isAtomic-path a (negated b) h = absurd h
-isAtomic-path a (conj l r) h = absurd h
-isAtomic-path a (disj l r) h = absurd h
-isAtomic-path a (univ ρ l) h = absurd h
-isAtomic-path a (exist ρ l) h = absurd h
+isAtomic-path a c h = by-view (asAtomic c) refl h
+  where
+    by-view : (o : Option ℕ) → asAtomic c ≡ o → T (elim o as (λ _. Bool) [ some b ↦ eqb a b | none ↦ false ]) → c ≡ atomic a
+    by-view none p h = absurd h
+    by-view (some b) p h = asAtomic-some c b p ∙ ap atomic (sym (eqb→eq a b h))
 
 -- a role code is even or odd
 parity : (ρ : ℕ) → (ρ % 2 ≡ 0) ⊎ (ρ % 2 ≡ 1)

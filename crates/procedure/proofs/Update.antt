@@ -33,15 +33,17 @@ module _ (S : Setting) where
     open-branch e = subst (λ (v : Status). BranchSays S g x (nodeAt g x) v) isOpen′ (branch-fact S g I x hx e .1)
 
     by-children : nodeAt g x .isState ≡ false → (l : Link) → nodeAt g x .link ≡ l → ((y : ℕ) → l ≢ toState y) → Judged S P g x (judgeBranch x g)
-    by-children e unlinked f d = branch-judged S P g x I hx e (λ y q. d y (sym f ∙ q)) (subst (λ (l : Link). OpenSays S g x (nodeAt g x) l) f (open-branch e)) (open-live (nodeAt g x .status) isOpen′) Q
-    by-children e lapsed f d = branch-judged S P g x I hx e (λ y q. d y (sym f ∙ q)) (subst (λ (l : Link). OpenSays S g x (nodeAt g x) l) f (open-branch e)) (open-live (nodeAt g x .status) isOpen′) Q
+    by-children e unlinked f d =
+        branch-judged S P g x I hx e (λ y q. d y (sym f ∙ q)) (subst (λ (l : Link). OpenSays S g x (nodeAt g x) l) f (open-branch e)) (open-live (nodeAt g x .status) isOpen′) Q
+    by-children e lapsed f d =
+        branch-judged S P g x I hx e (λ y q. d y (sym f ∙ q)) (subst (λ (l : Link). OpenSays S g x (nodeAt g x) l) f (open-branch e)) (open-live (nodeAt g x .status) isOpen′) Q
     by-children e (toState y) f d = absurd (d y refl)
 
-    judged-by : (l : Link) → nodeAt g x .link ≡ l → Sure (Judged S P g x) (judgeBy (put (S .table) (S .capacity)) x l g)
+    judged-by : (l : Link) → nodeAt g x .link ≡ l → Sure (Judged S P g x) (judgeBy (put (S .problem) (S .capacity)) x l g)
     unfolding judgeBy
     judged-by (toState y) f =
         let L : LinkShape S g (nodeAt g x) (toState y) = subst (λ (l : Link). LinkShape S g (nodeAt g x) l) f (I .fact x hx .link) in
-        linked-judged S (put (S .table) (S .capacity)) (suc (rowCount S)) (put-right S) P g x y I hx f (open-live (nodeAt g x .status) isOpen′)
+        linked-judged S (put (S .problem) (S .capacity)) (suc (rowCount S)) (put-right S) P g x y I hx f (open-live (nodeAt g x .status) isOpen′)
         (subst (λ (l : Link). OpenSays S g x (nodeAt g x) l) f (open-branch (L .0))) (omega (arith, missing-all (rowCount S) (nodeAt g x .rows))) Q (nodeAt g y .status) refl
     judged-by lapsed f =
         by-children (subst (λ (l : Link). LinkShape S g (nodeAt g x) l) f (I .fact x hx .link)) lapsed f (λ y q. let z : _≡_ {A = ℕ} 0 1 = cc in omega arith)
@@ -57,7 +59,7 @@ module _ (S : Setting) where
         let L : LinkShape S g (nodeAt g x) (toState y) = subst (λ (l : Link). LinkShape S g (nodeAt g x) l) f (I .fact x hx .link) in
         subst (λ (l : Link). OpenSays S g x (nodeAt g x) l) f (open-branch (L .0))
 
-    pub open-judged : Sure (Judged S P g x) (judge (put (S .table) (S .capacity)) x g)
+    pub open-judged : Sure (Judged S P g x) (judge (put (S .problem) (S .capacity)) x g)
     unfolding judge
     open-judged = judged-by (nodeAt g x .link) refl
 
@@ -77,7 +79,8 @@ module _ (S : Setting) where
   Enough f g = S .capacity .nodeRoom < settled g + f
 
   abbrev UpdateRight : ℕ → Type 1
-  UpdateRight f = (P : ℕ → Type 0) (x : ℕ) (g : Graph) → Inv S g → QuietBut S (λ y. P y ⊎ Due (λ w. w ≡ x) g y) g → Enough f g → Sure (Updated P g) (updateWithin (S .table) (S .capacity) f x g)
+  UpdateRight f = (P : ℕ → Type 0) (x : ℕ) (g : Graph) → Inv S g → QuietBut S (λ y. P y ⊎ Due (λ w. w ≡ x) g y) g → Enough f g
+      → Sure (Updated P g) (updateWithin (S .problem) (S .capacity) f x g)
 
   -- ---- the parents, one after the other
 
@@ -87,10 +90,10 @@ module _ (S : Setting) where
       grows : Grows g h
       quiet : QuietBut S (λ y. P y ⊎ Due (λ w. List·Memᴰ w todo) h y) h
 
-    turn : (x : ℕ) (todo : List ℕ) (h : Graph) → Turn (x ∷ todo) h → Sure (Turn todo) (updateWithin (S .table) (S .capacity) f x h)
+    turn : (x : ℕ) (todo : List ℕ) (h : Graph) → Turn (x ∷ todo) h → Sure (Turn todo) (updateWithin (S .problem) (S .capacity) f x h)
     turn x todo h A =
         let R : ℕ → Type 0 = λ y. P y ⊎ Due (λ w. List·Memᴰ w todo) h y in
-        sure-map (Updated R h) (Turn todo) (updateWithin (S .table) (S .capacity) f x h)
+        sure-map (Updated R h) (Turn todo) (updateWithin (S .problem) (S .capacity) f x h)
         (right R x h (A .inv)
         (quiet-weaken S (λ y. P y ⊎ Due (λ w. List·Memᴰ w (x ∷ todo)) h y) (λ y. R y ⊎ Due (λ w. w ≡ x) h y) h
         (λ y q. elim q [
@@ -105,11 +108,11 @@ module _ (S : Setting) where
               (λ y q. elim q [ inl p ↦ inl p | inr d ↦ inr (d .0, B .grows .node y (set-there h y (d .1)) .set (d .1)) ]) (B .quiet);
         })
 
-    pub parents-updated : (x : ℕ) → Inv S g → QuietBut S (λ y. P y ⊎ Excused S g x y) g → Sure (Updated P g) (updateParents (S .table) (S .capacity) (λ y k. updateWithin (S .table) (S .capacity) f y k) x g)
+    pub parents-updated : (x : ℕ) → Inv S g → QuietBut S (λ y. P y ⊎ Excused S g x y) g → Sure (Updated P g) (updateParents (λ y k. updateWithin (S .problem) (S .capacity) f y k) x g)
     unfolding updateParents
     parents-updated x I Q =
-        sure-map (Turn []) (Updated P g) (forEach (λ y k. updateWithin (S .table) (S .capacity) f y k) (parents g x) g)
-        (sure-forEach Turn (λ y k. updateWithin (S .table) (S .capacity) f y k) turn (parents g x) g
+        sure-map (Turn []) (Updated P g) (forEach (λ y k. updateWithin (S .problem) (S .capacity) f y k) (parents g x) g)
+        (sure-forEach Turn (λ y k. updateWithin (S .problem) (S .capacity) f y k) turn (parents g x) g
         (record {
           inv = I;
           grows = grows-refl g;
@@ -129,15 +132,15 @@ module _ (S : Setting) where
   update-right zero P x g I Q enough = omega (arith, enough, I .fits, count-le (λ n. not (isLive (n .status))) (g .nodes))
   update-right (suc f) P x g I Q enough =
       by-test (Sure (Updated P g)) (isOpen (nodeAt g x .status))
-      (judge (put (S .table) (S .capacity)) x g >>= updateChanged (S .table) (S .capacity) (λ y k. updateWithin (S .table) (S .capacity) f y k) x)
+      (judge (put (S .problem) (S .capacity)) x g >>= updateChanged (λ y k. updateWithin (S .problem) (S .capacity) f y k) x)
       (reached g)
       (λ b.
       let e = is-open (nodeAt g x .status) b in
       let hx = set-there g x (open-set (nodeAt g x .status) e) in
-      sure-bind (Judged S P g x) (Updated P g) (judge (put (S .table) (S .capacity)) x g)
-      (updateChanged (S .table) (S .capacity) (λ y k. updateWithin (S .table) (S .capacity) f y k) x)
+      sure-bind (Judged S P g x) (Updated P g) (judge (put (S .problem) (S .capacity)) x g)
+      (updateChanged (λ y k. updateWithin (S .problem) (S .capacity) f y k) x)
       (open-judged P g x I hx e (quiet-weaken S (λ y. P y ⊎ Due (λ w. w ≡ x) g y) (λ y. P y ⊎ (y ≡ x)) g (λ y q. elim q [ inl p ↦ inl p | inr d ↦ inr (d .0) ]) Q))
-      (λ h J′. by-test (Sure (Updated P g)) (isOpen (nodeAt h x .status)) (reached h) (updateParents (S .table) (S .capacity) (λ y k. updateWithin (S .table) (S .capacity) f y k) x h)
+      (λ h J′. by-test (Sure (Updated P g)) (isOpen (nodeAt h x .status)) (reached h) (updateParents (λ y k. updateWithin (S .problem) (S .capacity) f y k) x h)
       (λ o. record {
         inv = J′ .inv;
         grows = J′ .grows;
@@ -147,7 +150,7 @@ module _ (S : Setting) where
       (λ o.
       let s = not-open-settled (nodeAt h x .status) o (J′ .set) in
       let rises = settled-rises g h (J′ .grows) x hx (open-live (nodeAt g x .status) e) s in
-      sure-map (Updated P h) (Updated P g) (updateParents (S .table) (S .capacity) (λ y k. updateWithin (S .table) (S .capacity) f y k) x h)
+      sure-map (Updated P h) (Updated P g) (updateParents (λ y k. updateWithin (S .problem) (S .capacity) f y k) x h)
       (parents-updated f (update-right f) P h (omega arith) x (J′ .inv) (J′ .quiet))
       (λ k B. record { inv = B .inv; grows = grows-trans (J′ .grows) (B .grows); quiet = B .quiet }))))
       (λ b. record {

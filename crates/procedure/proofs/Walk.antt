@@ -6,7 +6,8 @@
 -- Assumes nothing.
 use mathlib.Core.Path.{_≡_, refl, sym, ap, ap₂, _∙_, subst, subst₂}
 use mathlib.Core.Bool.{Bool}
-use mathlib.Core.List.{List, [], _∷_, _++_, List·Memᴰ, List·Memᴰ·head, List·Memᴰ·tail, List·Memᴰ·cases-cons, List·Memᴰ·not-nil, Memᴰ·append-left, Memᴰ·append-right, List·Memᴰ·append-cases, List·Memᴰ·eq-of-singleton}
+use mathlib.Core.List.{List, [], _∷_, _++_, List·Memᴰ, List·Memᴰ·head, List·Memᴰ·tail, List·Memᴰ·cases-cons, List·Memᴰ·not-nil, Memᴰ·append-left}
+use mathlib.Core.List.{Memᴰ·append-right, List·Memᴰ·append-cases, List·Memᴰ·eq-of-singleton}
 use mathlib.Core.Logic.{inl, inr}
 use mathlib.Core.Option.{some}
 use Prim.Native.Nat.{ℕ, zero, suc, _+_, _≤_, _<_}
@@ -20,7 +21,8 @@ use Rattle.concepts.specs.Begins.{Begins, begins-refl, begins-trans, begins-len
 use Rattle.concepts.specs.Counting.{Distinct, distinct-below, keyed, share, share-append}
 use Rattle.concepts.specs.Role.{inverse}
 use Rattle.concepts.specs.Concept.{exist, Table, conceptAt}
-use Rattle.concepts.specs.RowSet.{mem, Subset, fromList}
+use Rattle.concepts.specs.RowSet.{mem, Subset}
+use Rattle.procedure.specs.Problem.{Problem}
 use Rattle.procedure.specs.Status.{Status}
 use Rattle.procedure.specs.SetTests.{existentials}
 use Rattle.procedure.specs.Graph.{Edge, Graph, nodeAt, nodeCount, children}
@@ -218,18 +220,18 @@ module _ (t : Table) (g : Graph) (good : Status → Bool) where
   pub right-few : (w : Walk) → Right w → length (w .states) ≤ nodeCount g
   right-few w R = distinct-below (nodeCount g) (w .states) (R .distinct) (λ y m. R .usable y m .there)
 
-module _ (t : Table) (tbox wanted : List ℕ) (g : Graph) (good : Status → Bool) (codes : (k ρ l : ℕ) → conceptAt t k ≡ exist ρ l → ρ < 32)
-    (F : Finished t tbox wanted g good) where
+module _ (P : Problem) (g : Graph) (good : Status → Bool) (codes : (k ρ l : ℕ) → conceptAt (P .table) k ≡ exist ρ l → ρ < 32)
+    (F : Finished P g good) where
   -- ---- over a finished graph
 
   -- each child of a usable state is put for a row, and the walk may go down from it
-  pub rowsOf-good : (x : ℕ) → Usable g good x → (r : ℕ × ℕ) → List·Memᴰ r (rowsOf t g x) → GoodChild t g good x (r .0) (r .1)
+  pub rowsOf-good : (x : ℕ) → Usable g good x → (r : ℕ × ℕ) → List·Memᴰ r (rowsOf (P .table) g x) → GoodChild (P .table) g good x (r .0) (r .1)
   rowsOf-good x U r m =
-      let (i, h, k, p, q) = rowsOf-mem t g x r m in
-      let rs = existentials t (nodeAt g x .rows) in
+      let (i, h, k, p, q) = rowsOf-mem (P .table) g x r m in
+      let rs = existentials (P .table) (nodeAt g x .rows) in
       let A = F .answers x i (U .there) (U .state) (U .nonRoot) (U .isGood) k in
-      let (j, _, _, e) = existentials-mem t (nodeAt g x .rows) (getD rs i (0, 0)) (getD-mem rs i (0, 0) h) in
-      subst₂ (GoodChild t g good x) (sym p) (sym q) (record {
+      let (j, _, _, e) = existentials-mem (P .table) (nodeAt g x .rows) (getD rs i (0, 0)) (getD-mem rs i (0, 0) h) in
+      subst₂ (GoodChild (P .table) g good x) (sym p) (sym q) (record {
         code = codes j (getD rs i (0, 0) .0) (getD rs i (0, 0) .1) e;
         under = A .under;
         along = A .along;
@@ -237,49 +239,49 @@ module _ (t : Table) (tbox wanted : List ℕ) (g : Graph) (good : Status → Boo
       })
 
   -- and each existential row has such a child, with its argument
-  pub rowsOf-answer : (x ρ l : ℕ) → Usable g good x → List·Memᴰ (ρ, l) (existentials t (nodeAt g x .rows))
-      → (c : ℕ) × List·Memᴰ (ρ, c) (rowsOf t g x) × T (mem l (nodeAt g c .rows))
+  pub rowsOf-answer : (x ρ l : ℕ) → Usable g good x → List·Memᴰ (ρ, l) (existentials (P .table) (nodeAt g x .rows))
+      → (c : ℕ) × List·Memᴰ (ρ, c) (rowsOf (P .table) g x) × T (mem l (nodeAt g c .rows))
   rowsOf-answer x ρ l U m =
-      let rs = existentials t (nodeAt g x .rows) in
+      let rs = existentials (P .table) (nodeAt g x .rows) in
       let (i, h, e) = mem-getD rs (ρ, l) (0, 0) m in
       let k : i < length (children g x) = omega (arith, F .answers-length x (U .there) (U .state) (U .nonRoot) (U .isGood)) in
       let c = getD (children g x) i 0 in
       let A = F .answers x i (U .there) (U .state) (U .nonRoot) (U .isGood) k in (
         c,
-        subst (λ (r : ℕ × ℕ). List·Memᴰ (r .0, c) (rowsOf t g x)) e (mem-rowsOf t g x i h k),
+        subst (λ (r : ℕ × ℕ). List·Memᴰ (r .0, c) (rowsOf (P .table) g x)) e (mem-rowsOf (P .table) g x i h k),
         subst (λ (r : ℕ × ℕ). T (mem (r .1) (nodeAt g c .rows))) e (A .argument),
       )
 
-  walk-rows : (d : ℕ) (rs : List (ℕ × ℕ)) (w : Walk) → Right t g good w → d < length (w .states)
-      → ((r : ℕ × ℕ) → List·Memᴰ r rs → GoodChild t g good (stateAt w d) (r .0) (r .1)) → (v : Walk) × (walkRows g d rs w ≡ some v) × RowsWalked t g good d rs w v
+  walk-rows : (d : ℕ) (rs : List (ℕ × ℕ)) (w : Walk) → Right (P .table) g good w → d < length (w .states)
+      → ((r : ℕ × ℕ) → List·Memᴰ r rs → GoodChild (P .table) g good (stateAt w d) (r .0) (r .1)) → (v : Walk) × (walkRows g d rs w ≡ some v) × RowsWalked (P .table) g good d rs w v
   unfolding walkRows
-  walk-rows d [] w R h P = (w, refl, rows-none t g good d w R)
-  walk-rows d (r ∷ rs) w R h P =
-      let p = P r (List·Memᴰ·head refl) in
-      let (y, e, L) = descend-lands t tbox wanted g good F (r .1) (p .under .there) (p .under .noState) (p .isGood) in
-      let A = meet-walked t g good d y r w R h p L in
+  walk-rows d [] w R h good-child = (w, refl, rows-none (P .table) g good d w R)
+  walk-rows d (r ∷ rs) w R h good-child =
+      let p = good-child r (List·Memᴰ·head refl) in
+      let (y, e, L) = descend-lands P g good F (r .1) (p .under .there) (p .under .noState) (p .isGood) in
+      let A = meet-walked (P .table) g good d y r w R h p L in
       let u = meet d (r .0) y w in
       let (v, f, B) = walk-rows d rs u (A .right) (omega (arith, on-longer w u (A .on)))
-      (λ q m. subst (λ (x : ℕ). GoodChild t g good x (q .0) (q .1)) (sym (on-kept w u (A .on) d h)) (P q (List·Memᴰ·tail m))) in
-      (v, walkRows-cons g d y r rs w v e f, rows-more t g good d r rs w u v A B)
+      (λ q m. subst (λ (x : ℕ). GoodChild (P .table) g good x (q .0) (q .1)) (sym (on-kept w u (A .on) d h)) (good-child q (List·Memᴰ·tail m))) in
+      (v, walkRows-cons g d y r rs w v e f, rows-more (P .table) g good d r rs w u v A B)
 
   -- each turn walks one element, so the nodes bound the turns
-  walk-within : (f d : ℕ) (w : Walk) → Walked t g good d w → nodeCount g < d + f
-      → (v : Walk) × (walkWithin t g f d w ≡ some v) × Walked t g good (length (v .states)) v × Begins (w .states) (v .states)
-  walk-within zero d w W b = absurd (omega (arith, right-few t g good w (W .right), W .within))
+  walk-within : (f d : ℕ) (w : Walk) → Walked (P .table) g good d w → nodeCount g < d + f
+      → (v : Walk) × (walkWithin (P .table) g f d w ≡ some v) × Walked (P .table) g good (length (v .states)) v × Begins (w .states) (v .states)
+  walk-within zero d w W b = absurd (omega (arith, right-few (P .table) g good w (W .right), W .within))
   walk-within (suc f) d w W b = elim (decLt d (length (w .states))) [
     | yes h ↦
         let U = W .right .usable (stateAt w d) (getD-mem (w .states) d 0 h) in
-        let (v, e, A) = walk-rows d (rowsOf t g (stateAt w d)) w (W .right) h (rowsOf-good (stateAt w d) U) in
-        let (u, k, N, B) = walk-within f (suc d) v (walked-suc t g good d w v W h A) (omega arith) in
-        (u, walkWithin-step t g d w f v u h e k, N, begins-trans (w .states) (v .states) (u .states) (A .on .states) B)
+        let (v, e, A) = walk-rows d (rowsOf (P .table) g (stateAt w d)) w (W .right) h (rowsOf-good (stateAt w d) U) in
+        let (u, k, N, B) = walk-within f (suc d) v (walked-suc (P .table) g good d w v W h A) (omega arith) in
+        (u, walkWithin-step (P .table) g d w f v u h e k, N, begins-trans (w .states) (v .states) (u .states) (A .on .states) B)
     | no n ↦
         let e : d ≡ length (w .states) = omega (arith, W .within) in
-        (w, walkWithin-end t g d w f (omega arith), subst (λ (i : ℕ). Walked t g good i w) e W, begins-refl (w .states))
+        (w, walkWithin-end (P .table) g d w f (omega arith), subst (λ (i : ℕ). Walked (P .table) g good i w) e W, begins-refl (w .states))
   ]
 
   -- from a usable state alone
-  walked-start : (y : ℕ) → Usable g good y → Walked t g good 0 (record { states = y ∷ []; links = [] })
+  walked-start : (y : ℕ) → Usable g good y → Walked (P .table) g good 0 (record { states = y ∷ []; links = [] })
   walked-start y U = record {
     right = record {
       distinct = (λ m. List·Memᴰ·not-nil m, tt);
@@ -292,14 +294,14 @@ module _ (t : Table) (tbox wanted : List ℕ) (g : Graph) (good : Status → Boo
   }
 
   -- the walk ends, all its elements have been walked, and element 0 has every wanted row
-  pub walk-walked : (w : Walk) × (walk t g ≡ some w) × Walked t g good (length (w .states)) w × (0 < length (w .states))
-      × Subset (fromList wanted) (nodeAt g (stateAt w 0) .rows)
+  pub walk-walked : (w : Walk) × (walk (P .table) g ≡ some w) × Walked (P .table) g good (length (w .states)) w × (0 < length (w .states))
+      × Subset (P .wanted) (nodeAt g (stateAt w 0) .rows)
   walk-walked =
-      let (y, e, U, wants) = descend-root t tbox wanted g good F in
+      let (y, e, U, wants) = descend-root P g good F in
       let (w, k, W, B) = walk-within (suc (nodeCount g)) 0 (record { states = y ∷ []; links = [] }) (walked-start y U) (omega arith) in (
         w,
-        walk-some t g y w e k,
+        walk-some (P .table) g y w e k,
         W,
         omega (arith, begins-length (y ∷ []) (w .states) B),
-        subst (λ (x : ℕ). Subset (fromList wanted) (nodeAt g x .rows)) (sym (begins-getD (y ∷ []) (w .states) 0 0 B (omega arith))) wants,
+        subst (λ (x : ℕ). Subset (P .wanted) (nodeAt g x .rows)) (sym (begins-getD (y ∷ []) (w .states) 0 0 B (omega arith))) wants,
       )

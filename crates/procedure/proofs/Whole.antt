@@ -68,7 +68,7 @@ module _ (S : Setting) where
       bounded = pow-pos (rowCount S);
       rules = λ d. absurd (d refl);
       link = tt;
-      kind = (record { link = refl; root = λ _. refl; clashFree = λ d. absurd (d refl); finished = empty-finished (S .table); expanded = λ u. absurd u }, tt);
+      kind = (record { link = refl; root = λ _. refl; clashFree = λ d. absurd (d refl); finished = empty-finished (S .problem .table); expanded = λ u. absurd u }, tt);
     });
     ends = λ x y m. absurd (List·Memᴰ·not-nil (rw (no-children x) at m));
     edge = λ x y m. absurd (List·Memᴰ·not-nil (rw (no-children x) at m));
@@ -86,31 +86,32 @@ module _ (S : Setting) where
     pub quiet : QuietBut S None h
     pub over : T (isLive (nodeAt h 0 .status)) → lowestUnset h ≡ none
 
-  rounds : (f : ℕ) (g : Graph) → Inv S g → QuietBut S None g → S .capacity .nodeRoom < withAStatus g + f → Sure Ended (loopWithin (S .table) (S .capacity) (S .tbox) (S .wanted) f g)
+  rounds : (f : ℕ) (g : Graph) → Inv S g → QuietBut S None g → S .capacity .nodeRoom < withAStatus g + f → Sure Ended (loopWithin (S .problem) (S .capacity) f g)
   unfolding loopWithin
   rounds zero g I Q enough = omega (arith, enough, I .fits, count-le (λ n. not (isUnset (n .status))) (g .nodes))
   rounds (suc f) g I Q enough =
-      by-test (Sure Ended) (isLive (nodeAt g 0 .status)) (elim (lowestUnset g) [ none ↦ reached g | some x ↦ expand (S .table) (S .capacity) (S .tbox) (S .wanted) x g >>= (λ h. loopWithin (S .table) (S .capacity) (S .tbox) (S .wanted) f h) ]) (reached g)
+      by-test (Sure Ended) (isLive (nodeAt g 0 .status))
+      (elim (lowestUnset g) [ none ↦ reached g | some x ↦ expand (S .problem) (S .capacity) x g >>= (λ h. loopWithin (S .problem) (S .capacity) f h) ]) (reached g)
       (λ l. next (lowestUnset g) refl (rounds f))
       (λ d. record { inv = I; quiet = Q; over = λ l. absurd (T-not (isLive (nodeAt g 0 .status)) d l) })
     where
       next : (o : Option ℕ) → lowestUnset g ≡ o
-          → ((h : Graph) → Inv S h → QuietBut S None h → S .capacity .nodeRoom < withAStatus h + f → Sure Ended (loopWithin (S .table) (S .capacity) (S .tbox) (S .wanted) f h))
-          → Sure Ended (elim o [ none ↦ reached g | some x ↦ expand (S .table) (S .capacity) (S .tbox) (S .wanted) x g >>= (λ h. loopWithin (S .table) (S .capacity) (S .tbox) (S .wanted) f h) ])
+          → ((h : Graph) → Inv S h → QuietBut S None h → S .capacity .nodeRoom < withAStatus h + f → Sure Ended (loopWithin (S .problem) (S .capacity) f h))
+          → Sure Ended (elim o [ none ↦ reached g | some x ↦ expand (S .problem) (S .capacity) x g >>= (λ h. loopWithin (S .problem) (S .capacity) f h) ])
       next none e again = record { inv = I; quiet = Q; over = λ _. e }
       next (some x) e again =
           let (hx, u) = lowestUnset-some g x e in
           let fresh = is-unset (nodeAt g x .status) u in
-          sure-bind (Rounded S g x I Q hx fresh) Ended (expand (S .table) (S .capacity) (S .tbox) (S .wanted) x g) (λ h. loopWithin (S .table) (S .capacity) (S .tbox) (S .wanted) f h)
+          sure-bind (Rounded S g x I Q hx fresh) Ended (expand (S .problem) (S .capacity) x g) (λ h. loopWithin (S .problem) (S .capacity) f h)
           (expand-right S g x I Q hx fresh)
           (λ h R. again h (R .inv) (R .quiet) (omega (arith, enough, status-rises g h (R .grows) x hx u (R .set))))
 
   -- ---- the run
 
-  pub run-ends : Sure Ended (run (S .table) (S .capacity) (S .tbox) (S .wanted))
+  pub run-ends : Sure Ended (run (S .problem) (S .capacity))
   unfolding run
   run-ends =
-      sure-bind (λ g. (g ≡ rootOnly) × (0 < S .capacity .nodeRoom)) Ended (addNode (S .capacity) (state empty) nothing) (loopWithin (S .table) (S .capacity) (S .tbox) (S .wanted) (suc (S .capacity .nodeRoom)))
+      sure-bind (λ g. (g ≡ rootOnly) × (0 < S .capacity .nodeRoom)) Ended (addNode (S .capacity) (state empty) nothing) (loopWithin (S .problem) (S .capacity) (suc (S .capacity .nodeRoom)))
       (sure-addNode (λ g. (g ≡ rootOnly) × (0 < S .capacity .nodeRoom)) (S .capacity) (state empty) nothing (λ room. (refl, room)))
-      (λ g e. subst (λ (k : Graph). Sure Ended (loopWithin (S .table) (S .capacity) (S .tbox) (S .wanted) (suc (S .capacity .nodeRoom)) k)) (sym (e .0))
+      (λ g e. subst (λ (k : Graph). Sure Ended (loopWithin (S .problem) (S .capacity) (suc (S .capacity .nodeRoom)) k)) (sym (e .0))
       (rounds (suc (S .capacity .nodeRoom)) rootOnly (first-inv (e .1)) first-quiet (omega arith)))

@@ -10,7 +10,7 @@ use Prim.Native.Nat.{ℕ, zero, suc, _+_, _*_}
 use lib.Dec.{eqb, ltb}
 use lib.ListN.{length, getD}
 use Rattle.concepts.specs.Lists.{any, first}
-use Rattle.concepts.specs.Concept.{Concept, atomic, negated, conj, disj, univ, exist, Table}
+use Rattle.concepts.specs.Concept.{Concept, asAtomic, Table}
 use Rattle.concepts.specs.RowSet.{RowSet, empty}
 use Rattle.meaning.specs.Meaning.{World}
 use Rattle.procedure.specs.Status.{Status, isSat, isOpen}
@@ -104,12 +104,7 @@ module _ (t : Table) (g : Graph) where
 -- ---- the world of an example
 
 abbrev pub isAtomic : ℕ → Concept → Bool
-isAtomic a (atomic b) = eqb a b
-isAtomic a (negated b) = false
-isAtomic a (conj l r) = false
-isAtomic a (disj l r) = false
-isAtomic a (univ ρ l) = false
-isAtomic a (exist ρ l) = false
+isAtomic a c = elim (asAtomic c) [ some b ↦ eqb a b | none ↦ false ]
 
 -- (d, ρ, e) is listed
 unfoldable pub listed : List RoleLink → ℕ → ℕ → ℕ → Bool

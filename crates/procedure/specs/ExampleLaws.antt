@@ -185,7 +185,8 @@ module _ (t : Table) (g : Graph) (d : ℕ) (w : Walk) where
       by-test (λ (o : Option Walk). o ≡ some w) (ltb d (length (w .states))) (walkRows g d (rowsOf t g (getD (w .states) d 0)) w >>= (λ z. walkWithin t g f (suc d) z)) (some w)
       (λ b. absurd (omega (arith, ltb→lt d (length (w .states)) b))) (λ b. refl)
 
-pub walk-some : (t : Table) (g : Graph) (y : ℕ) (v : Walk) → descend g 0 ≡ some y → walkWithin t g (suc (nodeCount g)) 0 (record { states = y ∷ []; links = [] }) ≡ some v → walk t g ≡ some v
+pub walk-some : (t : Table) (g : Graph) (y : ℕ) (v : Walk) → descend g 0 ≡ some y → walkWithin t g (suc (nodeCount g)) 0 (record { states = y ∷ []; links = [] }) ≡ some v
+    → walk t g ≡ some v
 unfolding walk _>>=_
 walk-some t g y v e f = ap (λ (o : Option ℕ). o >>= (λ z. walkWithin t g (suc (nodeCount g)) 0 (record { states = z ∷ []; links = [] }))) e ∙ f
 

@@ -13,12 +13,14 @@ use native.Mathlib.Omega.{arith}
 use lib.Dec.{T, eqb, ltb, eqb→eq, eqb-refl, not-T, ltb→lt}
 use lib.ListN.{length, length-set, length-append, List·getD-append}
 use lib.Seq.{getD-set-same, getD-set-other, getD-append-seam}
-use Rattle.concepts.specs.Tests.{by-test, and-both, as-true}
+use Rattle.concepts.specs.Tests.{impossible, by-test, and-both, as-true}
 use Rattle.concepts.specs.Lists.{range, select}
 use Rattle.concepts.specs.ListLaws.{range-mem, mem-range, select-mem, mem-select, select-append, select-pass, select-fail, mem-any, map-append, mem-map, map-mem, first-some, first-none}
 use Rattle.concepts.specs.RowSet.{RowSet}
 use Rattle.procedure.specs.Status.{isUnset}
-use Rattle.procedure.specs.Graph.{Node, Edge, Alternative, Graph, Capacity, nodeArea, edgeArea, alternativeArea, Result, reached, noPlace, outOfFuel, _>>=_, forEach, appendNode, appendEdge, appendAlternative, addNode, addEdge, hasAlternative, addAlternative, noNode, nodeAt, nodeCount, children, parents, alternativesOf, lowest, findState, lowestUnset, replaceNode}
+use Rattle.procedure.specs.Graph.{Node, Edge, Alternative, Graph, Capacity, nodeArea, edgeArea, alternativeArea, Result, reached, noPlace, outOfFuel, _>>=_, forEach}
+use Rattle.procedure.specs.Graph.{appendNode, appendEdge, appendAlternative, addNode, addEdge, hasAlternative, addAlternative, noNode, nodeAt, nodeCount, children}
+use Rattle.procedure.specs.Graph.{parents, alternativesOf, lowest, findState, lowestUnset, replaceNode}
 
 -- ---- results
 
@@ -58,7 +60,8 @@ pub sure-addEdge : (P : Graph → Type 0) (c : Capacity) (x y : ℕ) (g : Graph)
 unfolding addEdge
 sure-addEdge P c x y g h = by-test (Sure P) (ltb (length (g .edges)) (c .edgeRoom)) (reached (appendEdge x y g)) (noPlace edgeArea) (λ _. h) (λ _. tt)
 
-pub sure-addAlternative : (P : Graph → Type 0) (c : Capacity) (x : ℕ) (s : RowSet) (g : Graph) → (T (hasAlternative x s g) → P g) → P (appendAlternative x s g) → Sure P (addAlternative c x s g)
+pub sure-addAlternative : (P : Graph → Type 0) (c : Capacity) (x : ℕ) (s : RowSet) (g : Graph) → (T (hasAlternative x s g) → P g) → P (appendAlternative x s g)
+    → Sure P (addAlternative c x s g)
 unfolding addAlternative
 sure-addAlternative P c x s g old new =
     by-test (Sure P) (hasAlternative x s g) (reached g)
@@ -111,7 +114,8 @@ unfolding children
 children-own x y g =
     let f : Edge → Bool = λ e. eqb (e .from) x in
     let new : Edge = record { from = x; to = y } in
-    ap (map (λ (e : Edge). e .to)) (select-append f (g .edges) (new ∷ []) ∙ ap (λ (l : List Edge). select f (g .edges) ++ l) (select-pass f new (eqb-refl x)))
+    ap (map (λ (e : Edge). e .to)) (select-append f (g .edges) (new ∷ [])
+    ∙ ap (λ (l : List Edge). select f (g .edges) ++ l) (select-pass f new (eqb-refl x)))
     ∙ map-append (λ (e : Edge). e .to) (select f (g .edges)) (new ∷ [])
 
 pub children-other : (x y : ℕ) (g : Graph) (w : ℕ) → w ≢ x → children (appendEdge x y g) w ≡ children g w
@@ -120,7 +124,8 @@ children-other x y g w d =
     let f : Edge → Bool = λ e. eqb (e .from) w in
     let new : Edge = record { from = x; to = y } in
     ap (map (λ (e : Edge). e .to))
-    (select-append f (g .edges) (new ∷ []) ∙ ap (λ (l : List Edge). select f (g .edges) ++ l) (select-fail f new (not-T (eqb x w) (λ b. d (sym (eqb→eq x w b))))) ∙ append-nil (select f (g .edges)))
+    (select-append f (g .edges) (new ∷ [])
+    ∙ ap (λ (l : List Edge). select f (g .edges) ++ l) (select-fail f new (not-T (eqb x w) (λ b. d (sym (eqb→eq x w b))))) ∙ append-nil (select f (g .edges)))
 
 pub child-old : (x y : ℕ) (g : Graph) (w i : ℕ) → Child g w i → Child (appendEdge x y g) w i
 child-old x y g w i m = elim (ℕ-discrete w x) [
@@ -173,7 +178,8 @@ alternative-more g h more e x s m =
     (Memᴰ·append-left (map (λ (a : Alternative). a .rows) (select f more)) m)
 
 alternatives-append : (x : ℕ) (s : RowSet) (g : Graph) (y : ℕ)
-    → alternativesOf (appendAlternative x s g) y ≡ alternativesOf g y ++ map (λ (a : Alternative). a .rows) (select (λ (a : Alternative). eqb (a .owner) y) (record { owner = x; rows = s } ∷ []))
+    → alternativesOf (appendAlternative x s g) y
+    ≡ alternativesOf g y ++ map (λ (a : Alternative). a .rows) (select (λ (a : Alternative). eqb (a .owner) y) (record { owner = x; rows = s } ∷ []))
 unfolding alternativesOf
 alternatives-append x s g y =
     let f : Alternative → Bool = λ a. eqb (a .owner) y in
@@ -218,13 +224,13 @@ lowest-some f g x e =
     let (a, b) = range-mem 0 (nodeCount g) y m in
     by-test (λ (o : Option ℕ). o ≡ some x → (x < nodeCount g) × T (f x)) (f y) (some y) none
     (λ t p. let s : y ≡ x = cc in (omega arith, rw s at t))
-    (λ t p. let z : _≡_ {A = ℕ} 0 1 = cc in absurd (omega arith)) q
+    (λ t p. impossible cc) q
 
 pub lowest-none : (f : ℕ → Bool) (g : Graph) (x : ℕ) → lowest f g ≡ none → x < nodeCount g → T (not (f x))
 unfolding lowest
 lowest-none f g x e h =
     let q = first-none (λ (z : ℕ). elim (f z) as (λ _. Option ℕ) [ true ↦ some z | false ↦ none ]) (range 0 (nodeCount g)) x e (mem-range 0 (nodeCount g) x (omega arith) (omega arith)) in
-    by-test (λ (o : Option ℕ). o ≡ none → T (not (f x))) (f x) (some x) none (λ t p. let z : _≡_ {A = ℕ} 0 1 = cc in absurd (omega arith)) (λ t p. t) q
+    by-test (λ (o : Option ℕ). o ≡ none → T (not (f x))) (f x) (some x) none (λ t p. impossible cc) (λ t p. t) q
 
 pub find-state : (s : RowSet) (g : Graph) (x : ℕ) → findState s g ≡ some x → (x < nodeCount g) × (x ≢ 0) × (nodeAt g x .isState ≡ true) × (nodeAt g x .rows ≡ s)
 unfolding findState

@@ -1,43 +1,33 @@
 -- Laws of SetTests: what each test of a set of rows finds, as rows of the table.
 --
--- In order: the answers of each test on one concept; the concepts of a set; clash; unfinished rows; the universal rows along a role
+-- In order: the answers of each test on one concept; clash; the concepts of a set; unfinished rows; the universal rows along a role
 -- (`box`, `lacking`); the existential rows; in an ordered table, what is found is below the table's length.
--- A concept is taken apart once for each function of SetTests (`opposed-rows`, `unfinishedConj-some`, ..).
+-- Of the clash test nothing is known here, and a concept is taken apart by its views only.
 -- Assumes nothing.
-use mathlib.Core.Path.{_≡_, refl, sym, ap, _∙_, subst}
+use mathlib.Core.Path.{_≡_, refl, sym, ap₂, _∙_}
 use mathlib.Core.Bool.{Bool, true, false, not, _&&_, _||_, cond}
 use mathlib.Core.List.{List, List·Memᴰ, List·Memᴰ·head, List·Memᴰ·tail, Memᴰ·cast, Memᴰ·map, Memᴰ·of-map}
 use mathlib.Core.Logic.{_⊎_, inl, inr}
 use mathlib.Core.Option.{Option, none, some}
 use Prim.Native.Nat.{ℕ, _≤_, _<_, _^_}
 use native.Mathlib.Omega.{arith}
-use lib.Dec.{T, T-not, eqb, eqb→eq, eqb-refl}
+use lib.Dec.{T, T-not, eqb, eqb→eq}
 use lib.ListN.{length}
 use borrow.Author.Tests.{eq-eqb}
-use Rattle.concepts.specs.Tests.{or-cases, and-both, decide}
+use Rattle.concepts.specs.Tests.{impossible, or-cases, and-both, decide}
 use Rattle.concepts.specs.Lists.{select, any}
-use Rattle.concepts.specs.ListLaws.{select-mem, mem-select, any-mem, mem-any, answers-mem, mem-answers, first-some, first-none}
-use Rattle.concepts.specs.Concept.{Concept, atomic, negated, conj, disj, univ, exist, Table, conceptAt, arguments, Ordered}
+use Rattle.concepts.specs.ListLaws.{select-mem, mem-select, any-mem, mem-any, cond-some, provided-some, provided-none, answers-mem, mem-answers, first-some, first-none}
+use Rattle.concepts.specs.Concept.{Concept, conj, disj, univ, exist, asConj, asDisj, asUniv, asExist, Table, conceptAt, arguments, Ordered}
+use Rattle.concepts.specs.ConceptLaws.{asConj-some, asDisj-some, asUniv-some, asExist-some}
 use Rattle.concepts.specs.RowSet.{RowSet, mem, members, fromList}
 use Rattle.concepts.specs.RowSetLaws.{mem-empty, mem-members, members-mem, mem-fromList, fromList-mem, fromList-none, fromList-witness, fromList-lt}
-use Rattle.procedure.specs.SetTests.{concepts, opposed, clash, unfinishedConj, unfinishedDisj, lowestConj, lowestDisj, isSome, unfinished, univArgument, box, lacking, existArgument, existentials}
+use Rattle.procedure.specs.Problem.{Problem}
+use Rattle.procedure.specs.SetTests.{concepts, clash, unfinishedConj, unfinishedDisj, lowestConj, lowestDisj, isSome, unfinished, univArgument, box, lacking, existentials}
 
 -- ---- what an answer says
 
 none-some : {A B : Type 0} (x : A) → none ≡ some x → B
-none-some x e = let z : _≡_ {A = ℕ} 0 1 = cc in absurd (omega arith)
-
-cond-some : {A : Type 0} (b : Bool) (x y : A) → cond b (some x) none ≡ some y → T b × (x ≡ y)
-cond-some true x y e = (tt, cc)
-cond-some false x y e = none-some y e
-
-cond-none : {A : Type 0} (b : Bool) (x y : A) → cond b none (some x) ≡ some y → T (not b) × (x ≡ y)
-cond-none true x y e = none-some y e
-cond-none false x y e = (tt, cc)
-
-cond-all : {A : Type 0} (b : Bool) (x : A) → cond b none (some x) ≡ none → T b
-cond-all true x e = tt
-cond-all false x e = none-some x (sym e)
+none-some x e = impossible cc
 
 isSome-some : (o : Option (ℕ × ℕ)) → T (isSome o) → (x : ℕ × ℕ) × (o ≡ some x)
 isSome-some none h = absurd h
@@ -47,65 +37,59 @@ isSome-none : (o : Option (ℕ × ℕ)) → T (not (isSome o)) → o ≡ none
 isSome-none none h = refl
 isSome-none (some x) h = absurd h
 
+not-not : (b : Bool) → T (not (not b)) → T b
+not-not true h = tt
+not-not false h = absurd h
+
 not-or : (a b : Bool) → T (not (a || b)) → T (not a) × T (not b)
 not-or true b h = absurd h
 not-or false b h = (tt, h)
 
 -- ---- one concept
 
-opposed-rows : (c d : Concept) → T (opposed c d) → (a : ℕ) × (c ≡ atomic a) × (d ≡ negated a)
-opposed-rows (atomic a) (negated b) h = (a, refl, ap negated (sym (eqb→eq a b h)))
-opposed-rows (atomic a) (atomic b) h = absurd h
-opposed-rows (atomic a) (conj l r) h = absurd h
-opposed-rows (atomic a) (disj l r) h = absurd h
-opposed-rows (atomic a) (univ ρ l) h = absurd h
-opposed-rows (atomic a) (exist ρ l) h = absurd h
-opposed-rows (negated a) d h = absurd h
-opposed-rows (conj l r) d h = absurd h
-opposed-rows (disj l r) d h = absurd h
-opposed-rows (univ ρ l) d h = absurd h
-opposed-rows (exist ρ l) d h = absurd h
-
 unfinishedConj-some : (s : RowSet) (c : Concept) (lr : ℕ × ℕ) → unfinishedConj s c ≡ some lr
     → (c ≡ conj (lr .0) (lr .1)) × T (not (mem (lr .0) s && mem (lr .1) s))
-unfinishedConj-some s (conj l r) lr e =
-    let (n, p) = cond-none (mem l s && mem r s) (l, r) lr e in
-    (ap (λ (q : ℕ × ℕ). conj (q .0) (q .1)) p, subst (λ (q : ℕ × ℕ). T (not (mem (q .0) s && mem (q .1) s))) p n)
-unfinishedConj-some s (atomic a) lr e = none-some lr e
-unfinishedConj-some s (negated a) lr e = none-some lr e
-unfinishedConj-some s (disj l r) lr e = none-some lr e
-unfinishedConj-some s (univ ρ l) lr e = none-some lr e
-unfinishedConj-some s (exist ρ l) lr e = none-some lr e
+unfinishedConj-some s c lr e =
+    let (p, n) = provided-some (λ (q : ℕ × ℕ). not (mem (q .0) s && mem (q .1) s)) (asConj c) lr e in
+    (asConj-some c lr p, n)
 
 unfinishedDisj-some : (s : RowSet) (c : Concept) (lr : ℕ × ℕ) → unfinishedDisj s c ≡ some lr
     → (c ≡ disj (lr .0) (lr .1)) × T (not (mem (lr .0) s || mem (lr .1) s))
-unfinishedDisj-some s (disj l r) lr e =
-    let (n, p) = cond-none (mem l s || mem r s) (l, r) lr e in
-    (ap (λ (q : ℕ × ℕ). disj (q .0) (q .1)) p, subst (λ (q : ℕ × ℕ). T (not (mem (q .0) s || mem (q .1) s))) p n)
-unfinishedDisj-some s (atomic a) lr e = none-some lr e
-unfinishedDisj-some s (negated a) lr e = none-some lr e
-unfinishedDisj-some s (conj l r) lr e = none-some lr e
-unfinishedDisj-some s (univ ρ l) lr e = none-some lr e
-unfinishedDisj-some s (exist ρ l) lr e = none-some lr e
+unfinishedDisj-some s c lr e =
+    let (p, n) = provided-some (λ (q : ℕ × ℕ). not (mem (q .0) s || mem (q .1) s)) (asDisj c) lr e in
+    (asDisj-some c lr p, n)
 
 univArgument-some : (ρ : ℕ) (c : Concept) (l : ℕ) → univArgument ρ c ≡ some l → c ≡ univ ρ l
-univArgument-some ρ (univ σ k) l e = let (h, p) = cond-some (eqb σ ρ) k l e in let q : σ ≡ ρ = eqb→eq σ ρ h in cc
-univArgument-some ρ (atomic a) l e = none-some l e
-univArgument-some ρ (negated a) l e = none-some l e
-univArgument-some ρ (conj k r) l e = none-some l e
-univArgument-some ρ (disj k r) l e = none-some l e
-univArgument-some ρ (exist σ k) l e = none-some l e
-
-existArgument-some : (c : Concept) (e : ℕ × ℕ) → existArgument c ≡ some e → c ≡ exist (e .0) (e .1)
-existArgument-some (exist ρ l) e p = let q : _≡_ {A = ℕ × ℕ} (ρ, l) e = cc in ap (λ (x : ℕ × ℕ). exist (x .0) (x .1)) q
-existArgument-some (atomic a) e p = none-some e p
-existArgument-some (negated a) e p = none-some e p
-existArgument-some (conj l r) e p = none-some e p
-existArgument-some (disj l r) e p = none-some e p
-existArgument-some (univ ρ l) e p = none-some e p
+univArgument-some ρ c l e = by-view (asUniv c) refl e
+  where
+    by-view : (o : Option (ℕ × ℕ)) → asUniv c ≡ o → elim o as (λ _. Option ℕ) [ some u ↦ cond (eqb (u .0) ρ) (some (u .1)) none | none ↦ none ] ≡ some l → c ≡ univ ρ l
+    by-view none p e = none-some l e
+    by-view (some u) p e = let (h, r) = cond-some (eqb (u .0) ρ) (u .1) l e in asUniv-some c u p ∙ ap₂ univ (eqb→eq (u .0) ρ h) r
 
 abbrev outside : RowSet → ℕ → Bool
 outside p l = not (mem l p)
+
+-- ---- clash
+
+module _ (P : Problem) (s : RowSet) where
+  abbrev rows : List ℕ
+  rows = members (length (P .table)) s
+
+  pub clash-found : T (clash P s) → (j k : ℕ) × (j < length (P .table)) × (k < length (P .table)) × T (mem j s) × T (mem k s) × T (P .opposed j k)
+  unfolding clash
+  clash-found h =
+      let (j, u, f) = mem-any (λ j. any (P .opposed j) rows) rows h in
+      let (k, v, o) = mem-any (P .opposed j) rows f in
+      let (jl, jm) = members-mem (length (P .table)) j s u in
+      let (kl, km) = members-mem (length (P .table)) k s v in
+      (j, k, jl, kl, jm, km, o)
+
+  pub no-clash : T (not (clash P s)) → (j k : ℕ) → j < length (P .table) → k < length (P .table) → T (P .opposed j k) → T (mem j s) → T (mem k s) → ⊥
+  unfolding clash
+  no-clash n j k jl kl o jm km =
+      T-not (clash P s) n
+      (any-mem (λ j. any (P .opposed j) rows) rows j (mem-members (length (P .table)) j s jl jm)
+      (any-mem (P .opposed j) rows k (mem-members (length (P .table)) k s kl km) o))
 
 module _ (t : Table) (s : RowSet) where
   -- ---- the concepts of a set
@@ -118,27 +102,6 @@ module _ (t : Table) (s : RowSet) where
 
   pub mem-concept : (k : ℕ) (c : Concept) → k < length t → T (mem k s) → conceptAt t k ≡ c → List·Memᴰ c (concepts t s)
   mem-concept k c l h e = Memᴰ·cast (sym e) (Memᴰ·map (conceptAt t) (mem-members (length t) k s l h))
-
-  -- ---- clash
-
-  pub clash-found : T (clash t s)
-      → (j k a : ℕ) × (j < length t) × (k < length t) × T (mem j s) × T (mem k s) × (conceptAt t j ≡ atomic a) × (conceptAt t k ≡ negated a)
-  unfolding clash
-  clash-found h =
-      let (c, u, f) = mem-any (λ c. any (opposed c) (concepts t s)) (concepts t s) h in
-      let (d, v, o) = mem-any (opposed c) (concepts t s) f in
-      let (a, p, q) = opposed-rows c d o in
-      let (j, jl, jm, je) = concept-mem c u in
-      let (k, kl, km, ke) = concept-mem d v in
-      (j, k, a, jl, kl, jm, km, je ∙ p, ke ∙ q)
-
-  pub no-clash : T (not (clash t s)) → (j k a : ℕ) → j < length t → k < length t → conceptAt t j ≡ atomic a → conceptAt t k ≡ negated a
-      → T (mem j s) → T (mem k s) → ⊥
-  unfolding clash
-  no-clash n j k a jl kl je ke jm km =
-      T-not (clash t s) n
-      (any-mem (λ c. any (opposed c) (concepts t s)) (concepts t s) (atomic a) (mem-concept j (atomic a) jl jm je)
-      (any-mem (opposed (atomic a)) (concepts t s) (negated a) (mem-concept k (negated a) kl km ke) (eqb-refl a)))
 
   -- ---- unfinished rows
 
@@ -179,14 +142,16 @@ module _ (t : Table) (s : RowSet) where
   pub conj-done : T (not (unfinished t s)) → (k l r : ℕ) → k < length t → conceptAt t k ≡ conj l r → T (mem k s) → T (mem l s) × T (mem r s)
   unfolding lowestConj
   conj-done n k l r b e m =
-      and-both (mem l s) (mem r s)
-      (cond-all (mem l s && mem r s) (l, r) (first-none (unfinishedConj s) (concepts t s) (conj l r) (finished-none n .0) (mem-concept k (conj l r) b m e)))
+      and-both (mem l s) (mem r s) (not-not (mem l s && mem r s)
+      (provided-none (λ (q : ℕ × ℕ). not (mem (q .0) s && mem (q .1) s)) (l, r)
+      (first-none (unfinishedConj s) (concepts t s) (conj l r) (finished-none n .0) (mem-concept k (conj l r) b m e))))
 
   pub disj-done : T (not (unfinished t s)) → (k l r : ℕ) → k < length t → conceptAt t k ≡ disj l r → T (mem k s) → T (mem l s) ⊎ T (mem r s)
   unfolding lowestDisj
   disj-done n k l r b e m =
-      or-cases (mem l s) (mem r s)
-      (cond-all (mem l s || mem r s) (l, r) (first-none (unfinishedDisj s) (concepts t s) (disj l r) (finished-none n .1) (mem-concept k (disj l r) b m e)))
+      or-cases (mem l s) (mem r s) (not-not (mem l s || mem r s)
+      (provided-none (λ (q : ℕ × ℕ). not (mem (q .0) s || mem (q .1) s)) (l, r)
+      (first-none (unfinishedDisj s) (concepts t s) (disj l r) (finished-none n .1) (mem-concept k (disj l r) b m e))))
 
   -- ---- the universal rows along a role
 
@@ -235,13 +200,13 @@ module _ (t : Table) (s : RowSet) where
   pub existentials-mem : (e : ℕ × ℕ) → List·Memᴰ e (existentials t s) → (k : ℕ) × (k < length t) × T (mem k s) × (conceptAt t k ≡ exist (e .0) (e .1))
   unfolding existentials
   existentials-mem e u =
-      let (c, v, p) = answers-mem existArgument (concepts t s) e u in
+      let (c, v, p) = answers-mem asExist (concepts t s) e u in
       let (k, b, m, q) = concept-mem c v in
-      (k, b, m, q ∙ existArgument-some c e p)
+      (k, b, m, q ∙ asExist-some c e p)
 
   pub mem-existentials : (e : ℕ × ℕ) (k : ℕ) → k < length t → T (mem k s) → conceptAt t k ≡ exist (e .0) (e .1) → List·Memᴰ e (existentials t s)
   unfolding existentials
-  mem-existentials e k b m q = mem-answers existArgument (concepts t s) (exist (e .0) (e .1)) e (mem-concept k (exist (e .0) (e .1)) b m q) refl
+  mem-existentials e k b m q = mem-answers asExist (concepts t s) (exist (e .0) (e .1)) e (mem-concept k (exist (e .0) (e .1)) b m q) refl
 
   -- ---- in an ordered table, what is found is below the table's length
 

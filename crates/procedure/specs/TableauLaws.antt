@@ -1,22 +1,23 @@
 -- Laws of Tableau: the ways through a put, a judgement, an update and an expansion, each as one equation.
 -- They are what code that follows the procedure step by step is compared with.
 --
--- In order: results; the start of a linked special node (`linkStart`); put; judging; updates; expansion; the rounds.
+-- In order: results; the parents of a node; over one problem in given places: put, updates, expansion, the rounds; judging.
 -- Assumes nothing.
-use mathlib.Core.Path.{_≡_, refl, sym, ap, _∙_}
+use mathlib.Core.Path.{_≡_, refl, ap, _∙_}
 use mathlib.Core.Bool.{true, false}
 use mathlib.Core.List.{List, [], _∷_}
-use mathlib.Core.Logic.{_≢_}
 use mathlib.Core.Option.{Option, none, some}
-use Prim.Native.Nat.{ℕ, zero, suc}
+use Prim.Native.Nat.{ℕ, suc}
 use lib.Dec.{eqb}
 use Rattle.concepts.specs.Role.{inverse}
-use Rattle.concepts.specs.Concept.{Table}
-use Rattle.concepts.specs.RowSet.{RowSet, empty, union, insert, fromList}
+use Rattle.concepts.specs.RowSet.{RowSet, empty, union, insert}
+use Rattle.procedure.specs.Problem.{Problem}
 use Rattle.procedure.specs.Status.{unset, «open», sat, unsat, toosmall, isOpen, isLive}
-use Rattle.procedure.specs.SetTests.{clash, unfinished, lacking, lowestConj, lowestDisj, existentials}
-use Rattle.procedure.specs.Graph.{Link, unlinked, toState, lapsed, Node, Graph, Capacity, Area, Result, reached, noPlace, outOfFuel, _>>=_, forEach, addNode, addEdge, nodeAt, nodeCount, lowestUnset, setStatus, setLink, alternativesOf, parents}
-use Rattle.procedure.specs.Tableau.{Put, judgeBranch, judgeState, judgeLinked, judgeBy, judge, below, joinAlternatives, linkSpecial, putSpecial, putNode, putBy, putWithin, put, updateParents, updateChanged, updateWithin, update, noRole, successor, putSuccessors, putKit, expandState, expandDisj, expandConj, expand, loopWithin, putAlternatives}
+use Rattle.procedure.specs.SetTests.{clash, unfinished, lacking, lowestConj}
+use Rattle.procedure.specs.Graph.{Link, unlinked, toState, lapsed, Node, Graph, Capacity, Area, Result, reached, noPlace, outOfFuel, _>>=_, forEach, addNode, addEdge}
+use Rattle.procedure.specs.Graph.{nodeAt, nodeCount, lowestUnset, setStatus, setLink, alternativesOf, parents}
+use Rattle.procedure.specs.Tableau.{Put, judgeBranch, judgeState, judgeLinked, judgeBy, judge, below, joinAlternatives, linkSpecial, putSpecial, putNode, putBy}
+use Rattle.procedure.specs.Tableau.{putWithin, put, updateParents, updateChanged, updateWithin, update, expandConj, expand, loopWithin, putAlternatives}
 
 -- ---- results
 
@@ -48,108 +49,87 @@ pub forEach-cons : {A : Type 0} (f : A → Graph → Result) (x : A) (xs : List 
 unfolding forEach
 forEach-cons f x xs g = refl
 
-module _ (t : Table) (c : Capacity) where
+-- ---- the parents of a node
+
+module _ (update : ℕ → Graph → Result) (x : ℕ) (g : Graph) where
+  pub parents-each : updateParents update x g ≡ forEach update (parents g x) g
+  unfolding updateParents
+  parents-each = refl
+
+  pub changed-not : isOpen (nodeAt g x .status) ≡ true → updateChanged update x g ≡ reached g
+  unfolding updateChanged
+  changed-not e = rw (e, updateChanged)
+
+  pub changed-parents : isOpen (nodeAt g x .status) ≡ false → updateChanged update x g ≡ updateParents update x g
+  unfolding updateChanged
+  changed-parents e = rw (e, updateChanged)
+
+module _ (P : Problem) (c : Capacity) where
   -- ---- put
 
   module _ (f n p ρ : ℕ) (s : RowSet) (g : Graph) where
     abbrev again : Put
-    again = λ n′ p′ ρ′ s′ g′. putWithin t c f n′ p′ ρ′ s′ g′
+    again = λ n′ p′ ρ′ s′ g′. putWithin P c f n′ p′ ρ′ s′ g′
 
     abbrev lacked : RowSet
-    lacked = lacking t s (inverse ρ) (nodeAt g p .rows)
+    lacked = lacking (P .table) s (inverse ρ) (nodeAt g p .rows)
 
-    pub put-clash : clash t s ≡ true → putWithin t c (suc f) n p ρ s g ≡ (addNode c (below p ρ s unsat unlinked) g >>= addEdge c n (nodeCount g))
+    pub put-clash : clash P s ≡ true → putWithin P c (suc f) n p ρ s g ≡ (addNode c (below p ρ s unsat unlinked) g >>= addEdge c n (nodeCount g))
     unfolding putWithin putBy putNode
     put-clash e = rw (e, putNode)
 
-    pub put-unfinished : clash t s ≡ false → unfinished t s ≡ true → putWithin t c (suc f) n p ρ s g ≡ (addNode c (below p ρ s unset unlinked) g >>= addEdge c n (nodeCount g))
+    pub put-unfinished : clash P s ≡ false → unfinished (P .table) s ≡ true → putWithin P c (suc f) n p ρ s g ≡ (addNode c (below p ρ s unset unlinked) g >>= addEdge c n (nodeCount g))
     unfolding putWithin putBy putNode
     put-unfinished e u = rw (e, u, putNode)
 
-    pub put-lapsed : clash t s ≡ false → unfinished t s ≡ false → eqb lacked empty ≡ false
-        → putWithin t c (suc f) n p ρ s g ≡ (addNode c (below p ρ s toosmall lapsed) g >>= joinAlternatives t c p lacked >>= addEdge c n (nodeCount g))
+    pub put-lapsed : clash P s ≡ false → unfinished (P .table) s ≡ false → eqb lacked empty ≡ false
+        → putWithin P c (suc f) n p ρ s g ≡ (addNode c (below p ρ s toosmall lapsed) g >>= joinAlternatives c p lacked >>= addEdge c n (nodeCount g))
     unfolding putWithin putBy putNode putSpecial
     put-lapsed e u a = rw (e, u, a, putNode, putSpecial)
 
-    pub put-linked : clash t s ≡ false → unfinished t s ≡ false → eqb lacked empty ≡ true
-        → putWithin t c (suc f) n p ρ s g ≡ (linkSpecial t c p ρ s g >>= judge again (nodeCount g) >>= addEdge c n (nodeCount g))
+    pub put-linked : clash P s ≡ false → unfinished (P .table) s ≡ false → eqb lacked empty ≡ true
+        → putWithin P c (suc f) n p ρ s g ≡ (linkSpecial c p ρ s g >>= judge again (nodeCount g) >>= addEdge c n (nodeCount g))
     unfolding putWithin putBy putNode putSpecial
     put-linked e u a = rw (e, u, a, putNode, putSpecial)
 
   -- ---- updates
 
   module _ (f x : ℕ) (g : Graph) where
-    pub update-settled : isOpen (nodeAt g x .status) ≡ false → updateWithin t c (suc f) x g ≡ reached g
+    pub update-settled : isOpen (nodeAt g x .status) ≡ false → updateWithin P c (suc f) x g ≡ reached g
     unfolding updateWithin
     update-settled e = rw (e, updateWithin)
 
-    pub update-open : isOpen (nodeAt g x .status) ≡ true → updateWithin t c (suc f) x g ≡ (judge (put t c) x g >>= updateChanged t c (λ y k. updateWithin t c f y k) x)
+    pub update-open : isOpen (nodeAt g x .status) ≡ true → updateWithin P c (suc f) x g ≡ (judge (put P c) x g >>= updateChanged (λ y k. updateWithin P c f y k) x)
     unfolding updateWithin
     update-open e = rw (e, updateWithin)
 
-  module _ (update : ℕ → Graph → Result) (x : ℕ) (g : Graph) where
-    pub parents-each : updateParents t c update x g ≡ forEach update (parents g x) g
-    unfolding updateParents
-    parents-each = refl
-
-    pub changed-not : isOpen (nodeAt g x .status) ≡ true → updateChanged t c update x g ≡ reached g
-    unfolding updateChanged
-    changed-not e = rw (e, updateChanged)
-
-    pub changed-parents : isOpen (nodeAt g x .status) ≡ false → updateChanged t c update x g ≡ updateParents t c update x g
-    unfolding updateChanged
-    changed-parents e = rw (e, updateChanged)
-
   -- ---- expansion
 
-  module _ (tbox wanted : List ℕ) (x : ℕ) (g : Graph) where
+  module _ (x : ℕ) (g : Graph) where
     abbrev n : Node
     n = nodeAt g x
 
-    pub expand-conj : (lr : ℕ × ℕ) → lowestConj t (n .rows) ≡ some lr
-        → expandConj t c tbox wanted x (lowestConj t (n .rows)) g ≡ put t c x (n .pst) (n .prl) (insert (lr .0) (insert (lr .1) (n .rows))) g
+    pub expand-conj : (lr : ℕ × ℕ) → lowestConj (P .table) (n .rows) ≡ some lr
+        → expandConj P c x (lowestConj (P .table) (n .rows)) g ≡ put P c x (n .pst) (n .prl) (insert (lr .0) (insert (lr .1) (n .rows))) g
     unfolding expandConj
-    expand-conj lr e = ap (λ (o : Option (ℕ × ℕ)). expandConj t c tbox wanted x o g) e
+    expand-conj lr e = ap (λ (o : Option (ℕ × ℕ)). expandConj P c x o g) e
 
-    pub expand-disj : (lr : ℕ × ℕ) → lowestConj t (n .rows) ≡ none → lowestDisj t (n .rows) ≡ some lr
-        → expandConj t c tbox wanted x (lowestConj t (n .rows)) g ≡ (put t c x (n .pst) (n .prl) (insert (lr .0) (n .rows)) g >>= put t c x (n .pst) (n .prl) (insert (lr .1) (n .rows)))
-    unfolding expandConj expandDisj
-    expand-disj lr e f = ap (λ (o : Option (ℕ × ℕ)). expandConj t c tbox wanted x o g) e ∙ ap (λ (o : Option (ℕ × ℕ)). expandDisj t c tbox wanted x o g) f
-
-    expand-state : lowestConj t (n .rows) ≡ none → lowestDisj t (n .rows) ≡ none → expandConj t c tbox wanted x (lowestConj t (n .rows)) g ≡ expandState t c tbox wanted x g
-    unfolding expandConj expandDisj
-    expand-state e f = ap (λ (o : Option (ℕ × ℕ)). expandConj t c tbox wanted x o g) e ∙ ap (λ (o : Option (ℕ × ℕ)). expandDisj t c tbox wanted x o g) f
-
-    pub expand-kit : lowestConj t (n .rows) ≡ none → lowestDisj t (n .rows) ≡ none → x ≡ 0
-        → expandConj t c tbox wanted x (lowestConj t (n .rows)) g ≡ put t c x x noRole (union (fromList wanted) (fromList tbox)) g
-    unfolding expandState putKit
-    expand-kit e f z = expand-state e f ∙ ap (λ (y : ℕ). expandState t c tbox wanted y g) z ∙ ap (λ (y : ℕ). put t c y y noRole (union (fromList wanted) (fromList tbox)) g) (sym z)
-
-    pub expand-successors : lowestConj t (n .rows) ≡ none → lowestDisj t (n .rows) ≡ none → x ≢ 0
-        → expandConj t c tbox wanted x (lowestConj t (n .rows)) g ≡ forEach (λ e. put t c x x (e .0) (successor t c tbox wanted (n .rows) e)) (existentials t (n .rows)) g
-    unfolding putSuccessors expandState
-    expand-successors e f z = expand-state e f ∙ other x z
-      where
-        other : (y : ℕ) → y ≢ 0 → expandState t c tbox wanted y g ≡ putSuccessors t c tbox wanted y g
-        other zero d = absurd (d refl)
-        other (suc y) d = refl
-
-    pub expand-is : expand t c tbox wanted x g ≡ (expandConj t c tbox wanted x (lowestConj t (n .rows)) g >>= judge (put t c) x >>= updateParents t c (update t c) x)
+    pub expand-is : expand P c x g ≡ (expandConj P c x (lowestConj (P .table) (n .rows)) g >>= judge (put P c) x >>= updateParents (update P c) x)
     unfolding expand
     expand-is = refl
 
   -- ---- the rounds
 
-  module _ (tbox wanted : List ℕ) (f : ℕ) (g : Graph) where
-    pub loop-settled : isLive (nodeAt g 0 .status) ≡ false → loopWithin t c tbox wanted (suc f) g ≡ reached g
+  module _ (f : ℕ) (g : Graph) where
+    pub loop-settled : isLive (nodeAt g 0 .status) ≡ false → loopWithin P c (suc f) g ≡ reached g
     unfolding loopWithin
     loop-settled e = rw (e, loopWithin)
 
-    pub loop-done : isLive (nodeAt g 0 .status) ≡ true → lowestUnset g ≡ none → loopWithin t c tbox wanted (suc f) g ≡ reached g
+    pub loop-done : isLive (nodeAt g 0 .status) ≡ true → lowestUnset g ≡ none → loopWithin P c (suc f) g ≡ reached g
     unfolding loopWithin
     loop-done e q = rw (e, q, loopWithin)
 
-    pub loop-round : isLive (nodeAt g 0 .status) ≡ true → (x : ℕ) → lowestUnset g ≡ some x → loopWithin t c tbox wanted (suc f) g ≡ (expand t c tbox wanted x g >>= loopWithin t c tbox wanted f)
+    pub loop-round : isLive (nodeAt g 0 .status) ≡ true → (x : ℕ) → lowestUnset g ≡ some x → loopWithin P c (suc f) g ≡ (expand P c x g >>= loopWithin P c f)
     unfolding loopWithin
     loop-round e x q = rw (e, q, loopWithin)
 

@@ -11,7 +11,7 @@ use native.Mathlib.Decide.{decLt}
 use native.Mathlib.Omega.{arith}
 use lib.Dec.{ltb, ltb→lt, lt→ltb, T-not}
 use lib.ListN.{length, getD, length-append}
-use Rattle.concepts.specs.Tests.{by-test}
+use Rattle.concepts.specs.Tests.{impossible, by-test}
 use Rattle.concepts.specs.Begins.{Begins, begins-refl, begins-trans}
 use Rattle.concepts.specs.Concept.{Table}
 use Rattle.procedure.specs.Graph.{Link, unlinked, toState, lapsed, Node, Edge, Alternative, Graph, nodeAt, nodeCount, children}
@@ -23,7 +23,7 @@ use Rattle.procedure.specs.ExampleLaws.{meet-met, meet-links}
 module _ {A B : Type 0} where
   bind-some : (o : Option A) (f : A → Option B) (y : B) → (o >>= f) ≡ some y → (x : A) × (o ≡ some x) × (f x ≡ some y)
   unfolding _>>=_
-  bind-some none f y e = let z : _≡_ {A = ℕ} 0 1 = cc in absurd (omega arith)
+  bind-some none f y e = impossible cc
   bind-some (some x) f y e = (x, refl, e)
 
   bind-each : (o : Option A) (f k : A → Option B) → ((x : A) → f x ≡ k x) → (o >>= f) ≡ (o >>= k)

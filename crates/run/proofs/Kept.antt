@@ -9,13 +9,15 @@ use Prim.Native.Nat.{ℕ, _*_, _<_}
 use native.Mathlib.Omega.{arith}
 use lib.Dec.{leb, nleb→lt}
 use lib.ListN.{length}
-use Rattle.concepts.specs.Tests.{from-false}
+use Rattle.concepts.specs.Tests.{impossible, from-false}
 use Rattle.meaning.specs.Meaning.{Model}
 use Rattle.rulefile.specs.Format.{Bytes, RuleFile, refused, accepted, reading}
 use Rattle.procedure.specs.Graph.{Area, noPlace}
 use Rattle.procedure.specs.Tableau.{run}
 use Rattle.procedure.specs.Example.{Example, worldOf}
-use Rattle.run.specs.Run.{Areas, Lengths, lengths, capacity, Answer, refusedFile, short, cannot, can, tooLong, undefined, fits, answerResult, refusedWith, numbers, answer, areasAfter}
+use Rattle.words.specs.Sizes.{setSize, linkSize}
+use Rattle.run.specs.Run.{Areas, Lengths, lengths, capacity, fileProblem, Answer, refusedFile, short, cannot, can, tooLong, undefined, fits, answerResult, refusedWith}
+use Rattle.run.specs.Run.{numbers, answer, areasAfter}
 use Rattle.run.specs.Claim.{Shows}
 use Rattle.run.specs.ExampleBytesLaws.{example-back}
 use Rattle.run.specs.Promise.{Right, Promise}
@@ -24,15 +26,15 @@ use Rattle.run.proofs.Verdict.{Backs, answer-accepted, answer-refused, 
 -- ---- an accepted file
 
 -- an example that does not fit is larger than one of its areas
-unfit : (l : Lengths) (x : Example) → fits l x ≡ false → (l .elements < 8 * length (x .elements)) ⊎ (l .links < 6 * length (x .links))
+unfit : (l : Lengths) (x : Example) → fits l x ≡ false → (l .elements < setSize * length (x .elements)) ⊎ (l .links < linkSize * length (x .links))
 unfolding fits
-unfit l x e = go (leb (8 * length (x .elements)) (l .elements)) refl (leb (6 * length (x .links)) (l .links)) refl e
+unfit l x e = go (leb (setSize * length (x .elements)) (l .elements)) refl (leb (linkSize * length (x .links)) (l .links)) refl e
   where
-    go : (b : Bool) → leb (8 * length (x .elements)) (l .elements) ≡ b → (d : Bool) → leb (6 * length (x .links)) (l .links) ≡ d → (b && d) ≡ false
-        → (l .elements < 8 * length (x .elements)) ⊎ (l .links < 6 * length (x .links))
-    go false p d q h = inl (nleb→lt (8 * length (x .elements)) (l .elements) (from-false (leb (8 * length (x .elements)) (l .elements)) p))
-    go true p false q h = inr (nleb→lt (6 * length (x .links)) (l .links) (from-false (leb (6 * length (x .links)) (l .links)) q))
-    go true p true q h = let z : _≡_ {A = ℕ} 0 1 = cc in absurd (omega arith)
+    go : (b : Bool) → leb (setSize * length (x .elements)) (l .elements) ≡ b → (d : Bool) → leb (linkSize * length (x .links)) (l .links) ≡ d → (b && d) ≡ false
+        → (l .elements < setSize * length (x .elements)) ⊎ (l .links < linkSize * length (x .links))
+    go false p d q h = inl (nleb→lt (setSize * length (x .elements)) (l .elements) (from-false (leb (setSize * length (x .elements)) (l .elements)) p))
+    go true p false q h = inr (nleb→lt (linkSize * length (x .links)) (l .links) (from-false (leb (linkSize * length (x .links)) (l .links)) q))
+    go true p true q h = impossible cc
 
 model-of : (f : RuleFile) (x : Example) → Shows f x → Model (f .table) (f .tbox) (f .wanted)
 model-of f x C = record { world = worldOf (f .table) x; obeys = C .obeys; element = 0; member = C .member }
@@ -43,7 +45,7 @@ module _ (f : RuleFile) (before : Areas) where
 
   -- a record that finds no place gives no other answer
   abbrev NoPlaceIs : Answer → Type 0
-  NoPlaceIs a = (r : Area) → run (f .table) (capacity l) (f .tbox) (f .wanted) ≡ noPlace r → a ≡ short r
+  NoPlaceIs a = (r : Area) → run (fileProblem f) (capacity l) ≡ noPlace r → a ≡ short r
 
   right-of : (a : Answer) → Backs f l a → NoPlaceIs a → Right f l (numbers a) (areasAfter a before)
   unfolding numbers areasAfter
@@ -90,13 +92,14 @@ module _ (f : RuleFile) (before : Areas) where
   right-of (refusedFile n) B P = absurd B
   right-of undefined B P = absurd B
 
-no-place-is : (b : Bytes) (l : Lengths) (f : RuleFile) → reading b ≡ accepted f → (r : Area) → run (f .table) (capacity l) (f .tbox) (f .wanted) ≡ noPlace r → answer b l ≡ short r
+no-place-is : (b : Bytes) (l : Lengths) (f : RuleFile) → reading b ≡ accepted f → (r : Area) → run (fileProblem f) (capacity l) ≡ noPlace r → answer b l ≡ short r
 unfolding answerResult
 no-place-is b l f e r q = answer-accepted b l f e ∙ ap (answerResult l (f .table)) q
 
 -- ---- the promise
 
-refused-kept : (file : Bytes) (before : Areas) (n : ℕ) → reading file ≡ refused n → (numbers (answer file (lengths before)) ≡ refusedWith n) × (areasAfter (answer file (lengths before)) before ≡ before)
+refused-kept : (file : Bytes) (before : Areas) (n : ℕ) → reading file ≡ refused n
+    → (numbers (answer file (lengths before)) ≡ refusedWith n) × (areasAfter (answer file (lengths before)) before ≡ before)
 unfolding numbers areasAfter
 refused-kept file before n e =
     let q = answer-refused file (lengths before) n e in

@@ -11,12 +11,14 @@ use Prim.Native.Nat.{ℕ, _^_, _≤_, _<_}
 use native.Mathlib.Omega.{arith}
 use lib.ListN.{length}
 use lib.Pow.{pow-mono}
+use Rattle.concepts.specs.Tests.{impossible}
 use Rattle.concepts.specs.Concept.{WellFormed}
 use Rattle.concepts.specs.RowSet.{RowSet}
 use Rattle.meaning.specs.Meaning.{Model}
 use Rattle.rulefile.specs.Format.{Bytes, RuleFile, Reading, refused, accepted, reading}
 use Rattle.decoding.specs.Decoding.{ruleKinds}
 use Rattle.rulefile.specs.FormatLaws.{accepted-admitted}
+use Rattle.procedure.specs.ProblemLaws.{well-posed}
 use Rattle.procedure.specs.Status.{Status, unset, «open», sat, unsat, toosmall}
 use Rattle.procedure.specs.Graph.{Graph, Capacity, Result, reached, noPlace, outOfFuel, nodeAt, nodeCount}
 use Rattle.procedure.specs.GraphLaws.{Sure}
@@ -24,9 +26,11 @@ use Rattle.procedure.specs.Tableau.{run}
 use Rattle.procedure.specs.Example.{RoleLink, Example, worldOf}
 use Rattle.procedure.proofs.Bare.{bare}
 use Rattle.procedure.proofs.Whole.{Ended, run-ends}
-use Rattle.procedure.proofs.Correct.{no-model, example-there, root-set, no-fuel}
+use Rattle.procedure.proofs.Correct.{no-model, example-there, example-obeys, example-member, root-set, no-fuel}
 use Rattle.procedure.proofs.Model.{ExampleRight}
-use Rattle.run.specs.Run.{Lengths, capacity, Used, used, Answer, refusedFile, short, cannot, can, tooLong, undefined, fits, answerCan, answerRoot, answerResult, answerReading, answer}
+use Rattle.words.specs.Sizes.{mostRecords}
+use Rattle.run.specs.Run.{Lengths, capacity, fileProblem, Used, used, Answer, refusedFile, short, cannot, can, tooLong, undefined, fits, answerCan, answerRoot}
+use Rattle.run.specs.Run.{answerResult, answerReading, answer}
 use Rattle.run.specs.Claim.{Shows, Claim, SaysCan}
 use Rattle.run.specs.ExampleBytesLaws.{LinkFits}
 
@@ -44,7 +48,7 @@ abbrev pub Backs : RuleFile → Lengths → Answer → Type 0
 Backs f l (cannot u) = Model (f .table) (f .tbox) (f .wanted) → ⊥
 Backs f l (can u x) = Backed f u x
 Backs f l (tooLong x) = Shows f x × (fits l x ≡ false)
-Backs f l (short a) = run (f .table) (capacity l) (f .tbox) (f .wanted) ≡ noPlace a
+Backs f l (short a) = run (fileProblem f) (capacity l) ≡ noPlace a
 Backs f l (refusedFile n) = ⊥
 Backs f l undefined = ⊥
 
@@ -63,19 +67,22 @@ module _ (f : RuleFile) (W : WellFormed (f .table) (f .tbox) (f .wanted)) (few :
   c = capacity l
 
   abbrev runOf : Result
-  runOf = run (f .table) c (f .tbox) (f .wanted)
+  runOf = run (fileProblem f) c
 
-  shows-of : (g : Graph) (x : Example) → ExampleRight (f .table) (f .tbox) (f .wanted) g x → Shows f x
-  shows-of g x R = record { obeys = R .obeys; member = R .member }
+  shows-of : (g : Graph) (x : Example) → ExampleRight (fileProblem f) g x → Shows f x
+  shows-of g x R = record {
+    obeys = example-obeys (f .table) c (f .tbox) (f .wanted) W g x R;
+    member = example-member (f .table) c (f .tbox) (f .wanted) W g x R;
+  }
 
   -- a run makes no more nodes than there are places
-  nodes-fit : (g : Graph) → runOf ≡ reached g → nodeCount g ≤ 4096
+  nodes-fit : (g : Graph) → runOf ≡ reached g → nodeCount g ≤ mostRecords
   nodes-fit g e =
-      let S = bare (f .table) c (f .tbox) (f .wanted) W in
+      let S = bare (fileProblem f) c (well-posed (f .table) (f .tbox) (f .wanted) W) in
       let E : Ended S g = subst (λ (r : Result). Sure (Ended S) r) e (run-ends S) in
       omega (arith, E .inv .fits)
 
-  backed : (g : Graph) → runOf ≡ reached g → (x : Example) → ExampleRight (f .table) (f .tbox) (f .wanted) g x → Backed f (used g) x
+  backed : (g : Graph) → runOf ≡ reached g → (x : Example) → ExampleRight (fileProblem f) g x → Backed f (used g) x
   backed g e x R = record {
     shows = shows-of g x R;
     few-elements = R .few-elements;
@@ -89,7 +96,7 @@ module _ (f : RuleFile) (W : WellFormed (f .table) (f .tbox) (f .wanted)) (few :
       pow-le : length (f .table) ≤ 64 → 2 ^ length (f .table) ≤ 2 ^ 64
       pow-le h = pow-mono h
 
-  can-backed : (g : Graph) → runOf ≡ reached g → (x : Example) → ExampleRight (f .table) (f .tbox) (f .wanted) g x → Backs f l (answerCan l (used g) (some x))
+  can-backed : (g : Graph) → runOf ≡ reached g → (x : Example) → ExampleRight (fileProblem f) g x → Backs f l (answerCan l (used g) (some x))
   unfolding answerCan
   can-backed g e x R = go (fits l x) refl
     where
@@ -101,7 +108,7 @@ module _ (f : RuleFile) (W : WellFormed (f .table) (f .tbox) (f .wanted)) (few :
   unfolding answerRoot
   root-backed g e unset q = root-set (f .table) c (f .tbox) (f .wanted) W g e q
   root-backed g e sat q =
-      let (x, p, R) = example-there (f .table) c (f .tbox) (f .wanted) W g e false (λ w. let z : _≡_ {A = ℕ} 0 1 = cc in absurd (omega arith)) (rw q tt) in
+      let (x, p, R) = example-there (f .table) c (f .tbox) (f .wanted) W g e false (λ w. impossible cc) (rw q tt) in
       subst (λ (o : Option Example). Backs f l (answerCan l (used g) o)) (sym p) (can-backed g e x R)
   root-backed g e «open» q =
       let (x, p, R) = example-there (f .table) c (f .tbox) (f .wanted) W g e true (λ w. rw q tt) (rw q tt) in
@@ -117,7 +124,7 @@ module _ (f : RuleFile) (W : WellFormed (f .table) (f .tbox) (f .wanted)) (few :
 
 -- ---- the answer to a file
 
-pub answer-accepted : (b : Bytes) (l : Lengths) (f : RuleFile) → reading b ≡ accepted f → answer b l ≡ answerResult l (f .table) (run (f .table) (capacity l) (f .tbox) (f .wanted))
+pub answer-accepted : (b : Bytes) (l : Lengths) (f : RuleFile) → reading b ≡ accepted f → answer b l ≡ answerResult l (f .table) (run (fileProblem f) (capacity l))
 unfolding answer answerReading
 answer-accepted b l f e = ap (answerReading l) e
 
@@ -128,7 +135,7 @@ answer-refused b l n e = ap (answerReading l) e
 pub answer-backed : (b : Bytes) (l : Lengths) (f : RuleFile) → reading b ≡ accepted f → Backs f l (answer b l)
 answer-backed b l f e =
     subst (Backs f l) (sym (answer-accepted b l f e))
-    (result-backed f (accepted-admitted ruleKinds b f e .wellFormed) (accepted-admitted ruleKinds b f e .fewRows) l (run (f .table) (capacity l) (f .tbox) (f .wanted)) refl)
+    (result-backed f (accepted-admitted ruleKinds b f e .wellFormed) (accepted-admitted ruleKinds b f e .fewRows) l (run (fileProblem f) (capacity l)) refl)
 
 pub answer-right : (b : Bytes) (l : Lengths) (f : RuleFile) → reading b ≡ accepted f → Claim f (answer b l)
 answer-right b l f e = claimed f l (answer b l) (answer-backed b l f e)

@@ -9,14 +9,15 @@ use Rattle.concepts.specs.RowSet.{RowSet}
 use Rattle.rulefile.specs.Format.{Bytes}
 use Rattle.procedure.specs.Example.{RoleLink, Example}
 use Rattle.words.specs.Words.{leAt}
+use Rattle.words.specs.Sizes.{setSize, linkSize}
 
 -- "elements (8 bytes: the row set, row k as bit k, low byte first)"
 abbrev pub elementAt : Bytes → ℕ → RowSet
-elementAt b d = leAt b (8 * d) 8
+elementAt b d = leAt b (setSize * d) setSize
 
 -- "links (6 bytes: from, role code, to, 2 bytes each, low byte first)"
 abbrev pub linkAt : Bytes → ℕ → RoleLink
-linkAt b i = record { from = leAt b (6 * i) 2; role = leAt b (6 * i + 2) 2; to = leAt b (6 * i + 4) 2 }
+linkAt b i = record { from = leAt b (linkSize * i) 2; role = leAt b (linkSize * i + 2) 2; to = leAt b (linkSize * i + 4) 2 }
 
 -- the first m elements of one area and the first k links of the other
 unfoldable pub exampleIn : Bytes → Bytes → ℕ → ℕ → Example

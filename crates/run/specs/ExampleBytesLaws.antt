@@ -14,6 +14,7 @@ use Rattle.concepts.specs.RowSet.{RowSet}
 use Rattle.rulefile.specs.Format.{Bytes}
 use Rattle.procedure.specs.Example.{RoleLink, Example}
 use Rattle.words.specs.Words.{leAt, putLe}
+use Rattle.words.specs.Sizes.{setSize, linkSize}
 use Rattle.run.specs.Run.{littleEndian, elementBytes, linkBytes, overwrite}
 use Rattle.run.specs.ExampleBytes.{elementAt, linkAt, exampleIn}
 
@@ -60,7 +61,8 @@ putLe-overwrite bs area at (suc n) v l h =
 
 -- ---- records of one size, one after another
 
-module _ {A : Type 0} (size : ℕ) (bytes : A → Bytes) (all : List A → Bytes) (cons : (x : A) (xs : List A) → all (x ∷ xs) ≡ bytes x ++ all xs) (sized : (x : A) → length (bytes x) ≡ size) where
+module _ {A : Type 0} (size : ℕ) (bytes : A → Bytes) (all : List A → Bytes) (cons : (x : A) (xs : List A) → all (x ∷ xs) ≡ bytes x ++ all xs)
+    (sized : (x : A) → length (bytes x) ≡ size) where
   length-all : all [] ≡ [] → (xs : List A) → length (all xs) ≡ size * length xs
   length-all nil [] = ap length nil ∙ omega arith
   length-all nil (x ∷ xs) = ap length (cons x xs) ∙ length-append (bytes x) (all xs) ∙ omega (arith, sized x, length-all nil xs, mul-suc size (length xs))
@@ -85,7 +87,7 @@ module _ {A : Type 0} (size : ℕ) (bytes : A → Bytes) (all : List A → Bytes
 
 -- ---- elements
 
-element-cons : (s : RowSet) (ss : List RowSet) → elementBytes (s ∷ ss) ≡ littleEndian 8 s ++ elementBytes ss
+element-cons : (s : RowSet) (ss : List RowSet) → elementBytes (s ∷ ss) ≡ littleEndian setSize s ++ elementBytes ss
 unfolding elementBytes
 element-cons s ss = refl
 
@@ -93,18 +95,19 @@ element-nil : elementBytes [] ≡ []
 unfolding elementBytes
 element-nil = refl
 
-pub length-elementBytes : (ss : List RowSet) → length (elementBytes ss) ≡ 8 * length ss
-length-elementBytes = length-all 8 (littleEndian 8) elementBytes element-cons (length-littleEndian 8) element-nil
+pub length-elementBytes : (ss : List RowSet) → length (elementBytes ss) ≡ setSize * length ss
+length-elementBytes = length-all setSize (littleEndian setSize) elementBytes element-cons (length-littleEndian setSize) element-nil
 
-pub elementBytes-snoc : (ss : List RowSet) (s : RowSet) → elementBytes (ss ++ s ∷ []) ≡ elementBytes ss ++ littleEndian 8 s
-elementBytes-snoc = all-snoc 8 (littleEndian 8) elementBytes element-cons (length-littleEndian 8) element-nil
+pub elementBytes-snoc : (ss : List RowSet) (s : RowSet) → elementBytes (ss ++ s ∷ []) ≡ elementBytes ss ++ littleEndian setSize s
+elementBytes-snoc = all-snoc setSize (littleEndian setSize) elementBytes element-cons (length-littleEndian setSize) element-nil
 
-element-back : (p q : Bytes) (d : ℕ) (s : RowSet) → length p ≡ 8 * d → s < 2 ^ 64 → elementAt (p ++ littleEndian 8 s ++ q) d ≡ s
-element-back p q d s h fits = leAt-littleEndian p q (8 * d) 8 s h fits
+element-back : (p q : Bytes) (d : ℕ) (s : RowSet) → length p ≡ setSize * d → s < 2 ^ 64 → elementAt (p ++ littleEndian setSize s ++ q) d ≡ s
+element-back p q d s h fits = leAt-littleEndian p q (setSize * d) setSize s h fits
 
 elements-back : (ss : List RowSet) (area : Bytes) → ((s : RowSet) → List·Memᴰ s ss → s < 2 ^ 64) → map (elementAt (overwrite (elementBytes ss) area)) (range 0 (length ss)) ≡ ss
 elements-back ss area fits =
-    all-back 8 (littleEndian 8) elementBytes element-cons (length-littleEndian 8) elementAt (λ s. s < 2 ^ 64) element-back [] (drop (length (elementBytes ss)) area) 0 ss (omega arith) fits
+    all-back setSize (littleEndian setSize) elementBytes element-cons (length-littleEndian setSize) elementAt (λ s. s < 2 ^ 64) element-back [] (drop (length (elementBytes ss)) area) 0 ss
+    (omega arith) fits
 
 -- ---- links
 
@@ -120,20 +123,20 @@ link-nil : linkBytes [] ≡ []
 unfolding linkBytes
 link-nil = refl
 
-length-linkRecord : (l : RoleLink) → length (linkRecord l) ≡ 6
+length-linkRecord : (l : RoleLink) → length (linkRecord l) ≡ linkSize
 length-linkRecord l = simp (length-append, length-littleEndian)
 
-pub length-linkBytes : (ls : List RoleLink) → length (linkBytes ls) ≡ 6 * length ls
-length-linkBytes = length-all 6 linkRecord linkBytes link-cons length-linkRecord link-nil
+pub length-linkBytes : (ls : List RoleLink) → length (linkBytes ls) ≡ linkSize * length ls
+length-linkBytes = length-all linkSize linkRecord linkBytes link-cons length-linkRecord link-nil
 
 pub linkBytes-snoc : (ls : List RoleLink) (l : RoleLink) → linkBytes (ls ++ l ∷ []) ≡ linkBytes ls ++ linkRecord l
-linkBytes-snoc = all-snoc 6 linkRecord linkBytes link-cons length-linkRecord link-nil
+linkBytes-snoc = all-snoc linkSize linkRecord linkBytes link-cons length-linkRecord link-nil
 
 -- each number of a link fits two bytes
 abbrev pub LinkFits : RoleLink → Type 0
 LinkFits l = (l .from < 65536) × (l .role < 65536) × (l .to < 65536)
 
-link-back : (p q : Bytes) (i : ℕ) (l : RoleLink) → length p ≡ 6 * i → LinkFits l → linkAt (p ++ linkRecord l ++ q) i ≡ l
+link-back : (p q : Bytes) (i : ℕ) (l : RoleLink) → length p ≡ linkSize * i → LinkFits l → linkAt (p ++ linkRecord l ++ q) i ≡ l
 link-back p q i l h fits =
     let f : Bytes = littleEndian 2 (l .from) in
     let r : Bytes = littleEndian 2 (l .role) in
@@ -142,15 +145,16 @@ link-back p q i l h fits =
     let at-from : b ≡ p ++ f ++ (r ++ t ++ q) = simp append-assoc in
     let at-role : b ≡ p ++ f ++ r ++ (t ++ q) = simp append-assoc in
     let at-to : b ≡ p ++ f ++ r ++ t ++ q = simp append-assoc in
-    let from : leAt b (6 * i) 2 ≡ l .from = ap (λ (c : Bytes). leAt c (6 * i) 2) at-from ∙ leAt-littleEndian p (r ++ t ++ q) (6 * i) 2 (l .from) h (fits .0) in
-    let role : leAt b (6 * i + 2) 2 ≡ l .role =
-    ap (λ (c : Bytes). leAt c (6 * i + 2) 2) at-role ∙ leAt-littleEndian (p ++ f) (t ++ q) (6 * i + 2) 2 (l .role) (simp (length-append, length-littleEndian) (omega arith)) (fits .1) in
-    let to : leAt b (6 * i + 4) 2 ≡ l .to =
-    ap (λ (c : Bytes). leAt c (6 * i + 4) 2) at-to ∙ leAt-littleEndian (p ++ f ++ r) q (6 * i + 4) 2 (l .to) (simp (length-append, length-littleEndian) (omega arith)) (fits .2) in
+    let from : leAt b (linkSize * i) 2 ≡ l .from = ap (λ (c : Bytes). leAt c (linkSize * i) 2) at-from ∙ leAt-littleEndian p (r ++ t ++ q) (linkSize * i) 2 (l .from) h (fits .0) in
+    let role : leAt b (linkSize * i + 2) 2 ≡ l .role =
+    ap (λ (c : Bytes). leAt c (linkSize * i + 2) 2) at-role
+    ∙ leAt-littleEndian (p ++ f) (t ++ q) (linkSize * i + 2) 2 (l .role) (simp (length-append, length-littleEndian) (omega arith)) (fits .1) in
+    let to : leAt b (linkSize * i + 4) 2 ≡ l .to =
+    ap (λ (c : Bytes). leAt c (linkSize * i + 4) 2) at-to ∙ leAt-littleEndian (p ++ f ++ r) q (linkSize * i + 4) 2 (l .to) (simp (length-append, length-littleEndian) (omega arith)) (fits .2) in
     rw (from, role, to)
 
 links-back : (ls : List RoleLink) (area : Bytes) → ((l : RoleLink) → List·Memᴰ l ls → LinkFits l) → map (linkAt (overwrite (linkBytes ls) area)) (range 0 (length ls)) ≡ ls
-links-back ls area fits = all-back 6 linkRecord linkBytes link-cons length-linkRecord linkAt LinkFits link-back [] (drop (length (linkBytes ls)) area) 0 ls (omega arith) fits
+links-back ls area fits = all-back linkSize linkRecord linkBytes link-cons length-linkRecord linkAt LinkFits link-back [] (drop (length (linkBytes ls)) area) 0 ls (omega arith) fits
 
 -- ---- an example read back
 

@@ -10,11 +10,16 @@ use Rattle.concepts.specs.RowSet.{RowSet, mem, single, union, fromList, members
 use Rattle.rulefile.specs.Format.{Bytes, badLength, badMark, badCounts, badPlace, badRow, badArgument, sameRow, repeated, badRule, isName, checks, refusal, readingOf}
 use Rattle.decoding.specs.Decoding.{ofKind, decode}
 use Rattle.procedure.specs.Status.{branchTable, stateTable, entry, foldStatus}
+use Rattle.procedure.specs.Problem.{opposedNames}
 use Rattle.procedure.specs.SetTests.{clash, lowestConj, lowestDisj, unfinished, box, lacking, existentials}
-use Rattle.procedure.specs.Graph.{nodeArea, edgeArea, alternativeArea, _>>=_, forEach, addNode, addEdge, hasAlternative, addAlternative, children, parents, alternativesOf, lowest, findState, lowestUnset}
-use Rattle.procedure.specs.Tableau.{foldChildren, putAlternatives, judgeLinked, judgeBy, judge, joinAlternatives, linkTo, linkFound, linkSpecial, putSpecial, putNode, putBy, putWithin, put, updateParents, updateChanged, updateWithin, update, successor, putSuccessors, putKit, expandState, expandDisj, expandConj, expand, loopWithin, run}
+use Rattle.procedure.specs.Graph.{nodeArea, edgeArea, alternativeArea, _>>=_, forEach, addNode, addEdge, hasAlternative, addAlternative, children, parents, alternativesOf}
+use Rattle.procedure.specs.Graph.{lowest, findState, lowestUnset}
+use Rattle.procedure.specs.Tableau.{foldChildren, putAlternatives, judgeLinked, judgeBy, judge, joinAlternatives, linkTo, linkFound, linkSpecial, putSpecial, putNode, putBy}
+use Rattle.procedure.specs.Tableau.{putWithin, put, updateParents, updateChanged, updateWithin, update, successor, putSuccessors, putKit, expandState, expandDisj, expandConj}
+use Rattle.procedure.specs.Tableau.{expand, loopWithin, run}
 use Rattle.procedure.specs.Example as X
 use Rattle.procedure.specs.Example.{RoleLink, firstChild, liveChild, descendBy, descendWithin, descend, position, meet, walkRows, rowsOf, walkWithin, walk, example}
+use Rattle.words.specs.Sizes.{nodeSize, edgeSize, alternativeSize}
 use Rattle.run.specs.Run.{Lengths, Used, Answer, refusedFile, short, cannot, can, fits, answerCan, answerRoot, answerResult, answerReading, answer}
 
 pub record KnownRun : Type 0 where
@@ -33,7 +38,7 @@ row kind role left right = kind ∷ role ∷ left ∷ right ∷ []
 
 -- so many nodes, edges and alternatives, and the program's example areas
 abbrev lend : ℕ → ℕ → ℕ → Lengths
-lend n e a = record { nodes = n * 64; edges = e * 16; alternatives = a * 16; elements = 8192; links = 49152 }
+lend n e a = record { nodes = n * nodeSize; edges = e * edgeSize; alternatives = a * alternativeSize; elements = 8192; links = 49152 }
 
 abbrev pub program : Lengths
 program = lend 1024 4096 4096
@@ -67,5 +72,10 @@ knownRuns =
     ∷ []
 
 pub known-runs : map (λ (k : KnownRun). answer (k .file) (k .lent)) knownRuns ≡ map (λ (k : KnownRun). k .expected) knownRuns
-unfolding knownRuns written flatten range select any every consAnswer answers first inverse mem single union fromList members ofKind decode badLength badMark badCounts badPlace badRow badArgument sameRow repeated badRule isName checks refusal readingOf branchTable stateTable entry foldStatus clash lowestConj lowestDisj unfinished box lacking existentials _>>=_ forEach addNode addEdge hasAlternative addAlternative children parents alternativesOf lowest findState lowestUnset foldChildren putAlternatives judgeLinked judgeBy judge joinAlternatives linkTo linkFound linkSpecial putSpecial putNode putBy putWithin put updateParents updateChanged updateWithin update successor putSuccessors putKit expandState expandDisj expandConj expand loopWithin run X._>>=_ firstChild liveChild descendBy descendWithin descend position meet walkRows rowsOf walkWithin walk example fits answerCan answerRoot answerResult answerReading answer mathlib.Core.List.zip mathlib.Core.List.zipWith
+unfolding knownRuns written flatten range select any every consAnswer answers first inverse mem single union fromList members ofKind decode badLength badMark badCounts badPlace
+    badRow badArgument sameRow repeated badRule isName checks refusal readingOf branchTable stateTable entry foldStatus opposedNames clash lowestConj lowestDisj unfinished box
+    lacking existentials _>>=_ forEach addNode addEdge hasAlternative addAlternative children parents alternativesOf lowest findState lowestUnset foldChildren putAlternatives
+    judgeLinked judgeBy judge joinAlternatives linkTo linkFound linkSpecial putSpecial putNode putBy putWithin put updateParents updateChanged updateWithin update successor
+    putSuccessors putKit expandState expandDisj expandConj expand loopWithin run X._>>=_ firstChild liveChild descendBy descendWithin descend position meet walkRows rowsOf
+    walkWithin walk example fits answerCan answerRoot answerResult answerReading answer mathlib.Core.List.zip mathlib.Core.List.zipWith
 known-runs = refl

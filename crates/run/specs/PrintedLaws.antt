@@ -16,7 +16,8 @@ use Rattle.rulefile.specs.Format.{Bytes}
 use Rattle.words.specs.Words.{leAt}
 use Rattle.run.specs.Run.{Numbers, refusedWith, littleEndian, elementBytes, linkBytes}
 use Rattle.run.specs.ExampleBytes.{elementAt, linkAt}
-use Rattle.run.specs.Printed.{ascii, digit, hexadecimal, decimalWithin, decimal, spaced, line, elementLine, linkLine, elementLines, linkLines, usedLine, refusedLine, canLines, cannotLines, printed}
+use Rattle.run.specs.Printed.{ascii, digit, hexadecimal, decimalWithin, decimal, spaced, line, elementLine, linkLine, elementLines, linkLines, usedLine, refusedLine}
+use Rattle.run.specs.Printed.{canLines, cannotLines, printed}
 
 -- ---- the run that document 01 prints, and what is printed otherwise
 

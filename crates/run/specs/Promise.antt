@@ -4,17 +4,22 @@
 -- It is kept: proofs/Kept.
 -- Assumes nothing.
 use mathlib.Core.Path.{_≡_}
-use mathlib.Core.Logic.{_⊎_, _≢_}
+use mathlib.Core.Logic.{_⊎_}
 use Prim.Native.Nat.{ℕ, _*_, _<_}
 use Rattle.meaning.specs.Meaning.{Model}
 use Rattle.rulefile.specs.Format.{Bytes, RuleFile, refused, accepted, reading}
 use Rattle.procedure.specs.Graph.{Area, noPlace}
 use Rattle.procedure.specs.Tableau.{run}
-use Rattle.run.specs.Run.{Areas, Lengths, lengths, capacity, Numbers, refusedWith, numbers, answer, areasAfter}
+use Rattle.words.specs.Sizes.{setSize, linkSize}
+use Rattle.run.specs.Run.{Areas, Lengths, lengths, capacity, fileProblem, Numbers, refusedWith, numbers, answer, areasAfter}
 use Rattle.run.specs.Claim.{Shows}
 use Rattle.run.specs.ExampleBytes.{exampleIn}
 
 -- ---- demand 3: the file f is accepted, areas of lengths l are lent, r are the numbers of the answer, and the example areas hold `after`
+
+-- refusal 10
+abbrev pub SaysShort : Numbers → Type 0
+SaysShort r = r .refusal ≡ 10
 
 abbrev pub SaysCannot : Numbers → Type 0
 SaysCannot r = r .verdict ≡ 2
@@ -25,16 +30,16 @@ SaysCan r = (r .verdict ≡ 1) ⊎ (r .refusal ≡ 11)
 
 pub record Right (f : RuleFile) (l : Lengths) (r : Numbers) (after : Areas) : Type 0 where
   -- refusal 10 exactly when a record of the procedure finds no place
-  pub short : r .refusal ≡ 10 → (a : Area) × (run (f .table) (capacity l) (f .tbox) (f .wanted) ≡ noPlace a)
-  pub shortOnly : (a : Area) → run (f .table) (capacity l) (f .tbox) (f .wanted) ≡ noPlace a → r .refusal ≡ 10
+  pub short : SaysShort r → (a : Area) × (run (fileProblem f) (capacity l) ≡ noPlace a)
+  pub shortOnly : (a : Area) → run (fileProblem f) (capacity l) ≡ noPlace a → SaysShort r
   -- else "cannot" exactly when no finite world of any size will do
   pub cannot : SaysCannot r → Model (f .table) (f .tbox) (f .wanted) → ⊥
-  pub cannotOnly : r .refusal ≢ 10 → (Model (f .table) (f .tbox) (f .wanted) → ⊥) → SaysCannot r
+  pub cannotOnly : (SaysShort r → ⊥) → (Model (f .table) (f .tbox) (f .wanted) → ⊥) → SaysCannot r
   -- "can" or 11 exactly when one does
   pub can : SaysCan r → Model (f .table) (f .tbox) (f .wanted)
-  pub canOnly : r .refusal ≢ 10 → Model (f .table) (f .tbox) (f .wanted) → SaysCan r
+  pub canOnly : (SaysShort r → ⊥) → Model (f .table) (f .tbox) (f .wanted) → SaysCan r
   -- 11 only where the example is larger than its areas
-  pub tooLong : r .refusal ≡ 11 → (l .elements < 8 * r .elements) ⊎ (l .links < 6 * r .links)
+  pub tooLong : r .refusal ≡ 11 → (l .elements < setSize * r .elements) ⊎ (l .links < linkSize * r .links)
   -- with "can" the world read from the bytes of the example areas obeys every rule at each element, and its element 0 is a member of the kit
   pub example : r .verdict ≡ 1 → Shows f (exampleIn (after .elements) (after .links) (r .elements) (r .links))
 

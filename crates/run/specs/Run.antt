@@ -10,11 +10,13 @@ use lib.Dec.{leb}
 use lib.ListN.{length, drop, replicate}
 use Rattle.concepts.specs.Concept.{Table}
 use Rattle.concepts.specs.RowSet.{RowSet}
-use Rattle.rulefile.specs.Format.{Bytes, Reading, refused, accepted, reading}
+use Rattle.rulefile.specs.Format.{Bytes, RuleFile, Reading, refused, accepted, reading}
+use Rattle.procedure.specs.Problem.{Problem, problem}
 use Rattle.procedure.specs.Status.{Status, unset, «open», sat, unsat, toosmall}
 use Rattle.procedure.specs.Graph.{Graph, Capacity, Area, Result, reached, noPlace, outOfFuel, nodeAt}
 use Rattle.procedure.specs.Tableau as Tableau
 use Rattle.procedure.specs.Example.{RoleLink, Example, example}
+use Rattle.words.specs.Sizes.{nodeSize, edgeSize, alternativeSize, mostRecords, setSize, linkSize}
 
 -- ---- what is lent
 
@@ -49,9 +51,9 @@ lengths a = record {
 -- "nodes (64 bytes each), graph edges (16) and alternatives (16); whole records count, and at most 4,096 of each"
 abbrev pub capacity : Lengths → Capacity
 capacity l = record {
-  nodeRoom = min 4096 (l .nodes / 64);
-  edgeRoom = min 4096 (l .edges / 16);
-  alternativeRoom = min 4096 (l .alternatives / 16);
+  nodeRoom = min mostRecords (l .nodes / nodeSize);
+  edgeRoom = min mostRecords (l .edges / edgeSize);
+  alternativeRoom = min mostRecords (l .alternatives / alternativeSize);
 }
 
 -- ---- the answer
@@ -75,7 +77,7 @@ pub data Answer : Type 0 where
 
 -- "elements (8 bytes ..) and links (6 bytes ..)"
 unfoldable pub fits : Lengths → Example → Bool
-fits l x = leb (8 * length (x .elements)) (l .elements) && leb (6 * length (x .links)) (l .links)
+fits l x = leb (setSize * length (x .elements)) (l .elements) && leb (linkSize * length (x .links)) (l .links)
 
 unfoldable pub answerCan : Lengths → Used → Option Example → Answer
 answerCan l u (some x) = elim (fits l x) [ true ↦ can u x | false ↦ tooLong x ]
@@ -94,9 +96,13 @@ answerResult l t (reached g) = answerRoot (nodeAt g 0 .status) l t g
 answerResult l t (noPlace a) = short a
 answerResult l t outOfFuel = undefined
 
+-- what the run on an accepted file is about
+abbrev pub fileProblem : RuleFile → Problem
+fileProblem f = problem (f .table) (f .tbox) (f .wanted)
+
 unfoldable pub answerReading : Lengths → Reading → Answer
 answerReading l (refused n) = refusedFile n
-answerReading l (accepted f) = answerResult l (f .table) (Tableau.run (f .table) (capacity l) (f .tbox) (f .wanted))
+answerReading l (accepted f) = answerResult l (f .table) (Tableau.run (fileProblem f) (capacity l))
 
 -- the answer to a file, given the lengths of the areas: what the areas hold has no say in it
 unfoldable pub answer : Bytes → Lengths → Answer
@@ -134,7 +140,7 @@ littleEndian (suc n) v = v % 256 ∷ littleEndian n (v / 256)
 
 unfoldable pub elementBytes : List RowSet → Bytes
 elementBytes [] = []
-elementBytes (s ∷ ss) = littleEndian 8 s ++ elementBytes ss
+elementBytes (s ∷ ss) = littleEndian setSize s ++ elementBytes ss
 
 unfoldable pub linkBytes : List RoleLink → Bytes
 linkBytes [] = []

@@ -5,25 +5,27 @@
 use mathlib.Core.Path.{_≡_, refl}
 use mathlib.Core.Bool.{Bool, true, false, _&&_}
 use mathlib.Core.Option.{Option, none, some}
-use Prim.Native.Nat.{ℕ, _*_, _≤_}
+use Prim.Native.Nat.{_*_, _≤_}
 use native.Mathlib.Omega.{arith}
 use lib.Dec.{leb}
 use lib.ListN.{length}
 use borrow.Author.Tests.{leb-true}
+use Rattle.concepts.specs.Tests.{impossible}
 use Rattle.concepts.specs.Concept.{Table}
 use Rattle.rulefile.specs.Format.{Bytes, Reading, refused, accepted, reading}
 use Rattle.procedure.specs.Status.{Status, unset, «open», sat, unsat, toosmall}
 use Rattle.procedure.specs.Graph.{Graph, Result, reached, noPlace, outOfFuel, nodeAt}
 use Rattle.procedure.specs.Tableau.{run}
 use Rattle.procedure.specs.Example.{Example, example}
-use Rattle.run.specs.Run.{Lengths, capacity, Used, used, Answer, can, tooLong, fits, answerCan, answerRoot, answerResult, answerReading, answer, Numbers, numbers}
+use Rattle.words.specs.Sizes.{setSize, linkSize}
+use Rattle.run.specs.Run.{Lengths, capacity, fileProblem, Used, used, Answer, can, tooLong, fits, answerCan, answerRoot, answerResult, answerReading, answer, Numbers, numbers}
 
 -- ---- what has room
 
 -- so many elements and links have room in areas of these lengths
 pub record Room (l : Lengths) (n : Numbers) : Type 0 where
-  pub elements : 8 * n .elements ≤ l .elements
-  pub links : 6 * n .links ≤ l .links
+  pub elements : setSize * n .elements ≤ l .elements
+  pub links : linkSize * n .links ≤ l .links
 
 -- "can" is said only where the example has room
 abbrev RoomWithCan : Lengths → Answer → Type 0
@@ -33,12 +35,13 @@ RoomWithCan l a = numbers a .verdict ≡ 1 → Room l (numbers a)
 
 fits-room : (l : Lengths) (u : Used) (x : Example) → fits l x ≡ true → Room l (numbers (can u x))
 unfolding fits numbers
-fits-room l u x e = go (leb (8 * length (x .elements)) (l .elements)) refl (leb (6 * length (x .links)) (l .links)) refl e
+fits-room l u x e = go (leb (setSize * length (x .elements)) (l .elements)) refl (leb (linkSize * length (x .links)) (l .links)) refl e
   where
-    go : (b : Bool) → leb (8 * length (x .elements)) (l .elements) ≡ b → (d : Bool) → leb (6 * length (x .links)) (l .links) ≡ d → (b && d) ≡ true → Room l (numbers (can u x))
-    go true p true q h = record { elements = leb-true (8 * length (x .elements)) (l .elements) p; links = leb-true (6 * length (x .links)) (l .links) q }
-    go true p false q h = let z : _≡_ {A = ℕ} 0 1 = cc in absurd (omega arith)
-    go false p d q h = let z : _≡_ {A = ℕ} 0 1 = cc in absurd (omega arith)
+    go : (b : Bool) → leb (setSize * length (x .elements)) (l .elements) ≡ b → (d : Bool) → leb (linkSize * length (x .links)) (l .links) ≡ d → (b && d) ≡ true
+        → Room l (numbers (can u x))
+    go true p true q h = record { elements = leb-true (setSize * length (x .elements)) (l .elements) p; links = leb-true (linkSize * length (x .links)) (l .links) q }
+    go true p false q h = impossible cc
+    go false p d q h = impossible cc
 
 -- ---- the answer
 
@@ -69,7 +72,7 @@ module _ (l : Lengths) where
   answerReading-room : (r : Reading) → RoomWithCan l (answerReading l r)
   unfolding answerReading numbers
   answerReading-room (refused n) e = absurd (omega (arith, e))
-  answerReading-room (accepted f) e = answerResult-room (f .table) (run (f .table) (capacity l) (f .tbox) (f .wanted)) e
+  answerReading-room (accepted f) e = answerResult-room (f .table) (run (fileProblem f) (capacity l)) e
 
 -- ---- the answer to a file
 
