@@ -3,14 +3,14 @@
 -- In order: a row by the tests of its kind; the rows that it names, by these tests (`namedRows-tests`) and case by case (`named-..`); a row that is not malformed is decoded (`formed`);
 -- its role is small (`role-small`); a row that names no row has kind 1 or 2 (`literal-kind`).
 -- Assumes nothing.
-use mathlib.Core.Path.{_≡_, refl, sym, ap, _∙_}
+use mathlib.Core.Path.{_≡_, refl, ap, _∙_}
 use mathlib.Core.Bool.{Bool, true, false, _&&_, _||_, cond}
 use mathlib.Core.List.{List, [], _∷_}
 use mathlib.Core.Option.{Option, none, some}
 use Prim.Native.Nat.{ℕ, _<_}
 use native.Mathlib.Omega.{arith}
 use lib.Dec.{eqb, leb, T, leb→le}
-use Rattle.concepts.specs.Tests.{and-both}
+use Rattle.concepts.specs.Tests.{impossible, and-both}
 use Rattle.concepts.specs.RowSet.{mem}
 use Rattle.concepts.specs.Concept.{Concept, atomic, negated, conj, disj, univ, exist, arguments, roleOf}
 use Rattle.decoding.specs.Decoding.{only, ofKind, decode, malformed, conceptOf}
@@ -30,7 +30,7 @@ byTests k₁ k₂ k₃ k₄ k₅ k₆ name pair modal role left right =
 
 pub only-some : (test : Bool) (c d : Concept) → only test c ≡ some d → T test × (d ≡ c)
 only-some true c d e = (tt, cc)
-only-some false c d e = let z : _≡_ {A = ℕ} 0 1 = cc in absurd (omega arith)
+only-some false c d e = impossible cc
 
 -- ---- the rows that a row names
 
@@ -110,7 +110,7 @@ module _ (kinds kind role left right : ℕ) where
     where
       of : (o : Option Concept) → _≡_ {A = Bool} (elim o [ some c ↦ false | none ↦ true ]) false → o ≡ some (elim o [ some c ↦ c | none ↦ atomic 0 ])
       of (some c) e = refl
-      of none e = let z : _≡_ {A = ℕ} 0 1 = cc in absurd (omega arith)
+      of none e = impossible cc
 
   pub formed-kind : malformed kinds kind role left right ≡ false → ofKind kind role left right ≡ some (conceptOf kinds kind role left right)
   unfolding decode
@@ -118,7 +118,7 @@ module _ (kinds kind role left right : ℕ) where
     where
       of : {c : Concept} (allowed : Bool) → cond allowed (ofKind kind role left right) none ≡ some c → ofKind kind role left right ≡ some c
       of true p = p
-      of false p = let z : _≡_ {A = ℕ} 0 1 = cc in absurd (omega arith)
+      of false p = impossible cc
 
 -- its role is a code from 0 to 31
 
@@ -135,7 +135,7 @@ role-tests false false false false true k₆ name pair zero role left right c e 
 role-tests false false false false false true name pair zero role left right c e =
     let (t, p) = only-some (zero && leb role 31) (exist role left) c e in
     rw p (omega (arith, leb→le role 31 (and-both zero (leb role 31) t .1)))
-role-tests false false false false false false name pair zero role left right c e = let z : _≡_ {A = ℕ} 0 1 = cc in absurd (omega arith)
+role-tests false false false false false false name pair zero role left right c e = impossible cc
 
 pub role-small : (kinds kind role left right : ℕ) → malformed kinds kind role left right ≡ false → roleOf (conceptOf kinds kind role left right) < 32
 unfolding ofKind
@@ -157,7 +157,7 @@ literal-tests false false false false true k₆ name pair modal role left right 
     let z : _≡_ {A = ℕ} 0 1 = cc (ap arguments (only-some modal (univ role left) c e .1)) in absurd (omega arith)
 literal-tests false false false false false true name pair modal role left right c e n =
     let z : _≡_ {A = ℕ} 0 1 = cc (ap arguments (only-some modal (exist role left) c e .1)) in absurd (omega arith)
-literal-tests false false false false false false name pair modal role left right c e n = let z : _≡_ {A = ℕ} 0 1 = cc in absurd (omega arith)
+literal-tests false false false false false false name pair modal role left right c e n = impossible cc
 
 pub literal-kind : (kinds kind role left right : ℕ) → malformed kinds kind role left right ≡ false → arguments (conceptOf kinds kind role left right) ≡ []
     → (eqb kind 1 || eqb kind 2) ≡ true

@@ -1,20 +1,18 @@
-// The tests of a set of rows, over the rows of a file (01, The procedure).
+// The tests of a set of rows, over a decoded problem (01, The procedure): each goes over the rows of the set that its kind of row has, from the lowest up.
 //
-// In order: the answers; the kinds of rows; the parts of a row; gathering, with clash and the arguments along a role; unfinished rows;
-// existential rows and their successors; inverse roles. Rows are looked at from row 0 on, rising.
+// In order: the answers; the kinds of rows; gathering, with clash and the arguments along a role; unfinished rows; existential rows and their successors;
+// inverse roles.
 ghost use mathlib.Core.Path.{_≡_};
-ghost use mathlib.Core.Bool.{_&&_};
 ghost use Prim.Native.Nat.{_<_};
-ghost use lib.Dec.{eqb};
 ghost use Rattle.concepts.specs.Lists.{first, answers};
-ghost use Rattle.concepts.specs.Concept.{conceptAt, roleOf};
 ghost use Rattle.concepts.specs.Role as Role;
 ghost use Rattle.concepts.specs.RowSet as Set;
+ghost use Rattle.concepts.specs.Lowest.{Within};
 ghost use Rattle.procedure.specs.SetTests as SetTests;
+ghost use Rattle.procedure.specs.Tableau as Tableau;
 ghost use Rattle.rowset.specs.Value.{valueOf, width};
-ghost use Rattle.settests.specs.Rows.{Rows, rowByte, rowCount, tableOf, kindOf, leftOf, rightOf};
-ghost use Rattle.settests.specs.RowLoops.{rowAnswer, insertAnswer};
-ghost use Rattle.settests.specs.Answers.{leftAlong, foundOf, finishedBy, unfinishedOf, NextExist};
+ghost use Rattle.problem.specs.Decoded.{countOf, tableOf, problemOf, Decoded};
+ghost use Rattle.settests.specs.Answers.{leftPart, foundOf, finishedBy, openArguments, NextExist};
 use rowset::RowSet;
 
 // The arguments of an unfinished row, if there is one.
@@ -33,144 +31,93 @@ pub enum Exist {
     End,
 }
 
-// "A row is four bytes: kind, role, left, right".
-const ROW: usize = 4;
+// The kinds of rows: a name, not that name, both, either, some along a role.
+const ATOMIC: usize = 1;
 
-// The kinds of rows: a name, not that name, both, either, all along a role, some along a role.
-const ATOMIC: u8 = 1;
+const NEGATED: usize = 2;
 
-const NEGATED: u8 = 2;
+const CONJ: usize = 3;
 
-const CONJ: u8 = 3;
+const DISJ: usize = 4;
 
-const DISJ: u8 = 4;
+const EXIST: usize = 6;
 
-const UNIV: u8 = 5;
-
-const EXIST: u8 = 6;
-
-// The role byte of a row without a role.
-const NO_ROLE: u8 = 0;
-
-// Byte i of row k.
-fn row_byte(rows: &[u8], k: usize, i: usize) -> u8
-    requires { ⌜ (k < rowCount (now rows)) × (i < 4) ⌝ }
-    ensures { λ r. ⌜ r ≡ rowByte (now (rows .entry)) k i ⌝ }
+// The left parts of the rows of a set.
+fn gather(problem: &[u64], rows: RowSet) -> RowSet
+    requires { ⌜ Decoded (now problem) × Within (countOf (now problem)) (valueOf rows) ⌝ }
+    ensures { λ r. ⌜ valueOf r ≡ Set.fromList (answers leftPart (SetTests.concepts (tableOf (now (problem .entry))) (valueOf rows))) ⌝ }
 {
-    rows[ROW * k + i]
-}
-
-// The kind of row k.
-fn kind_at(rows: &[u8], k: usize) -> u8
-    requires { ⌜ Rows (now rows) × (k < rowCount (now rows)) ⌝ }
-    ensures { λ r. ⌜ r ≡ kindOf (conceptAt (tableOf (now (rows .entry))) k) ⌝ }
-{
-    row_byte(rows, k, 0)
-}
-
-// The role of row k.
-fn role_at(rows: &[u8], k: usize) -> u8
-    requires { ⌜ Rows (now rows) × (k < rowCount (now rows)) ⌝ }
-    ensures { λ r. ⌜ r ≡ roleOf (conceptAt (tableOf (now (rows .entry))) k) ⌝ }
-{
-    row_byte(rows, k, 1)
-}
-
-// The name or the left argument of row k.
-fn left_at(rows: &[u8], k: usize) -> usize
-    requires { ⌜ Rows (now rows) × (k < rowCount (now rows)) ⌝ }
-    ensures { λ r. ⌜ (r ≡ leftOf (conceptAt (tableOf (now (rows .entry))) k)) × (r < width) ⌝ }
-{
-    row_byte(rows, k, 2) as usize
-}
-
-// The right argument of row k.
-fn right_at(rows: &[u8], k: usize) -> usize
-    requires { ⌜ Rows (now rows) × (k < rowCount (now rows)) ⌝ }
-    ensures { λ r. ⌜ (r ≡ rightOf (conceptAt (tableOf (now (rows .entry))) k)) × (r < width) ⌝ }
-{
-    row_byte(rows, k, 3) as usize
-}
-
-// The set with the left part of row k, if that is a row of s with the kind and the role.
-fn gather_row(rows: &[u8], s: RowSet, kind: u8, role: u8, k: usize, gathered: RowSet) -> RowSet
-    requires { ⌜ Rows (now rows) × (k < rowCount (now rows)) ⌝ }
-    ensures { λ r. ⌜ valueOf r ≡ insertAnswer (rowAnswer (tableOf (now (rows .entry))) (valueOf s) (leftAlong kind role) k) (valueOf gathered) ⌝ }
-{
-    if !rowset::has(s, k) {
-        return gathered;
-    }
-    if (kind_at(rows, k) == kind) & (role_at(rows, k) == role) {
-        return rowset::with(gathered, left_at(rows, k));
-    }
-    gathered
-}
-
-// The left parts of the rows of s with the kind and the role.
-fn gather(rows: &[u8], s: RowSet, kind: u8, role: u8) -> RowSet
-    requires { ⌜ Rows (now rows) ⌝ }
-    ensures { λ r. ⌜ valueOf r ≡ Set.fromList (answers (leftAlong kind role) (SetTests.concepts (tableOf (now (rows .entry))) (valueOf s))) ⌝ }
-{
-    let n = rows.len() / ROW;
     let mut gathered = rowset::empty();
-    let mut k: usize = 0;
-    while k < n {
-        gathered = gather_row(rows, s, kind, role, k, gathered);
-        k += 1;
+    let mut m = rows;
+    while !rowset::is_empty(m) {
+        let left = problem::left_at(problem, rowset::lowest(m));
+        gathered = rowset::insert(gathered, left);
+        m = rowset::rest(m);
     }
     gathered
 }
 
 // Whether a name's kind 1 and kind 2 rows are together in the set.
-pub fn clash(rows: &[u8], s: RowSet) -> bool
-    requires { ⌜ Rows (now rows) ⌝ }
-    ensures { λ r. ⌜ r ≡ SetTests.clash (tableOf (now (rows .entry))) (valueOf s) ⌝ }
+pub fn clash(problem: &[u64], s: RowSet) -> bool
+    requires { ⌜ Decoded (now problem) ⌝ }
+    ensures { λ r. ⌜ r ≡ SetTests.clash (problemOf (now (problem .entry))) (valueOf s) ⌝ }
 {
     rowset::meets(
-        gather(rows, s, ATOMIC, NO_ROLE),
-        gather(rows, s, NEGATED, NO_ROLE),
+        gather(
+            problem,
+            rowset::common(s, problem::of_kind(problem, ATOMIC)),
+        ),
+        gather(
+            problem,
+            rowset::common(s, problem::of_kind(problem, NEGATED)),
+        ),
     )
 }
 
 // The arguments of the universal rows of the set along the role.
-pub fn box_along(rows: &[u8], s: RowSet, role: u8) -> RowSet
-    requires { ⌜ Rows (now rows) ⌝ }
-    ensures { λ r. ⌜ valueOf r ≡ Set.fromList (SetTests.box (tableOf (now (rows .entry))) (valueOf s) role) ⌝ }
+pub fn box_along(problem: &[u64], s: RowSet, role: u8) -> RowSet
+    requires { ⌜ Decoded (now problem) ⌝ }
+    ensures { λ r. ⌜ valueOf r ≡ Set.fromList (SetTests.box (tableOf (now (problem .entry))) (valueOf s) role) ⌝ }
 {
-    gather(rows, s, UNIV, role)
+    gather(
+        problem,
+        rowset::common(s, problem::universal(problem, role)),
+    )
 }
 
-// Those among them that the set above lacks.
-pub fn lacking(rows: &[u8], s: RowSet, role: u8, above: RowSet) -> RowSet
-    requires { ⌜ Rows (now rows) ⌝ }
-    ensures { λ r. ⌜ valueOf r ≡ SetTests.lacking (tableOf (now (rows .entry))) (valueOf s) role (valueOf above) ⌝ }
+// The arguments along the role that the set above lacks.
+pub fn lacking(problem: &[u64], s: RowSet, role: u8, above: RowSet) -> RowSet
+    requires { ⌜ Decoded (now problem) ⌝ }
+    ensures { λ r. ⌜ valueOf r ≡ SetTests.lacking (tableOf (now (problem .entry))) (valueOf s) role (valueOf above) ⌝ }
 {
-    rowset::minus(box_along(rows, s, role), above)
+    rowset::minus(box_along(problem, s, role), above)
 }
 
 // Whether the set has both arguments of a kind 3 row, or one of a kind 4 row.
-fn is_finished(s: RowSet, kind: u8, left: usize, right: usize) -> bool
+fn is_finished(s: RowSet, kind: usize, left: usize, right: usize) -> bool
     requires { ⌜ (left < width) × (right < width) ⌝ }
     ensures { λ r. ⌜ r ≡ finishedBy (valueOf s) kind left right ⌝ }
 {
     if kind == CONJ {
-        return rowset::has(s, left) & rowset::has(s, right);
+        return rowset::mem(s, left) & rowset::mem(s, right);
     }
-    rowset::has(s, left) | rowset::has(s, right)
+    rowset::mem(s, left) | rowset::mem(s, right)
 }
 
-// The arguments of row k, if that is an unfinished row of the set with the kind.
-fn unfinished_row(rows: &[u8], s: RowSet, kind: u8, k: usize) -> Found
-    requires { ⌜ Rows (now rows) × (k < rowCount (now rows)) ⌝ }
-    ensures { λ r. ⌜ foundOf r ≡ rowAnswer (tableOf (now (rows .entry))) (valueOf s) (unfinishedOf kind (valueOf s)) k ⌝ }
+// The arguments of the lowest row among these, all of the kind, that is unfinished.
+fn lowest(problem: &[u64], s: RowSet, kind: usize, rows: RowSet) -> Found
+    requires { ⌜ Decoded (now problem) × Within (countOf (now problem)) (valueOf rows) ⌝ }
+    ensures { λ r. ⌜ foundOf r ≡ first (openArguments kind (valueOf s)) (SetTests.concepts (tableOf (now (problem .entry))) (valueOf rows)) ⌝ }
 {
-    if !rowset::has(s, k) {
-        return Found::Nothing;
-    }
-    let left = left_at(rows, k);
-    let right = right_at(rows, k);
-    if (kind_at(rows, k) == kind) & !is_finished(s, kind, left, right) {
-        return Found::Rows(left, right);
+    let mut m = rows;
+    while !rowset::is_empty(m) {
+        let k = rowset::lowest(m);
+        let left = problem::left_at(problem, k);
+        let right = problem::right_at(problem, k);
+        if !is_finished(s, kind, left, right) {
+            return Found::Rows(left, right);
+        }
+        m = rowset::rest(m);
     }
     Found::Nothing
 }
@@ -185,81 +132,64 @@ fn is_found(found: Found) -> bool
     }
 }
 
-// The arguments of the lowest unfinished row of the set with the kind.
-fn lowest(rows: &[u8], s: RowSet, kind: u8) -> Found
-    requires { ⌜ Rows (now rows) ⌝ }
-    ensures { λ r. ⌜ foundOf r ≡ first (unfinishedOf kind (valueOf s)) (SetTests.concepts (tableOf (now (rows .entry))) (valueOf s)) ⌝ }
-{
-    let n = rows.len() / ROW;
-    let mut k: usize = 0;
-    while k < n {
-        let found = unfinished_row(rows, s, kind, k);
-        if is_found(found) {
-            return found;
-        }
-        k += 1;
-    }
-    Found::Nothing
-}
-
 // The arguments of the lowest unfinished kind 3 row of the set.
-pub fn lowest_conj(rows: &[u8], s: RowSet) -> Found
-    requires { ⌜ Rows (now rows) ⌝ }
-    ensures { λ r. ⌜ foundOf r ≡ SetTests.lowestConj (tableOf (now (rows .entry))) (valueOf s) ⌝ }
+pub fn lowest_conj(problem: &[u64], s: RowSet) -> Found
+    requires { ⌜ Decoded (now problem) ⌝ }
+    ensures { λ r. ⌜ foundOf r ≡ SetTests.lowestConj (tableOf (now (problem .entry))) (valueOf s) ⌝ }
 {
-    lowest(rows, s, CONJ)
+    lowest(
+        problem,
+        s,
+        CONJ,
+        rowset::common(s, problem::of_kind(problem, CONJ)),
+    )
 }
 
 // The arguments of the lowest unfinished kind 4 row of the set.
-pub fn lowest_disj(rows: &[u8], s: RowSet) -> Found
-    requires { ⌜ Rows (now rows) ⌝ }
-    ensures { λ r. ⌜ foundOf r ≡ SetTests.lowestDisj (tableOf (now (rows .entry))) (valueOf s) ⌝ }
+pub fn lowest_disj(problem: &[u64], s: RowSet) -> Found
+    requires { ⌜ Decoded (now problem) ⌝ }
+    ensures { λ r. ⌜ foundOf r ≡ SetTests.lowestDisj (tableOf (now (problem .entry))) (valueOf s) ⌝ }
 {
-    lowest(rows, s, DISJ)
+    lowest(
+        problem,
+        s,
+        DISJ,
+        rowset::common(s, problem::of_kind(problem, DISJ)),
+    )
 }
 
 // Whether the set has an unfinished row.
-pub fn unfinished(rows: &[u8], s: RowSet) -> bool
-    requires { ⌜ Rows (now rows) ⌝ }
-    ensures { λ r. ⌜ r ≡ SetTests.unfinished (tableOf (now (rows .entry))) (valueOf s) ⌝ }
+pub fn unfinished(problem: &[u64], s: RowSet) -> bool
+    requires { ⌜ Decoded (now problem) ⌝ }
+    ensures { λ r. ⌜ r ≡ SetTests.unfinished (tableOf (now (problem .entry))) (valueOf s) ⌝ }
 {
-    is_found(lowest_conj(rows, s)) | is_found(lowest_disj(rows, s))
-}
-
-// Whether row k is an existential row of the set.
-fn is_exist(rows: &[u8], s: RowSet, k: usize) -> bool
-    requires { ⌜ Rows (now rows) × (k < rowCount (now rows)) ⌝ }
-    ensures { λ r. ⌜ r ≡ (Set.mem k (valueOf s) && eqb (kindOf (conceptAt (tableOf (now (rows .entry))) k)) 6) ⌝ }
-{
-    rowset::has(s, k) & (kind_at(rows, k) == EXIST)
+    is_found(lowest_conj(problem, s)) | is_found(lowest_disj(problem, s))
 }
 
 // The first existential row of the set at or above a row.
-pub fn next_exist(rows: &[u8], s: RowSet, from: usize) -> Exist
-    requires { ⌜ Rows (now rows) ⌝ }
-    ensures { λ r. ⌜ NextExist (tableOf (now (rows .entry))) (valueOf s) from r ⌝ }
+pub fn next_exist(problem: &[u64], s: RowSet, from: usize) -> Exist
+    requires { ⌜ Decoded (now problem) ⌝ }
+    ensures { λ r. ⌜ NextExist (tableOf (now (problem .entry))) (valueOf s) from r ⌝ }
 {
-    let n = rows.len() / ROW;
-    let mut row = from;
-    while row < n {
-        if is_exist(rows, s, row) {
-            return Exist::At {
-                row,
-                role: role_at(rows, row),
-                argument: left_at(rows, row),
-            };
-        }
-        row += 1;
+    let m = rowset::above(rowset::common(s, problem::of_kind(problem, EXIST)), from);
+    if rowset::is_empty(m) {
+        return Exist::End;
     }
-    Exist::End
+    let row = rowset::lowest(m);
+    Exist::At {
+        row,
+        role: problem::role_at(problem, row),
+        argument: problem::left_at(problem, row),
+    }
 }
 
 // The set of the successor along the role: the argument, the arguments of the universal rows along the role, and the rules.
-pub fn successor(rows: &[u8], s: RowSet, role: u8, argument: usize, rules: RowSet) -> RowSet
-    requires { ⌜ Rows (now rows) × (argument < width) ⌝ }
-    ensures { λ r. ⌜ valueOf r ≡ Set.union (Set.insert argument (Set.fromList (SetTests.box (tableOf (now (rows .entry))) (valueOf s) role))) (valueOf rules) ⌝ }
+pub fn successor(problem: &[u64], s: RowSet, role: u8, argument: usize) -> RowSet
+    requires { ⌜ Decoded (now problem) × (argument < width) ⌝ }
+    ensures { λ r. ⌜ valueOf r ≡ Tableau.successor (problemOf (now (problem .entry))) (valueOf s) (role, argument) ⌝ }
 {
-    rowset::union(rowset::with(box_along(rows, s, role), argument), rules)
+    let along = rowset::insert(box_along(problem, s, role), argument);
+    rowset::union(along, problem::rules(problem))
 }
 
 // The inverse of a role: one more than an even code, one less than an odd code.

@@ -1,25 +1,55 @@
--- `settests::clash` meets its contract: the names gathered from kind 1 rows meet those from kind 2 rows just where there is a clash.
+-- `settests::clash` meets its contract: the names of kind 1 rows meet those of kind 2 rows just where there is a clash.
 -- Assumes nothing.
+use mathlib.Core.Path.{refl}
 use Rattle.rowset.specs.Value.{valueOf}
-use Rattle.settests.specs.Rows.{tableOf}
-use Rattle.settests.specs.AnswerLaws.{names-clash}
+use Rattle.problem.specs.Decoded.{problemOf}
+use Rattle.settests.specs.Masks.{common-count}
+use Rattle.settests.specs.AnswerLaws.{clash-masked}
 use borrow.Author.Needs.{needs}
 use Rattle.settests.proofs.clash.Statement.{statement}
 use Rattle.settests.proofs.clash.Tie as tie
 
+of-kind-requires : tie.Need-of-kind-requires
+of-kind-requires c κs = search needs
+
+common-requires : tie.Need-common-requires
+common-requires c κs = search needs
+
 gather-requires : tie.Need-gather-requires
-gather-requires c κs = search needs
+gather-requires c κs =
+    let s = c .before .before .before in
+    (s .pre, common-count (s .args .problem .now) (valueOf (s .args .s)) (c .before .of-kind .ensures) (c .common .ensures))
+
+of-kind-requires-2 : tie.Need-of-kind-requires-2
+of-kind-requires-2 c κs = search needs
+
+common-requires-2 : tie.Need-common-requires-2
+common-requires-2 c κs = search needs
 
 gather-requires-2 : tie.Need-gather-requires-2
-gather-requires-2 c κs = search needs
+gather-requires-2 c κs =
+    let s = c .before .before .before .before .before .before in
+    (s .pre, common-count (s .args .problem .now) (valueOf (s .args .s)) (c .before .of-kind2 .ensures) (c .common2 .ensures))
 
 meets-requires : tie.Need-meets-requires
 meets-requires c κs = search needs
 
 returns : tie.Need-returns
 returns c =
-    let a = c .before .before .before .before .args in
-    cc (names-clash (tableOf (a .rows .now)) (valueOf (a .s)))
+    let negated = c .before .before .before in
+    let atomic = negated .before .before .before in
+    let a = atomic .before .before .args in
+    cc (clash-masked (problemOf (a .problem .now)) (λ j k. refl) (valueOf (a .s)) (atomic .of-kind .ensures) (negated .of-kind2 .ensures))
 
 pub clash-spec : {M : Type 1} → statement M
-clash-spec = tie.close (tie.spec gather-requires gather-requires-2 meets-requires returns)
+clash-spec =
+    tie.close
+    (tie.spec
+    of-kind-requires
+    common-requires
+    gather-requires
+    of-kind-requires-2
+    common-requires-2
+    gather-requires-2
+    meets-requires
+    returns)

@@ -1,7 +1,7 @@
 -- `settests::lacking` meets its contract: what is left of `box` without the set above.
 -- Assumes nothing.
 use Rattle.rowset.specs.Value.{valueOf}
-use Rattle.settests.specs.Rows.{tableOf}
+use Rattle.problem.specs.Decoded.{tableOf}
 use Rattle.settests.specs.AnswerLaws.{minus-lacking}
 use borrow.Author.Needs.{needs}
 use Rattle.settests.proofs.lacking.Statement.{statement}
@@ -16,7 +16,7 @@ minus-requires c κs = search needs
 returns : tie.Need-returns
 returns c =
     let a = c .before .before .before .args in
-    cc (minus-lacking (tableOf (a .rows .now)) (valueOf (a .s)) (a .role) (valueOf (a .above)))
+    cc (minus-lacking (tableOf (a .problem .now)) (valueOf (a .s)) (a .role) (valueOf (a .above)))
 
 pub lacking-spec : {M : Type 1} → statement M
 lacking-spec = tie.close (tie.spec box-along-requires minus-requires returns)

@@ -1,20 +1,26 @@
--- `settests::lowest_conj` meets its contract: the tests of that kind are those of the definition.
+-- `settests::lowest_conj` meets its contract: only kind 3 rows answer.
 -- Assumes nothing.
-use mathlib.Core.Path.{_∙_}
 use Rattle.rowset.specs.Value.{valueOf}
-use Rattle.settests.specs.Rows.{tableOf}
-use Rattle.settests.specs.AnswerLaws.{first-conj}
+use Rattle.settests.specs.Masks.{common-count}
+use Rattle.settests.specs.AnswerLaws.{conj-masked}
 use borrow.Author.Needs.{needs}
 use Rattle.settests.proofs.lowest_conj.Statement.{statement}
 use Rattle.settests.proofs.lowest_conj.Tie as tie
 
+of-kind-requires : tie.Need-of-kind-requires
+of-kind-requires c κs = search needs
+
+common-requires : tie.Need-common-requires
+common-requires c κs = search needs
+
 lowest-requires : tie.Need-lowest-requires
-lowest-requires c κs = search needs
+lowest-requires c κs =
+    let s = c .before .before .before in
+    (s .pre, common-count (s .args .problem .now) (valueOf (s .args .s)) (c .before .of-kind .ensures) (c .common .ensures))
 
 returns : tie.Need-returns
 returns c =
-    let a = c .before .before .args in
-    c .lowest .ensures ∙ first-conj (tableOf (a .rows .now)) (valueOf (a .s))
+    cc (conj-masked (valueOf (c .before .before .before .before .args .s)) (c .before .before .of-kind .ensures))
 
 pub lowest-conj-spec : {M : Type 1} → statement M
-lowest-conj-spec = tie.close (tie.spec lowest-requires returns)
+lowest-conj-spec = tie.close (tie.spec of-kind-requires common-requires lowest-requires returns)

@@ -1,75 +1,74 @@
--- `settests::next_exist` meets its contract: the invariant is that what is left from a row on is what there is from the first row asked for on.
+-- `settests::next_exist` meets its contract: the lowest existential row of the set at or above a row is the first from there on.
 -- Assumes nothing.
-use mathlib.Core.Path.{_≡_, refl, sym, _∙_}
-use Prim.Native.Nat.{_-_, _≤_}
-use native.Mathlib.Omega.{arith}
+use mathlib.Core.Path.{sym, _∙_}
+use borrow.Author.Tests.{eqb-true}
+use Rattle.concepts.specs.RowSet.{empty}
 use Rattle.rowset.specs.Value.{valueOf}
-use Rattle.settests.specs.Rows.{tableOf}
-use Rattle.settests.specs.RowLaws.{row-inside, row-past}
-use Rattle.settests.specs.Answers.{existsFrom, NextExist}
-use Rattle.settests.specs.AnswerLaws.{existsFrom-skip, existsFrom-end, next-is}
+use Rattle.settests.specs.Answers.{NextExist}
+use Rattle.settests.specs.ExistLaws.{next-low, next-none, low-count}
+use borrow.Author.Needs.{needs}
 use Rattle.settests.proofs.next_exist.Statement.{statement}
 use Rattle.settests.proofs.next_exist.Tie as tie
 
-abbrev Inv-loop : tie.InvT-loop
-Inv-loop rows s from n row₀ row = (from ≤ row) × (existsFrom (tableOf rows) (valueOf s) row ≡ existsFrom (tableOf rows) (valueOf s) from)
+of-kind-requires : tie.Need-of-kind-requires
+of-kind-requires c κs = search needs
 
-abbrev μ-loop : tie.MeasureT-loop
-μ-loop rows s from n row₀ row = n - row
+common-requires : tie.Need-common-requires
+common-requires c κs = search needs
 
-loop-holds : tie.Need-loop-holds Inv-loop μ-loop
-loop-holds c = (omega arith, refl)
+above-requires : tie.Need-above-requires
+above-requires c κs = search needs
 
-is-exist-requires : tie.Need-is-exist-requires Inv-loop μ-loop
-is-exist-requires c κs = (c .before .before .before .pre, omega arith)
+is-empty-requires : tie.Need-is-empty-requires
+is-empty-requires c κs = search needs
 
-role-at-requires : tie.Need-role-at-requires Inv-loop μ-loop
-role-at-requires c κs = (c .before .before .before .before .before .pre, omega arith)
-
-left-at-requires : tie.Need-left-at-requires Inv-loop μ-loop
-left-at-requires c κs = (c .before .before .before .before .before .before .pre, omega arith)
-
-returns : tie.Need-returns Inv-loop μ-loop
+returns : tie.Need-returns
 unfolding NextExist
 returns c =
-    let a = c .before .before .before .before .before .before .before .args in
-    let l = c .before .before .before .before .before .loop in
-    let h = row-inside (a .rows .now) {k = l .row} (omega arith) in
-    next-is (tableOf (a .rows .now)) (valueOf (a .s)) (l .row) h (a .from) (c .before .role-at .result) (c .left-at .result) (l .inv .0) (l .inv .1)
-    (sym (c .before .before .before .is-exist .ensures) ∙ c .before .before .if1 .taken) (c .before .role-at .ensures) (c .left-at .ensures .0)
+    let up = c .before .before in
+    let kind = up .before .before in
+    let above = rw (up .before .common .ensures) at (up .above .ensures) in
+    let nothing = eqb-true (valueOf (up .above .result)) empty (sym (c .before .is-empty .ensures) ∙ c .if1 .taken) in
+    next-none (valueOf (kind .before .before .args .s)) (kind .of-kind .ensures) above nothing
 
-add-row : tie.Need-add-row Inv-loop μ-loop
-add-row c = omega arith
+lowest-requires : tie.Need-lowest-requires
+lowest-requires c κs = sym (c .before .is-empty .ensures) ∙ c .if1 .left
 
-loop-less : tie.Need-loop-less Inv-loop μ-loop
-loop-less c = omega arith
+role-at-requires : tie.Need-role-at-requires
+role-at-requires c κs =
+    let up = c .before .before .before in
+    let kind = up .before .before in
+    let s = kind .before .before in
+    let above = rw (up .before .common .ensures) at (up .above .ensures) in
+    (s .pre, low-count (s .args .problem .now) (valueOf (s .args .s)) (kind .of-kind .ensures) above (c .lowest .ensures .0))
 
-loop-again : tie.Need-loop-again Inv-loop μ-loop
-loop-again c =
-    let a = c .before .before .before .before .before .args in
-    let l = c .before .before .before .loop in
-    let h = row-inside (a .rows .now) {k = l .row} (omega arith) in
-    (omega arith, existsFrom-skip (tableOf (a .rows .now)) (valueOf (a .s)) (l .row) h (sym (c .before .is-exist .ensures) ∙ c .if1 .left) ∙ l .inv .1)
+left-at-requires : tie.Need-left-at-requires
+left-at-requires c κs =
+    let up = c .before .before .before .before in
+    let kind = up .before .before in
+    let s = kind .before .before in
+    let above = rw (up .before .common .ensures) at (up .above .ensures) in
+    (s .pre, low-count (s .args .problem .now) (valueOf (s .args .s)) (kind .of-kind .ensures) above (c .before .lowest .ensures .0))
 
-returns-2 : tie.Need-returns-2 Inv-loop μ-loop
+returns-2 : tie.Need-returns-2
 unfolding NextExist
 returns-2 c =
-    let a = c .before .before .before .args in
-    let l = c .before .loop in
-    sym (l .inv .1) ∙ existsFrom-end (tableOf (a .rows .now)) (valueOf (a .s)) (l .row) (row-past (a .rows .now) {k = l .row} (omega arith))
+    let low = c .before .before in
+    let up = low .before .before .before in
+    let kind = up .before .before in
+    let above = rw (up .before .common .ensures) at (up .above .ensures) in
+    next-low (valueOf (kind .before .before .args .s)) (kind .of-kind .ensures) above (low .lowest .ensures .0) (c .before .role-at .ensures) (c .left-at .ensures .0)
 
 pub next-exist-spec : {M : Type 1} → statement M
 next-exist-spec =
     tie.close
     (tie.spec
-    Inv-loop
-    μ-loop
-    loop-holds
-    is-exist-requires
+    of-kind-requires
+    common-requires
+    above-requires
+    is-empty-requires
+    returns
+    lowest-requires
     role-at-requires
     left-at-requires
-    returns
-    add-row
-    loop-less
-    loop-again
     returns-2)

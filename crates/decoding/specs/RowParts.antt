@@ -1,0 +1,31 @@
+-- The parts of a concept, as they stand in a row's four bytes: "kind, role, left, right" (01, The rule file).
+--
+-- In order: the kind; the left and the right part, 0 if there is none. Its role is `roleOf` of Concept. Laws are in RowPartLaws.
+-- Assumes nothing.
+use Prim.Native.Nat.{ℕ}
+use Rattle.concepts.specs.Concept.{Concept, atomic, negated, conj, disj, univ, exist}
+
+unfoldable pub kindOf : Concept → ℕ
+kindOf (atomic a) = 1
+kindOf (negated a) = 2
+kindOf (conj l r) = 3
+kindOf (disj l r) = 4
+kindOf (univ ρ l) = 5
+kindOf (exist ρ l) = 6
+
+-- the name, or the first argument
+unfoldable pub leftOf : Concept → ℕ
+leftOf (atomic a) = a
+leftOf (negated a) = a
+leftOf (conj l r) = l
+leftOf (disj l r) = l
+leftOf (univ ρ l) = l
+leftOf (exist ρ l) = l
+
+unfoldable pub rightOf : Concept → ℕ
+rightOf (atomic a) = 0
+rightOf (negated a) = 0
+rightOf (conj l r) = r
+rightOf (disj l r) = r
+rightOf (univ ρ l) = 0
+rightOf (exist ρ l) = 0

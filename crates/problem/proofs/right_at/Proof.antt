@@ -1,0 +1,24 @@
+-- `problem::right_at` meets its contract: that part of the row's word.
+-- Assumes nothing.
+use mathlib.Core.Path.{sym}
+use Rattle.problem.specs.DecodedLaws.{word-parts, right-lt}
+use borrow.Author.Needs.{needs}
+use Rattle.problem.proofs.right_at.Statement.{statement}
+use Rattle.problem.proofs.right_at.Tie as tie
+
+add-result : tie.Need-add-result
+add-result c = search needs
+
+mul-result : tie.Need-mul-result
+mul-result c = search needs
+
+shared-slice-read-result : tie.Need-shared-slice-read-result
+shared-slice-read-result c = search needs
+
+returns : tie.Need-returns
+returns c =
+    let (ok, h) = c .before .pre in
+    (sym (word-parts ok (c .before .args .k) h .right-is), right-lt ok (c .before .args .k) h)
+
+pub right-at-spec : {M : Type 1} → statement M
+right-at-spec = tie.close (tie.spec add-result mul-result shared-slice-read-result returns)

@@ -1,0 +1,28 @@
+-- `problem::role_at` meets its contract: that part of the row's word.
+-- Assumes nothing.
+use mathlib.Core.Path.{sym}
+use Rattle.problem.specs.DecodedLaws.{word-parts}
+use borrow.Author.Needs.{needs}
+use Rattle.problem.proofs.role_at.Statement.{statement}
+use Rattle.problem.proofs.role_at.Tie as tie
+
+add-result : tie.Need-add-result
+add-result c = search needs
+
+mul-result : tie.Need-mul-result
+mul-result c = search needs
+
+shared-slice-read-result : tie.Need-shared-slice-read-result
+shared-slice-read-result c = search needs
+
+cast-result : tie.Need-cast-result
+cast-result c = search needs
+
+returns : tie.Need-returns
+returns c =
+    let (ok, h) = c .before .pre in
+    sym (word-parts ok (c .before .args .k) h .role-is)
+
+pub role-at-spec : {M : Type 1} → statement M
+role-at-spec =
+    tie.close (tie.spec add-result mul-result shared-slice-read-result cast-result returns)
