@@ -1,4 +1,5 @@
--- What a run decides: the decision and what each function gives (Contracts), the ways through each function.
+-- What a run decides: verdicts, decisions and what each function gives (Contracts), the cases of each function.
 pub mod Contracts
-pub mod ShowWays
-pub mod ConcludeWays
+pub mod VerdictCases
+pub mod ShowCases
+pub mod DecideCases

@@ -6,7 +6,7 @@ use mathlib.Core.Path.{_≡_}
 use Prim.Native.Nat.{ℕ}
 use Rattle.rulefile.specs.Format.{Bytes}
 use Rattle.run.specs.Run.{Areas, lengths, Numbers, refusedWith, numbers, answer, areasAfter}
-use Rattle.records.specs.declared.Counts.{Counts}
+use Rattle.graph.specs.declared.Counts.{Counts}
 use Rattle.marks.specs.declared.Sizes.{Sizes}
 use Rattle.conclusion.specs.declared.Decision.{Decision}
 use Rattle.conclusion.specs.declared.Decision.the-variants.{Short, Cannot, Can, TooLong}

@@ -1,4 +1,3 @@
--- The engine's call: what its functions give (Contracts), what the run relies on (PartLaws), the answer (AnswerWays).
+-- The engine's call: what its functions give (Contracts), and the answer (AnswerCases).
 pub mod Contracts
-pub mod PartLaws
-pub mod AnswerWays
+pub mod AnswerCases

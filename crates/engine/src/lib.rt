@@ -15,16 +15,15 @@ use answers::Answer;
 use conclusion::Decision;
 use conclusion::decide;
 use decoding::RULE_KINDS;
+use graph::Counts;
 use marks::Sizes;
-use records::Counts;
+use problem::WORDS;
+use problem::decode_file;
 use records::clear;
 use rulefile::Layout;
 use rulefile::Outcome;
 use rulefile::read;
-use rulefile::rows_of;
-use rulefile::rules_of;
 use rulefile::text;
-use rulefile::wanted_of;
 
 // The numbers of a verdict.
 const CAN: u32 = 1;
@@ -103,7 +102,7 @@ fn answer_of(d: Decision) -> Answer
     }
 }
 
-// Decides an accepted file; then "every byte of all three is zero".
+// Decodes and decides an accepted file; then "every byte of all three is zero".
 fn fit_accepted(
     file: &[u8],
     layout: Layout,
@@ -114,21 +113,14 @@ fn fit_accepted(
     links: &mut [u8],
 ) -> Answer
     requires { ⌜ Laid ruleKinds (now file) layout ⌝ }
-    ensures { λ r. ⌜ Answered (now (file .entry)) (areasOf (now (nodes .entry)) (now (edges .entry)) (now (alternatives .entry)) (now (elements .entry)) (now (links .entry))) (numbersOf r) (areasOf (now (nodes .exit)) (now (edges .exit)) (now (alternatives .exit)) (now (elements .exit)) (now (links .exit))) ⌝ }
+    ensures { λ r. ⌜ Answered (now (file .entry))
+        (areasOf (now (nodes .entry)) (now (edges .entry)) (now (alternatives .entry)) (now (elements .entry)) (now (links .entry)))
+        (numbersOf r)
+        (areasOf (now (nodes .exit)) (now (edges .exit)) (now (alternatives .exit)) (now (elements .exit)) (now (links .exit))) ⌝ }
 {
-    let rows = rows_of(file, layout);
-    let tbox = rules_of(file, layout);
-    let wanted = wanted_of(file, layout);
-    let d = decide(
-        rows,
-        tbox,
-        wanted,
-        nodes,
-        edges,
-        alternatives,
-        elements,
-        links,
-    );
+    let mut words = [0u64; WORDS];
+    decode_file(file, layout, &mut words);
+    let d = decide(&words, nodes, edges, alternatives, elements, links);
     clear(nodes);
     clear(edges);
     clear(alternatives);
@@ -145,7 +137,10 @@ pub extern "C" fn gumbyra_fit(
     elements: &mut [u8],
     links: &mut [u8],
 ) -> Answer
-    ensures { λ r. ⌜ Promise (now (file .entry)) (areasOf (now (nodes .entry)) (now (edges .entry)) (now (alternatives .entry)) (now (elements .entry)) (now (links .entry))) (numbersOf r) (areasOf (now (nodes .exit)) (now (edges .exit)) (now (alternatives .exit)) (now (elements .exit)) (now (links .exit))) ⌝ }
+    ensures { λ r. ⌜ Promise (now (file .entry))
+        (areasOf (now (nodes .entry)) (now (edges .entry)) (now (alternatives .entry)) (now (elements .entry)) (now (links .entry)))
+        (numbersOf r)
+        (areasOf (now (nodes .exit)) (now (edges .exit)) (now (alternatives .exit)) (now (elements .exit)) (now (links .exit))) ⌝ }
 {
     match read(file, RULE_KINDS) {
         Outcome::Refused(n) => refused(n as u32),

@@ -1,39 +1,57 @@
--- What the expansion of a node relies on, and what it gives. Areas and counts as in the tableau's contracts; the rules and the wanted rows are lists of row numbers.
+-- What the expansion of a node relies on, and what it gives. Words, areas and counts as in the tableau's contracts.
 --
--- In order: the node that is expanded; a state; the children; the whole expansion.
+-- In order: the node that is expanded; one with no unfinished conjunction; a state; the children, by the definition's functions; the whole expansion.
 -- Assumes nothing.
 use mathlib.Core.Path.{_≡_}
+use mathlib.Core.List.{List}
 use mathlib.Core.Option.{none}
 use Prim.Native.Nat.{ℕ, _<_}
 use Rattle.procedure.specs.Status.{unset}
 use Rattle.procedure.specs.SetTests.{lowestConj, lowestDisj}
 use Rattle.procedure.specs.Graph.{nodeAt, nodeCount}
-use Rattle.procedure.specs.Tableau.{expandConj, expand}
+use Rattle.procedure.specs.Tableau.{putKit, putSuccessors, expandState, expandDisj, expandConj, expand}
 use Rattle.procedure.proofs.ExpandFit.{Still}
-use Rattle.records.specs.Areas.{Bytes}
-use Rattle.records.specs.Graphs.{graphOf, capacityOf, Held, Added}
-use Rattle.records.specs.declared.Counts.{Counts}
-use Rattle.records.specs.declared.Step.{Step}
-use Rattle.settests.specs.Rows.{tableOf, Rows}
+use Rattle.problem.specs.Decoded.{tableOf, problemOf, Decoded}
+use Rattle.graph.specs.Graphs.{Work, graphOf, capacityOf, Held, Refines}
+use Rattle.graph.specs.declared.Counts.{Counts}
+use Rattle.graph.specs.declared.Step.{Step}
+
+-- ---- what is asked
 
 -- node x has no status
-pub record ExpandAsks (rows tbox wanted n e a : Bytes) (c : Counts) (x : ℕ) : Type 0 where
-  pub table : Rows rows
-  pub held : Held n e a c
-  pub still : Still (tableOf rows) (capacityOf n e a) tbox wanted (graphOf n e a c)
-  pub there : x < nodeCount (graphOf n e a c)
-  pub fresh : nodeAt (graphOf n e a c) x .status ≡ unset
+pub record ExpandAsks (ws : List ℕ) (w : Work) (c : Counts) (x : ℕ) : Type 0 where
+  pub decoded : Decoded ws
+  pub held : Held w c
+  pub still : Still (problemOf ws) (capacityOf w) (graphOf w c)
+  pub there : x < nodeCount (graphOf w c)
+  pub fresh : nodeAt (graphOf w c) x .status ≡ unset
+
+-- .. and no unfinished conjunction
+pub record DisjAsks (ws : List ℕ) (w : Work) (c : Counts) (x : ℕ) : Type 0 where
+  pub node : ExpandAsks ws w c x
+  pub noConj : lowestConj (tableOf ws) (nodeAt (graphOf w c) x .rows) ≡ none
 
 -- .. and nothing unfinished
-pub record StateAsks (rows tbox wanted n e a : Bytes) (c : Counts) (x : ℕ) : Type 0 where
-  pub node : ExpandAsks rows tbox wanted n e a c x
-  pub noConj : lowestConj (tableOf rows) (nodeAt (graphOf n e a c) x .rows) ≡ none
-  pub noDisj : lowestDisj (tableOf rows) (nodeAt (graphOf n e a c) x .rows) ≡ none
+pub record StateAsks (ws : List ℕ) (w : Work) (c : Counts) (x : ℕ) : Type 0 where
+  pub disj : DisjAsks ws w c x
+  pub noDisj : lowestDisj (tableOf ws) (nodeAt (graphOf w c) x .rows) ≡ none
 
--- its children are put
-abbrev pub ChildrenGives : (rows tbox wanted n e a : Bytes) → Counts → ℕ → Step → (n′ e′ a′ : Bytes) → Type 0
-ChildrenGives rows tbox wanted n e a c x r n′ e′ a′ =
-    Added c n′ e′ a′ r (expandConj (tableOf rows) (capacityOf n e a) tbox wanted x (lowestConj (tableOf rows) (nodeAt (graphOf n e a c) x .rows)) (graphOf n e a c))
+-- ---- what is given
 
-abbrev pub ExpandGives : (rows tbox wanted n e a : Bytes) → Counts → ℕ → Step → (n′ e′ a′ : Bytes) → Type 0
-ExpandGives rows tbox wanted n e a c x r n′ e′ a′ = Added c n′ e′ a′ r (expand (tableOf rows) (capacityOf n e a) tbox wanted x (graphOf n e a c))
+abbrev pub KitGives : List ℕ → Work → Counts → Step → Work → Type 0
+KitGives ws w c r w′ = Refines w c r w′ (λ k g. putKit (problemOf ws) k g)
+
+abbrev pub SuccessorsGives : List ℕ → Work → Counts → ℕ → Step → Work → Type 0
+SuccessorsGives ws w c x r w′ = Refines w c r w′ (λ k g. putSuccessors (problemOf ws) k x g)
+
+abbrev pub StateGives : List ℕ → Work → Counts → ℕ → Step → Work → Type 0
+StateGives ws w c x r w′ = Refines w c r w′ (λ k g. expandState (problemOf ws) k x g)
+
+abbrev pub DisjGives : List ℕ → Work → Counts → ℕ → Step → Work → Type 0
+DisjGives ws w c x r w′ = Refines w c r w′ (λ k g. expandDisj (problemOf ws) k x (lowestDisj (tableOf ws) (nodeAt g x .rows)) g)
+
+abbrev pub ConjGives : List ℕ → Work → Counts → ℕ → Step → Work → Type 0
+ConjGives ws w c x r w′ = Refines w c r w′ (λ k g. expandConj (problemOf ws) k x (lowestConj (tableOf ws) (nodeAt g x .rows)) g)
+
+abbrev pub ExpandGives : List ℕ → Work → Counts → ℕ → Step → Work → Type 0
+ExpandGives ws w c x r w′ = Refines w c r w′ (λ k g. expand (problemOf ws) k x g)

@@ -1,15 +1,14 @@
 // The expansion of a node over lent areas (01, The procedure).
 //
-// In order: what the root puts; what another state puts; the children of any node; the whole expansion.
+// In order: what the root puts; what another state puts; the children of a state, of a node without an unfinished kind 3 row, of any node; the whole expansion.
 ghost use mathlib.Core.Logic.{_≢_};
-ghost use Rattle.expansion.specs.Contracts.{ExpandAsks, StateAsks, ChildrenGives, ExpandGives};
-use records::Counts;
-use records::Step;
+ghost use Rattle.graph.specs.Graphs.{work};
+ghost use Rattle.expansion.specs.Contracts.{ExpandAsks, DisjAsks, StateAsks, KitGives, SuccessorsGives, StateGives, DisjGives, ConjGives, ExpandGives};
+use graph::Counts;
+use graph::Step;
 use records::load_node;
-use rowset::RowSet;
-use rowset::from_rows;
+use rowset::insert;
 use rowset::union;
-use rowset::with;
 use settests::Exist;
 use settests::Found;
 use settests::lowest_conj;
@@ -25,38 +24,37 @@ const NO_ROLE: u8 = 32;
 
 // Puts the wanted rows and all rules under the root.
 fn put_kit(
-    rows: &[u8],
-    tbox: &[u8],
-    wanted: &[u8],
+    problem: &[u64],
     nodes: &mut [u8],
     edges: &mut [u8],
     alternatives: &mut [u8],
     c: Counts,
 ) -> Step
-    requires { ⌜ StateAsks (now rows) (now tbox) (now wanted) (now nodes) (now edges) (now alternatives) c 0 ⌝ }
-    ensures { λ r. ⌜ ChildrenGives (now (rows .entry)) (now (tbox .entry)) (now (wanted .entry)) (now (nodes .entry)) (now (edges .entry)) (now (alternatives .entry)) c 0 r (now (nodes .exit)) (now (edges .exit)) (now (alternatives .exit)) ⌝ }
+    requires { ⌜ StateAsks (now problem) (work (now nodes) (now edges) (now alternatives)) c 0 ⌝ }
+    ensures { λ r. ⌜ KitGives (now (problem .entry)) (work (now (nodes .entry)) (now (edges .entry)) (now (alternatives .entry))) c r
+        (work (now (nodes .exit)) (now (edges .exit)) (now (alternatives .exit))) ⌝ }
 {
-    let kit = union(from_rows(wanted), from_rows(tbox));
-    put(rows, nodes, edges, alternatives, c, 0, 0, NO_ROLE, kit)
+    let wanted = problem::wanted(problem);
+    let rules = problem::rules(problem);
+    let kit = union(wanted, rules);
+    put(problem, nodes, edges, alternatives, c, 0, 0, NO_ROLE, kit)
 }
 
 // Puts the successors of state x: for each kind 6 row, rising, its argument, the arguments of kind 5 rows along its role, and all rules.
 fn put_successors(
-    rows: &[u8],
-    tbox: &[u8],
-    wanted: &[u8],
+    problem: &[u64],
     nodes: &mut [u8],
     edges: &mut [u8],
     alternatives: &mut [u8],
     c: Counts,
     x: u16,
 ) -> Step
-    requires { ⌜ StateAsks (now rows) (now tbox) (now wanted) (now nodes) (now edges) (now alternatives) c x × (x ≢ 0) ⌝ }
-    ensures { λ r. ⌜ ChildrenGives (now (rows .entry)) (now (tbox .entry)) (now (wanted .entry)) (now (nodes .entry)) (now (edges .entry)) (now (alternatives .entry)) c x r (now (nodes .exit)) (now (edges .exit)) (now (alternatives .exit)) ⌝ }
+    requires { ⌜ StateAsks (now problem) (work (now nodes) (now edges) (now alternatives)) c x × (x ≢ 0) ⌝ }
+    ensures { λ r. ⌜ SuccessorsGives (now (problem .entry)) (work (now (nodes .entry)) (now (edges .entry)) (now (alternatives .entry))) c x r
+        (work (now (nodes .exit)) (now (edges .exit)) (now (alternatives .exit))) ⌝ }
 {
     let node = load_node(nodes, x as usize);
-    let set = RowSet { bits: node.rows };
-    let rules = from_rows(tbox);
+    let set = node.rows;
     let mut cur = c;
     let mut k: usize = 0;
     loop {
@@ -64,92 +62,108 @@ fn put_successors(
             row,
             role,
             argument,
-        } = next_exist(rows, set, k)
+        } = next_exist(problem, set, k)
         else {
             return Step::Done(cur);
         };
         k = row + 1;
-        let kit = successor(rows, set, role, argument, rules);
-        match put(rows, nodes, edges, alternatives, cur, x, x, role, kit) {
+        let kit = successor(problem, set, role, argument);
+        match put(problem, nodes, edges, alternatives, cur, x, x, role, kit) {
             Step::Full(area) => return Step::Full(area),
             Step::Done(next) => cur = next,
         }
     }
 }
 
-// Puts the children of node x: for its lowest unfinished kind 3 row, else kind 4 row, else as a state.
-fn put_children(
-    rows: &[u8],
-    tbox: &[u8],
-    wanted: &[u8],
+// Puts the children of state x: the root's, or those of another.
+fn expand_state(
+    problem: &[u64],
     nodes: &mut [u8],
     edges: &mut [u8],
     alternatives: &mut [u8],
     c: Counts,
     x: u16,
 ) -> Step
-    requires { ⌜ ExpandAsks (now rows) (now tbox) (now wanted) (now nodes) (now edges) (now alternatives) c x ⌝ }
-    ensures { λ r. ⌜ ChildrenGives (now (rows .entry)) (now (tbox .entry)) (now (wanted .entry)) (now (nodes .entry)) (now (edges .entry)) (now (alternatives .entry)) c x r (now (nodes .exit)) (now (edges .exit)) (now (alternatives .exit)) ⌝ }
+    requires { ⌜ StateAsks (now problem) (work (now nodes) (now edges) (now alternatives)) c x ⌝ }
+    ensures { λ r. ⌜ StateGives (now (problem .entry)) (work (now (nodes .entry)) (now (edges .entry)) (now (alternatives .entry))) c x r
+        (work (now (nodes .exit)) (now (edges .exit)) (now (alternatives .exit))) ⌝ }
+{
+    if x == 0 {
+        return put_kit(problem, nodes, edges, alternatives, c);
+    }
+    put_successors(problem, nodes, edges, alternatives, c, x)
+}
+
+// Puts the children of node x, which has no unfinished kind 3 row: for its lowest unfinished kind 4 row, else as a state.
+fn expand_disj(
+    problem: &[u64],
+    nodes: &mut [u8],
+    edges: &mut [u8],
+    alternatives: &mut [u8],
+    c: Counts,
+    x: u16,
+) -> Step
+    requires { ⌜ DisjAsks (now problem) (work (now nodes) (now edges) (now alternatives)) c x ⌝ }
+    ensures { λ r. ⌜ DisjGives (now (problem .entry)) (work (now (nodes .entry)) (now (edges .entry)) (now (alternatives .entry))) c x r
+        (work (now (nodes .exit)) (now (edges .exit)) (now (alternatives .exit))) ⌝ }
 {
     let node = load_node(nodes, x as usize);
-    let set = RowSet { bits: node.rows };
+    let set = node.rows;
     let p = node.pst;
     let role = node.prl;
-    if let Found::Rows(left, right) = lowest_conj(rows, set) {
-        let both = with(with(set, right), left);
-        return put(rows, nodes, edges, alternatives, c, x, p, role, both);
+    let Found::Rows(left, right) = lowest_disj(problem, set) else {
+        return expand_state(problem, nodes, edges, alternatives, c, x);
+    };
+    let first = insert(set, left);
+    let second = insert(set, right);
+    match put(problem, nodes, edges, alternatives, c, x, p, role, first) {
+        Step::Full(area) => Step::Full(area),
+        Step::Done(d) => put(problem, nodes, edges, alternatives, d, x, p, role, second),
     }
-    if let Found::Rows(left, right) = lowest_disj(rows, set) {
-        return match put(
-            rows,
-            nodes,
-            edges,
-            alternatives,
-            c,
-            x,
-            p,
-            role,
-            with(set, left),
-        ) {
-            Step::Full(area) => Step::Full(area),
-            Step::Done(d) => put(
-                rows,
-                nodes,
-                edges,
-                alternatives,
-                d,
-                x,
-                p,
-                role,
-                with(set, right),
-            ),
-        };
-    }
-    if x == 0 {
-        return put_kit(rows, tbox, wanted, nodes, edges, alternatives, c);
-    }
-    put_successors(rows, tbox, wanted, nodes, edges, alternatives, c, x)
+}
+
+// Puts the children of node x: for its lowest unfinished kind 3 row, else as a node without one.
+fn expand_conj(
+    problem: &[u64],
+    nodes: &mut [u8],
+    edges: &mut [u8],
+    alternatives: &mut [u8],
+    c: Counts,
+    x: u16,
+) -> Step
+    requires { ⌜ ExpandAsks (now problem) (work (now nodes) (now edges) (now alternatives)) c x ⌝ }
+    ensures { λ r. ⌜ ConjGives (now (problem .entry)) (work (now (nodes .entry)) (now (edges .entry)) (now (alternatives .entry))) c x r
+        (work (now (nodes .exit)) (now (edges .exit)) (now (alternatives .exit))) ⌝ }
+{
+    let node = load_node(nodes, x as usize);
+    let set = node.rows;
+    let p = node.pst;
+    let role = node.prl;
+    let Found::Rows(left, right) = lowest_conj(problem, set) else {
+        return expand_disj(problem, nodes, edges, alternatives, c, x);
+    };
+    let both = insert(insert(set, right), left);
+    put(problem, nodes, edges, alternatives, c, x, p, role, both)
 }
 
 // Expands node x, which has no status: its children are put, its status is set, and its parents are updated.
 pub fn expand(
-    rows: &[u8],
-    tbox: &[u8],
-    wanted: &[u8],
+    problem: &[u64],
     nodes: &mut [u8],
     edges: &mut [u8],
     alternatives: &mut [u8],
     c: Counts,
     x: u16,
 ) -> Step
-    requires { ⌜ ExpandAsks (now rows) (now tbox) (now wanted) (now nodes) (now edges) (now alternatives) c x ⌝ }
-    ensures { λ r. ⌜ ExpandGives (now (rows .entry)) (now (tbox .entry)) (now (wanted .entry)) (now (nodes .entry)) (now (edges .entry)) (now (alternatives .entry)) c x r (now (nodes .exit)) (now (edges .exit)) (now (alternatives .exit)) ⌝ }
+    requires { ⌜ ExpandAsks (now problem) (work (now nodes) (now edges) (now alternatives)) c x ⌝ }
+    ensures { λ r. ⌜ ExpandGives (now (problem .entry)) (work (now (nodes .entry)) (now (edges .entry)) (now (alternatives .entry))) c x r
+        (work (now (nodes .exit)) (now (edges .exit)) (now (alternatives .exit))) ⌝ }
 {
-    match put_children(rows, tbox, wanted, nodes, edges, alternatives, c, x) {
+    match expand_conj(problem, nodes, edges, alternatives, c, x) {
         Step::Full(area) => Step::Full(area),
-        Step::Done(d) => match judge(rows, nodes, edges, alternatives, d, x) {
+        Step::Done(d) => match judge(problem, nodes, edges, alternatives, d, x) {
             Step::Full(area) => Step::Full(area),
-            Step::Done(b) => update_parents(rows, nodes, edges, alternatives, b, x),
+            Step::Done(b) => update_parents(problem, nodes, edges, alternatives, b, x),
         },
     }
 }

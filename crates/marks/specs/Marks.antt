@@ -5,20 +5,26 @@ use mathlib.Core.List.{map}
 use Prim.Native.Nat.{ℕ}
 use Rattle.concepts.specs.Lists.{range}
 use Rattle.procedure.specs.Example.{RoleLink, Example}
+use Rattle.words.specs.Sizes.{nodeSize, edgeSize}
 use Rattle.records.specs.Areas.{Bytes, field}
 use Rattle.records.specs.Records.{nodeIn}
+use Rattle.marks.specs.declared.LinkMark.{LinkMark}
 
 -- 0, or one more than the number of the element that stands for state y: bytes 16 and 17 of node record y
 unfoldable pub numberIn : Bytes → ℕ → ℕ
-numberIn n y = field 64 n y 16 2
+numberIn n y = field nodeSize n y 16 2
 
 -- the state for which element d stands: bytes 18 and 19 of node record d
 unfoldable pub stateIn : Bytes → ℕ → ℕ
-stateIn n d = field 64 n d 18 2
+stateIn n d = field nodeSize n d 18 2
+
+-- the link that a value of the code means
+abbrev pub roleLinkOf : LinkMark → RoleLink
+roleLinkOf l = record { from = l .from; role = l .role; to = l .to }
 
 -- link k: bytes 4 to 9 of edge record k
 unfoldable pub roleLinkIn : Bytes → ℕ → RoleLink
-roleLinkIn e k = record { from = field 16 e k 4 2; role = field 16 e k 6 2; to = field 16 e k 8 2 }
+roleLinkIn e k = record { from = field edgeSize e k 4 2; role = field edgeSize e k 6 2; to = field edgeSize e k 8 2 }
 
 -- the example that the spare bytes hold, of so many elements and links
 abbrev pub exampleHeld : Bytes → Bytes → ℕ → ℕ → Example

@@ -185,7 +185,8 @@ module _ {w out out₁ : Bytes} {at p₁ : ℕ} (word : Wrote (length w) w out a
       → Wrote 11 (32 ∷ decimal b) out₂ p₂ out₃ p₃ → Wrote 11 (32 ∷ decimal c) out₃ p₃ out₄ p₄ → Wrote 1 (10 ∷ []) out₄ p₄ out₅ p₅
       → Wrote (length w + 34) (line w (a ∷ b ∷ c ∷ [])) out at out₅ p₅
   unfolding line spaced
-  wrote-line-three a b c x y z end = wrote-as (wrote-then (wrote-then (wrote-then (wrote-then word x) y) z) end) (joined-three w (32 ∷ decimal a) (32 ∷ decimal b) (32 ∷ decimal c) (10 ∷ [])) (omega arith)
+  wrote-line-three a b c x y z end =
+      wrote-as (wrote-then (wrote-then (wrote-then (wrote-then word x) y) z) end) (joined-three w (32 ∷ decimal a) (32 ∷ decimal b) (32 ∷ decimal c) (10 ∷ [])) (omega arith)
 
 -- ---- the line of an element and of a link
 
@@ -194,7 +195,8 @@ unfolding elementLine spaced
 element-joined d s = ap (λ (b : Bytes). ascii "E" ++ b ++ 32 ∷ [] ++ hexadecimal 16 s ++ 10 ∷ []) (sym (append-nil (32 ∷ decimal d)))
 
 pub wrote-element : (d s : ℕ) {v : ℕ} {out out₁ out₂ out₃ out₄ out₅ : Bytes} {at p₁ p₂ p₃ p₄ p₅ : ℕ} → v ≡ s → Wrote 1 (ascii "E") out at out₁ p₁
-    → Wrote 11 (32 ∷ decimal d) out₁ p₁ out₂ p₂ → Wrote 1 (32 ∷ []) out₂ p₂ out₃ p₃ → Wrote 16 (hexadecimal 16 v) out₃ p₃ out₄ p₄ → Wrote 1 (10 ∷ []) out₄ p₄ out₅ p₅
+    → Wrote 11 (32 ∷ decimal d) out₁ p₁ out₂ p₂ → Wrote 1 (32 ∷ []) out₂ p₂ out₃ p₃ → Wrote 16 (hexadecimal 16 v) out₃ p₃ out₄ p₄
+    → Wrote 1 (10 ∷ []) out₄ p₄ out₅ p₅
     → Wrote 30 (elementLine d s) out at out₅ p₅
 wrote-element d s {v} e x number space set end =
     wrote-as (wrote-then (wrote-then (wrote-then (wrote-then x number) space) set) end) (element-joined d v ∙ ap (elementLine d) e) (omega arith)

@@ -236,7 +236,9 @@ fn used_line(out: &mut [u8], at: usize, answer: Answer) -> usize
 
 // Writes what is printed with "can".
 fn can(answer: Answer, elements: &[u8], links: &[u8], out: &mut [u8]) -> usize
-    ensures { λ r. ⌜ Wrote (64 + 30 * answer .elements + 35 * answer .links) (Printed.canLines (numbersOf answer) (now (elements .entry)) (now (links .entry))) (now (out .entry)) 0 (now (out .exit)) r ⌝ }
+    ensures { λ r. ⌜ Wrote (64 + 30 * answer .elements + 35 * answer .links)
+        (Printed.canLines (numbersOf answer) (now (elements .entry)) (now (links .entry)))
+        (now (out .entry)) 0 (now (out .exit)) r ⌝ }
 {
     let used = line_of_two(out, 0, b"CAN", answer.elements, answer.links);
     let first = used_line(out, used, answer);

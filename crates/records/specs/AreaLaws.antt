@@ -1,24 +1,31 @@
 -- Laws of Areas, for every kind of record.
 --
--- In order: the list of an area's records; a record stored; fields; a record written by its fields; a search; the elements that pass, from a place on.
+-- In order: the room of an area; the list of an area's records; a record stored; fields; a record written by its fields; a search; the elements that pass, from a place on.
 -- Assumes nothing.
 use mathlib.Core.Path.{_≡_, refl, sym, ap, _∙_, subst}
 use mathlib.Core.Bool.{Bool, true, false}
 use mathlib.Core.List.{List, [], _∷_, _++_, map}
 use mathlib.Core.Logic.{_≢_, _⊎_, inl, inr}
-use Prim.Native.Nat.{ℕ, zero, suc, _+_, _*_, _-_, _≤_, _<_}
-use native.Mathlib.Nat.{mul-le-mul-left, mul-suc, not-suc-le-zero, le-of-suc-le-suc}
+use Prim.Native.Nat.{ℕ, zero, suc, _+_, _*_, _/_, _-_, _≤_, _<_}
+use native.Mathlib.Nat.{mul-le-mul-left, mul-suc, mul-div-le, le-trans, not-suc-le-zero, le-of-suc-le-suc}
 use native.Mathlib.Decide.{ℕ-discrete, decLt}
 use native.Mathlib.Omega.{arith}
-use lib.ListN.{length, getD, set, drop, length-set, length-append, List·getD-append}
-use lib.Seq.{getD-set-same, getD-set-other, getD-at, ext-getD, drop-cons}
+use lib.ListN.{length, getD, set, take, drop, length-set, length-append, List·getD-append}
+use lib.Seq.{take-append-le, take-all, getD-set-same, getD-set-other, getD-at, ext-getD, drop-cons}
 use Rattle.concepts.specs.Lists.{select}
-use Rattle.concepts.specs.ListLaws.{length-map-range, getD-map-range}
+use Rattle.concepts.specs.ListLaws.{length-map-range, getD-map-range, take-map-range}
 use Rattle.words.specs.Words.{putLe}
 use Rattle.words.specs.WordLaws.{leAt-same, below-putLe, above-putLe}
 use Rattle.words.specs.Fields.{Field, putFields, Holds, Apart}
 use Rattle.words.specs.FieldLaws.{length-putFields, below-putFields, above-putFields, holds-putFields}
-use Rattle.records.specs.Areas.{Bytes, field, recordsIn, Stored, FirstAt, chosenFrom}
+use Rattle.records.specs.Areas.{Bytes, roomOf, Fits, field, recordsIn, Stored, FirstAt, chosenFrom}
+
+-- ---- the room of an area
+
+pub room-fits : (size : ℕ) (b : Bytes) {count i : ℕ} → count ≤ roomOf size b → i < count → Fits size b i
+room-fits size b {count} {i} h l =
+    let m : suc i ≤ length b / size = omega arith in
+    (omega arith, omega (arith, le-trans (mul-le-mul-left size m) (mul-div-le (length b) size), mul-suc size i))
 
 module _ {A : Type 0} (read : Bytes → ℕ → A) where
   -- ---- the list of an area's records
@@ -28,6 +35,10 @@ module _ {A : Type 0} (read : Bytes → ℕ → A) where
 
   pub getD-records : (b : Bytes) (n x : ℕ) (d : A) → x < n → getD (recordsIn read b n) x d ≡ read b x
   getD-records b n x d h = getD-map-range (read b) 0 n x d h ∙ ap (read b) (omega arith)
+
+  -- an area whose records begin with xs: so many of them are xs
+  pub records-kept : (b : Bytes) (n m : ℕ) (xs more : List A) → length xs ≡ n → n ≤ m → recordsIn read b m ≡ xs ++ more → recordsIn read b n ≡ xs
+  records-kept b n m xs more l h q = sym (take-map-range (read b) 0 m n h) ∙ ap (take n) q ∙ take-append-le n xs more (omega arith) ∙ take-all n xs (omega arith)
 
   -- ---- a record stored
 

@@ -9,17 +9,18 @@ use lib.Dec.{eqb}
 use lib.ListN.{length, drop}
 use Rattle.concepts.specs.Lists.{range, select}
 use Rattle.words.specs.Words.{leAt}
+use Rattle.words.specs.Sizes.{mostRecords}
 
 abbrev pub Bytes : Type 0
 Bytes = List ℕ
 
 -- how many records of a size an area holds: "whole records count, and at most 4,096 of each" (01, Areas)
 abbrev pub roomOf : ℕ → Bytes → ℕ
-roomOf size b = min 4096 (length b / size)
+roomOf size b = min mostRecords (length b / size)
 
 -- the area has record x
 abbrev pub Fits : ℕ → Bytes → ℕ → Type 0
-Fits size b x = (x < 4096) × (size * x + size ≤ length b)
+Fits size b x = (x < mostRecords) × (size * x + size ≤ length b)
 
 -- the number in the n bytes at place o of record x
 abbrev pub field : ℕ → Bytes → ℕ → ℕ → ℕ → ℕ
@@ -36,9 +37,9 @@ module _ {A : Type 0} (read : Bytes → ℕ → A) where
     pub here : read b′ x ≡ v
     pub others : (y : ℕ) → y ≢ x → read b′ y ≡ read b y
 
--- the number at place o of record i, of 16 bytes, is x
-unfoldable pub numberIs : Bytes → ℕ → ℕ → ℕ → Bool
-numberIs b o x i = eqb (field 16 b i o 2) x
+-- the number at place o of record i is x
+unfoldable pub numberIs : ℕ → Bytes → ℕ → ℕ → ℕ → Bool
+numberIs size b o x i = eqb (field size b i o 2) x
 
 -- i is the first number from `from` on that passes, or none below n does
 pub record FirstAt (f : ℕ → Bool) (from n i : ℕ) : Type 0 where

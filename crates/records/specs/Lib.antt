@@ -1,8 +1,6 @@
--- The graph in three areas of bytes. Definitions apart from their laws.
+-- Records in areas of bytes. Definitions apart from their laws.
 pub mod Codes
 pub mod Areas
 pub mod AreaLaws
 pub mod Records
 pub mod RecordLaws
-pub mod Graphs
-pub mod GraphLaws

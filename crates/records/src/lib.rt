@@ -1,21 +1,21 @@
-// The graph of the procedure as records in three lent areas of bytes: "nodes (64 bytes each), graph edges (16) and alternatives (16)" (01, Areas).
+// The records of the graph in lent areas of bytes: "nodes (64 bytes each), graph edges (16) and alternatives (16)" (01, Areas).
 //
-// In order: the values; codes of one byte; a record read and written; adding a record; changing a node; searches; the records
-// that belong to a node, one after another; an area cleared.
+// In order: the values; tests of a status; codes of one byte; how many records an area holds; a record read and written; one part of a
+// node; a search for a number; an area cleared. The graph that three areas hold is in crate graph.
 ghost use mathlib.Core.Path.{_≡_};
 ghost use Prim.Native.Nat.{_+_, _/_, _≤_, _<_, min};
 ghost use lib.ListN.{length, replicate};
-ghost use Rattle.procedure.specs.Graph.{addNode, addEdge, hasAlternative, addAlternative, setStatus, setLink, findState, lowestUnset};
+ghost use Rattle.procedure.specs.Status.{isOpen, isLive};
+ghost use Rattle.procedure.specs.Graph.{withStatus, withLink};
+ghost use Rattle.words.specs.Sizes.{nodeSize, edgeSize, alternativeSize, mostRecords};
 ghost use Rattle.records.specs.Codes as Codes;
 ghost use Rattle.records.specs.Areas.{roomOf, Fits, Stored, FirstAt, numberIs};
 ghost use Rattle.records.specs.Records as Records;
-ghost use Rattle.records.specs.Graphs as Graphs;
+use rowset::RowSet;
 use words::get1;
 use words::get2;
-use words::get8;
 use words::put1;
 use words::put2;
-use words::put8;
 
 // "a status (none, open, yes, never, small)".
 pub enum Status {
@@ -34,7 +34,7 @@ pub enum Link {
 }
 
 pub struct Node {
-    pub rows: u64,
+    pub rows: RowSet,
     pub status: Status,
     pub is_state: bool,
     pub pst: u16,
@@ -49,54 +49,51 @@ pub struct Edge {
 
 pub struct Alternative {
     pub owner: u16,
-    pub rows: u64,
-}
-
-// How many records each area has in use.
-pub struct Counts {
-    pub nodes: usize,
-    pub edges: usize,
-    pub alternatives: usize,
-}
-
-// An area that was short.
-pub enum Place {
-    Nodes,
-    Edges,
-    Alternatives,
-}
-
-// What a step answers: the new counts, or the area that had no place.
-pub enum Step {
-    Done(Counts),
-    Full(Place),
-}
-
-// A node that was looked for.
-pub enum FoundState {
-    At(u16),
-    Nothing,
-}
-
-// The next child or parent, with the index of its edge.
-pub enum Next {
-    At { index: usize, node: u16 },
-    End,
-}
-
-// The next alternative of a state, with its index.
-pub enum NextAlternative {
-    At { index: usize, rows: u64 },
-    End,
+    pub rows: RowSet,
 }
 
 // "whole records count, and at most 4,096 of each" (01, Areas).
 const MOST: usize = 4096;
 
-// The bytes of a node's record, and of an edge's or alternative's.
-const NODE: usize = 64;
+// The bytes of a node's record, of an edge's, and of an alternative's.
+pub const NODE_BYTES: usize = 64;
 
-const PAIR: usize = 16;
+pub const EDGE_BYTES: usize = 16;
+
+pub const ALTERNATIVE_BYTES: usize = 16;
+
+// Where numbers of 2 bytes stand in a record: an edge's start and end, an alternative's state.
+pub const FROM: usize = 0;
+
+pub const TO: usize = 2;
+
+pub const OWNER: usize = 8;
+
+// Whether a status is open.
+pub fn is_open(s: Status) -> bool
+    ensures { λ r. ⌜ r ≡ isOpen (Codes.statusOf s) ⌝ }
+{
+    match s {
+        Status::Open => true,
+        Status::Unset => false,
+        Status::Sat => false,
+        Status::Unsat => false,
+        Status::TooSmall => false,
+    }
+}
+
+// Whether a status is none or open.
+pub fn is_live(s: Status) -> bool
+    ensures { λ r. ⌜ r ≡ isLive (Codes.statusOf s) ⌝ }
+{
+    match s {
+        Status::Unset => true,
+        Status::Open => true, // it can still be judged anew
+        Status::Sat => false,
+        Status::Unsat => false,
+        Status::TooSmall => false,
+    }
+}
 
 // The byte that stands for a status.
 fn status_code(s: Status) -> u8
@@ -165,9 +162,9 @@ fn link_from(kind: u8, number: u16) -> Link
 }
 
 // How many records of a size an area of a length holds.
-fn room(len: usize, size: usize) -> usize
+pub fn room(len: usize, size: usize) -> usize
     requires { ⌜ 0 < size ⌝ }
-    ensures { λ r. ⌜ r ≡ min 4096 (len / size) ⌝ }
+    ensures { λ r. ⌜ r ≡ min mostRecords (len / size) ⌝ }
 {
     let n = len / size;
     if n < MOST { n } else { MOST }
@@ -175,14 +172,14 @@ fn room(len: usize, size: usize) -> usize
 
 // Node x of the area.
 pub fn load_node(nodes: &[u8], x: usize) -> Node
-    requires { ⌜ Fits 64 (now nodes) x ⌝ }
+    requires { ⌜ Fits nodeSize (now nodes) x ⌝ }
     ensures { λ r. ⌜ Records.nodeOf r ≡ Records.nodeIn (now (nodes .entry)) x ⌝ }
 {
-    let at = NODE * x;
+    let at = NODE_BYTES * x;
     let status = status_from(get1(nodes, at + 8));
     let link = link_from(get1(nodes, at + 13), get2(nodes, at + 14));
     Node {
-        rows: get8(nodes, at),
+        rows: rowset::get(nodes, at),
         status,
         is_state: get1(nodes, at + 9) == 1,
         pst: get2(nodes, at + 10),
@@ -193,13 +190,14 @@ pub fn load_node(nodes: &[u8], x: usize) -> Node
 
 // Writes n as node x of the area.
 pub fn store_node(nodes: &mut [u8], x: usize, n: Node)
-    requires { ⌜ Fits 64 (now nodes) x ⌝ }
+    requires { ⌜ Fits nodeSize (now nodes) x ⌝ }
     ensures { λ _. ⌜ Stored Records.nodeIn (now (nodes .entry)) (now (nodes .exit)) x (Records.nodeOf n) ⌝ }
 {
-    let at = NODE * x;
+    let at = NODE_BYTES * x;
+    let rows = n.rows;
     let status = n.status;
     let link = n.link;
-    put8(nodes, at, n.rows);
+    rowset::put(nodes, at, rows);
     put1(nodes, at + 8, status_code(status));
     put1(nodes, at + 9, flag_code(n.is_state));
     put2(nodes, at + 10, n.pst);
@@ -208,246 +206,90 @@ pub fn store_node(nodes: &mut [u8], x: usize, n: Node)
     put2(nodes, at + 14, link_number(link));
 }
 
+// Edge i of the area.
+pub fn load_edge(edges: &[u8], i: usize) -> Edge
+    requires { ⌜ Fits edgeSize (now edges) i ⌝ }
+    ensures { λ r. ⌜ Records.edgeOf r ≡ Records.edgeIn (now (edges .entry)) i ⌝ }
+{
+    let at = EDGE_BYTES * i;
+    Edge {
+        from: get2(edges, at + FROM),
+        to: get2(edges, at + TO),
+    }
+}
+
 // Writes d as edge i of the area.
-fn store_edge(edges: &mut [u8], i: usize, d: Edge)
-    requires { ⌜ Fits 16 (now edges) i ⌝ }
+pub fn store_edge(edges: &mut [u8], i: usize, d: Edge)
+    requires { ⌜ Fits edgeSize (now edges) i ⌝ }
     ensures { λ _. ⌜ Stored Records.edgeIn (now (edges .entry)) (now (edges .exit)) i (Records.edgeOf d) ⌝ }
 {
-    let at = PAIR * i;
-    put2(edges, at, d.from);
-    put2(edges, at + 2, d.to);
+    let at = EDGE_BYTES * i;
+    put2(edges, at + FROM, d.from);
+    put2(edges, at + TO, d.to);
 }
 
 // Alternative i of the area.
 pub fn load_alternative(alternatives: &[u8], i: usize) -> Alternative
-    requires { ⌜ Fits 16 (now alternatives) i ⌝ }
+    requires { ⌜ Fits alternativeSize (now alternatives) i ⌝ }
     ensures { λ r. ⌜ Records.alternativeOf r ≡ Records.alternativeIn (now (alternatives .entry)) i ⌝ }
 {
-    let at = PAIR * i;
+    let at = ALTERNATIVE_BYTES * i;
     Alternative {
-        rows: get8(alternatives, at),
-        owner: get2(alternatives, at + 8),
+        rows: rowset::get(alternatives, at),
+        owner: get2(alternatives, at + OWNER),
     }
 }
 
 // Writes d as alternative i of the area.
-fn store_alternative(alternatives: &mut [u8], i: usize, d: Alternative)
-    requires { ⌜ Fits 16 (now alternatives) i ⌝ }
+pub fn store_alternative(alternatives: &mut [u8], i: usize, d: Alternative)
+    requires { ⌜ Fits alternativeSize (now alternatives) i ⌝ }
     ensures { λ _. ⌜ Stored Records.alternativeIn (now (alternatives .entry)) (now (alternatives .exit)) i (Records.alternativeOf d) ⌝ }
 {
-    let at = PAIR * i;
-    put8(alternatives, at, d.rows);
-    put2(alternatives, at + 8, d.owner);
+    let at = ALTERNATIVE_BYTES * i;
+    let rows = d.rows;
+    rowset::put(alternatives, at, rows);
+    put2(alternatives, at + OWNER, d.owner);
 }
 
-// Adds a node at the end.
-pub fn add_node(nodes: &mut [u8], c: Counts, n: Node) -> Step
-    ensures { λ r. ⌜ Graphs.AddsNode (now (nodes .entry)) (now (nodes .exit)) c r (λ k g. addNode k (Records.nodeOf n) g) ⌝ }
+// Whether node x of the area has no status.
+pub fn is_unset(nodes: &[u8], x: usize) -> bool
+    requires { ⌜ Fits nodeSize (now nodes) x ⌝ }
+    ensures { λ r. ⌜ r ≡ Records.isUnsetAt (now (nodes .entry)) x ⌝ }
 {
-    let x = c.nodes;
-    if x < room(nodes.len(), NODE) {
-        store_node(nodes, x, n);
-        Step::Done(Counts {
-            nodes: x + 1,
-            edges: c.edges,
-            alternatives: c.alternatives,
-        })
-    } else {
-        Step::Full(Place::Nodes)
-    }
+    get1(nodes, NODE_BYTES * x + 8) == 0
 }
 
-// Adds an edge at the end.
-pub fn add_edge(edges: &mut [u8], c: Counts, from: u16, to: u16) -> Step
-    ensures { λ r. ⌜ Graphs.AddsEdge (now (edges .entry)) (now (edges .exit)) c r (λ k g. addEdge k from to g) ⌝ }
+// Gives node x of the area a status.
+pub fn store_status(nodes: &mut [u8], x: usize, status: Status)
+    requires { ⌜ Fits nodeSize (now nodes) x ⌝ }
+    ensures { λ _. ⌜ Stored Records.nodeIn (now (nodes .entry)) (now (nodes .exit)) x (withStatus (Codes.statusOf status) (Records.nodeIn (now (nodes .entry)) x)) ⌝ }
 {
-    let i = c.edges;
-    if i < room(edges.len(), PAIR) {
-        store_edge(edges, i, Edge { from, to });
-        Step::Done(Counts {
-            nodes: c.nodes,
-            edges: i + 1,
-            alternatives: c.alternatives,
-        })
-    } else {
-        Step::Full(Place::Edges)
-    }
+    put1(nodes, NODE_BYTES * x + 8, status_code(status));
 }
 
-// Whether alternative i is this one.
-fn is_alternative(alternatives: &[u8], i: usize, owner: u16, rows: u64) -> bool
-    requires { ⌜ Fits 16 (now alternatives) i ⌝ }
-    ensures { λ r. ⌜ r ≡ Graphs.isAlternative owner rows (Records.alternativeIn (now (alternatives .entry)) i) ⌝ }
+// Gives node x of the area a link.
+pub fn store_link(nodes: &mut [u8], x: usize, link: Link)
+    requires { ⌜ Fits nodeSize (now nodes) x ⌝ }
+    ensures { λ _. ⌜ Stored Records.nodeIn (now (nodes .entry)) (now (nodes .exit)) x (withLink (Codes.linkOf link) (Records.nodeIn (now (nodes .entry)) x)) ⌝ }
 {
-    let d = load_alternative(alternatives, i);
-    (d.owner == owner) & (d.rows == rows)
-}
-
-// Whether the state has the alternative already.
-fn has_alternative(alternatives: &[u8], c: Counts, owner: u16, rows: u64) -> bool
-    requires { ⌜ c .alternatives ≤ roomOf 16 (now alternatives) ⌝ }
-    ensures { λ r. ⌜ Graphs.WithAlternatives (now (alternatives .entry)) c (λ g. r ≡ hasAlternative owner rows g) ⌝ }
-{
-    let count = c.alternatives;
-    let mut i = 0;
-    while i < count {
-        if is_alternative(alternatives, i, owner, rows) {
-            return true;
-        }
-        i += 1;
-    }
-    false
-}
-
-// Adds an alternative at the end, unless the state has it already.
-pub fn add_alternative(alternatives: &mut [u8], c: Counts, owner: u16, rows: u64) -> Step
-    requires { ⌜ c .alternatives ≤ roomOf 16 (now alternatives) ⌝ }
-    ensures { λ r. ⌜ Graphs.AddsAlternative (now (alternatives .entry)) (now (alternatives .exit)) c r (λ k g. addAlternative k owner rows g) ⌝ }
-{
-    if has_alternative(alternatives, c, owner, rows) {
-        return Step::Done(c);
-    }
-    let i = c.alternatives;
-    if i < room(alternatives.len(), PAIR) {
-        store_alternative(alternatives, i, Alternative { owner, rows });
-        Step::Done(Counts {
-            nodes: c.nodes,
-            edges: c.edges,
-            alternatives: i + 1,
-        })
-    } else {
-        Step::Full(Place::Alternatives)
-    }
-}
-
-// Gives node x a status.
-pub fn set_status(nodes: &mut [u8], c: Counts, x: usize, status: Status)
-    requires { ⌜ (x < c .nodes) × (c .nodes ≤ roomOf 64 (now nodes)) ⌝ }
-    ensures { λ _. ⌜ Graphs.ChangesNodes (now (nodes .entry)) (now (nodes .exit)) c (setStatus x (Codes.statusOf status)) ⌝ }
-{
-    put1(nodes, NODE * x + 8, status_code(status));
-}
-
-// Gives node x a link.
-pub fn set_link(nodes: &mut [u8], c: Counts, x: usize, link: Link)
-    requires { ⌜ (x < c .nodes) × (c .nodes ≤ roomOf 64 (now nodes)) ⌝ }
-    ensures { λ _. ⌜ Graphs.ChangesNodes (now (nodes .entry)) (now (nodes .exit)) c (setLink x (Codes.linkOf link)) ⌝ }
-{
-    let at = NODE * x;
+    let at = NODE_BYTES * x;
     put1(nodes, at + 13, link_kind(link));
     put2(nodes, at + 14, link_number(link));
 }
 
-// Whether node x is a state with this set, and not the root.
-fn is_state_with(nodes: &[u8], x: usize, rows: u64) -> bool
-    requires { ⌜ Fits 64 (now nodes) x ⌝ }
-    ensures { λ r. ⌜ r ≡ Graphs.isStateWith (now (nodes .entry)) rows x ⌝ }
-{
-    let n = load_node(nodes, x);
-    (0 < x) & (n.is_state & (n.rows == rows))
-}
-
-// The state with this set; the root "is never looked up".
-pub fn find_state(nodes: &[u8], c: Counts, rows: u64) -> FoundState
-    requires { ⌜ c .nodes ≤ roomOf 64 (now nodes) ⌝ }
-    ensures { λ r. ⌜ Graphs.WithNodes (now (nodes .entry)) c (λ g. Graphs.foundOf r ≡ findState rows g) ⌝ }
-{
-    let count = c.nodes;
-    let mut x = 0;
-    while x < count {
-        if is_state_with(nodes, x, rows) {
-            return FoundState::At(x as u16);
-        }
-        x += 1;
-    }
-    FoundState::Nothing
-}
-
-// Whether node x has no status.
-fn is_unset(nodes: &[u8], x: usize) -> bool
-    requires { ⌜ Fits 64 (now nodes) x ⌝ }
-    ensures { λ r. ⌜ r ≡ Graphs.isUnsetAt (now (nodes .entry)) x ⌝ }
-{
-    get1(nodes, NODE * x + 8) == 0
-}
-
-// The lowest node that has no status.
-pub fn lowest_unset(nodes: &[u8], c: Counts) -> FoundState
-    requires { ⌜ c .nodes ≤ roomOf 64 (now nodes) ⌝ }
-    ensures { λ r. ⌜ Graphs.WithNodes (now (nodes .entry)) c (λ g. Graphs.foundOf r ≡ lowestUnset g) ⌝ }
-{
-    let count = c.nodes;
-    let mut x = 0;
-    while x < count {
-        if is_unset(nodes, x) {
-            return FoundState::At(x as u16);
-        }
-        x += 1;
-    }
-    FoundState::Nothing
-}
-
-// The first record from `from` on whose number at place o is x; if there is none, a number that no record has.
-fn next_with(area: &[u8], count: usize, o: usize, x: u16, from: usize) -> usize
-    requires { ⌜ (o + 2 ≤ 16) × (count ≤ roomOf 16 (now area)) ⌝ }
-    ensures { λ i. ⌜ FirstAt (numberIs (now (area .entry)) o x) from count i ⌝ }
+// The first record of a size from `from` on whose number at place o is x; if there is none, a number that no record has.
+pub fn next_with(area: &[u8], size: usize, count: usize, o: usize, x: u16, from: usize) -> usize
+    requires { ⌜ (o + 2 ≤ size) × (count ≤ roomOf size (now area)) ⌝ }
+    ensures { λ i. ⌜ FirstAt (numberIs size (now (area .entry)) o x) from count i ⌝ }
 {
     let mut i = from;
     while i < count {
-        if get2(area, PAIR * i + o) == x {
+        if get2(area, size * i + o) == x {
             return i;
         }
         i += 1;
     }
     i
-}
-
-// The first edge from `from` on that starts at x, with its end.
-pub fn next_child(edges: &[u8], c: Counts, x: u16, from: usize) -> Next
-    requires { ⌜ c .edges ≤ roomOf 16 (now edges) ⌝ }
-    ensures { λ r. ⌜ Graphs.WithEdges (now (edges .entry)) c (λ g. Graphs.IsNext r from (c .edges) (Graphs.childrenFrom g x)) ⌝ }
-{
-    let index = next_with(edges, c.edges, 0, x, from);
-    if index < c.edges {
-        Next::At {
-            index,
-            node: get2(edges, PAIR * index + 2),
-        }
-    } else {
-        Next::End
-    }
-}
-
-// The first edge from `from` on that ends at x, with its start.
-pub fn next_parent(edges: &[u8], c: Counts, x: u16, from: usize) -> Next
-    requires { ⌜ c .edges ≤ roomOf 16 (now edges) ⌝ }
-    ensures { λ r. ⌜ Graphs.WithEdges (now (edges .entry)) c (λ g. Graphs.IsNext r from (c .edges) (Graphs.parentsFrom g x)) ⌝ }
-{
-    let index = next_with(edges, c.edges, 2, x, from);
-    if index < c.edges {
-        Next::At {
-            index,
-            node: get2(edges, PAIR * index),
-        }
-    } else {
-        Next::End
-    }
-}
-
-// The first alternative from `from` on that is state x's, with its set.
-pub fn next_alternative(alternatives: &[u8], c: Counts, x: u16, from: usize) -> NextAlternative
-    requires { ⌜ c .alternatives ≤ roomOf 16 (now alternatives) ⌝ }
-    ensures { λ r. ⌜ Graphs.WithAlternatives (now (alternatives .entry)) c (λ g. Graphs.IsNextAlternative r from (c .alternatives) (Graphs.alternativesFrom g x)) ⌝ }
-{
-    let index = next_with(alternatives, c.alternatives, 8, x, from);
-    if index < c.alternatives {
-        NextAlternative::At {
-            index,
-            rows: get8(alternatives, PAIR * index),
-        }
-    } else {
-        NextAlternative::End
-    }
 }
 
 // Every byte of the area becomes zero.

@@ -1,34 +1,31 @@
--- What the run of the procedure relies on, and what it gives. Areas and counts as in the tableau's contracts; the rules and the wanted rows are lists of row numbers.
+-- What the run of the procedure relies on, and what it gives. Words, areas and counts as in the tableau's contracts.
 --
 -- In order: the rounds from a graph on; the whole run.
 -- Assumes nothing.
-use Prim.Native.Nat.{suc}
-use Rattle.concepts.specs.Concept.{WellFormed}
+use mathlib.Core.List.{List}
+use Prim.Native.Nat.{ℕ, suc}
 use Rattle.procedure.specs.Tableau.{loopWithin, run}
 use Rattle.procedure.proofs.ExpandFit.{Still}
-use Rattle.records.specs.Areas.{Bytes, roomOf}
-use Rattle.records.specs.Graphs.{graphOf, capacityOf, Held, Added}
-use Rattle.records.specs.declared.Counts.{Counts}
-use Rattle.records.specs.declared.Step.{Step}
-use Rattle.settests.specs.Rows.{tableOf, Rows}
+use Rattle.problem.specs.Decoded.{problemOf, Decoded}
+use Rattle.graph.specs.Graphs.{Work, graphOf, capacityOf, Held, Operation, Refines}
+use Rattle.graph.specs.declared.Counts.{Counts}
+use Rattle.graph.specs.declared.Step.{Step}
 
-pub record RoundsAsks (rows tbox wanted n e a : Bytes) (c : Counts) : Type 0 where
-  pub table : Rows rows
-  pub held : Held n e a c
-  pub still : Still (tableOf rows) (capacityOf n e a) tbox wanted (graphOf n e a c)
+pub record RoundsAsks (ws : List ℕ) (w : Work) (c : Counts) : Type 0 where
+  pub decoded : Decoded ws
+  pub held : Held w c
+  pub still : Still (problemOf ws) (capacityOf w) (graphOf w c)
 
-abbrev pub RoundsGives : (rows tbox wanted n e a : Bytes) → Counts → Step → (n′ e′ a′ : Bytes) → Type 0
-RoundsGives rows tbox wanted n e a c r n′ e′ a′ =
-    Added c n′ e′ a′ r (loopWithin (tableOf rows) (capacityOf n e a) tbox wanted (suc (roomOf 64 n)) (graphOf n e a c))
+-- rounds enough, however many nodes have a status
+abbrev pub allRounds : List ℕ → Operation
+allRounds ws k g = loopWithin (problemOf ws) k (suc (k .nodeRoom)) g
 
--- what a rule file's checks give
-pub record RunAsks (rows tbox wanted : Bytes) : Type 0 where
-  pub table : Rows rows
-  pub wellFormed : WellFormed (tableOf rows) tbox wanted
+abbrev pub RoundsGives : List ℕ → Work → Counts → Step → Work → Type 0
+RoundsGives ws w c r w′ = Refines w c r w′ (allRounds ws)
 
 -- no record yet
 abbrev pub noRecords : Counts
 noRecords = record { nodes = 0; edges = 0; alternatives = 0 }
 
-abbrev pub RunGives : (rows tbox wanted n e a : Bytes) → Step → (n′ e′ a′ : Bytes) → Type 0
-RunGives rows tbox wanted n e a r n′ e′ a′ = Added noRecords n′ e′ a′ r (run (tableOf rows) (capacityOf n e a) tbox wanted)
+abbrev pub RunGives : List ℕ → Work → Step → Work → Type 0
+RunGives ws w r w′ = Refines w noRecords r w′ (λ k g. run (problemOf ws) k)

@@ -1,4 +1,4 @@
--- The run of the procedure: what it relies on and gives (Contracts), a round of its loop (RoundWays), its start (RunWays).
+-- The run of the procedure: what it relies on and gives (Contracts), a round of its loop (RoundCases), its start (RunCases).
 pub mod Contracts
-pub mod RoundWays
-pub mod RunWays
+pub mod RoundCases
+pub mod RunCases

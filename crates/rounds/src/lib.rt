@@ -1,31 +1,33 @@
 // The run of the procedure over lent areas (01, The procedure).
 //
 // In order: the rounds; the whole run.
-ghost use Rattle.rounds.specs.Contracts.{RoundsAsks, RoundsGives, RunAsks, RunGives};
+ghost use Rattle.graph.specs.Graphs.{work};
+ghost use Rattle.problem.specs.Decoded.{Decoded};
+ghost use Rattle.rounds.specs.Contracts.{RoundsAsks, RoundsGives, RunGives};
 use expansion::expand;
-use records::Counts;
-use records::FoundState;
+use graph::Counts;
+use graph::FoundNode;
+use graph::Step;
+use graph::add_node;
+use graph::lowest_unset;
 use records::Link;
 use records::Node;
 use records::Status;
-use records::Step;
-use records::add_node;
+use records::is_live;
 use records::load_node;
-use records::lowest_unset;
-use steps::is_live;
+use rowset::empty;
 
 // Expands the lowest node without status, "until the root is yes, never or small or no node lacks a status".
 fn rounds(
-    rows: &[u8],
-    tbox: &[u8],
-    wanted: &[u8],
+    problem: &[u64],
     nodes: &mut [u8],
     edges: &mut [u8],
     alternatives: &mut [u8],
     c: Counts,
 ) -> Step
-    requires { ⌜ RoundsAsks (now rows) (now tbox) (now wanted) (now nodes) (now edges) (now alternatives) c ⌝ }
-    ensures { λ r. ⌜ RoundsGives (now (rows .entry)) (now (tbox .entry)) (now (wanted .entry)) (now (nodes .entry)) (now (edges .entry)) (now (alternatives .entry)) c r (now (nodes .exit)) (now (edges .exit)) (now (alternatives .exit)) ⌝ }
+    requires { ⌜ RoundsAsks (now problem) (work (now nodes) (now edges) (now alternatives)) c ⌝ }
+    ensures { λ r. ⌜ RoundsGives (now (problem .entry))
+        (work (now (nodes .entry)) (now (edges .entry)) (now (alternatives .entry))) c r (work (now (nodes .exit)) (now (edges .exit)) (now (alternatives .exit))) ⌝ }
 {
     let mut cur = c;
     loop {
@@ -34,27 +36,21 @@ fn rounds(
         if !is_live(status) {
             return Step::Done(cur);
         }
-        let FoundState::At(x) = lowest_unset(nodes, cur) else {
+        let FoundNode::At(x) = lowest_unset(nodes, cur) else {
             return Step::Done(cur);
         };
-        match expand(rows, tbox, wanted, nodes, edges, alternatives, cur, x) {
+        match expand(problem, nodes, edges, alternatives, cur, x) {
             Step::Full(area) => return Step::Full(area),
             Step::Done(next) => cur = next,
         }
     }
 }
 
-// Runs the procedure on the rows, with the rules and the wanted rows as lists of row numbers. "Node 0 is the root, a state with the empty set".
-pub fn run(
-    rows: &[u8],
-    tbox: &[u8],
-    wanted: &[u8],
-    nodes: &mut [u8],
-    edges: &mut [u8],
-    alternatives: &mut [u8],
-) -> Step
-    requires { ⌜ RunAsks (now rows) (now tbox) (now wanted) ⌝ }
-    ensures { λ r. ⌜ RunGives (now (rows .entry)) (now (tbox .entry)) (now (wanted .entry)) (now (nodes .entry)) (now (edges .entry)) (now (alternatives .entry)) r (now (nodes .exit)) (now (edges .exit)) (now (alternatives .exit)) ⌝ }
+// Runs the procedure on a decoded problem. "Node 0 is the root, a state with the empty set".
+pub fn run(problem: &[u64], nodes: &mut [u8], edges: &mut [u8], alternatives: &mut [u8]) -> Step
+    requires { ⌜ Decoded (now problem) ⌝ }
+    ensures { λ r. ⌜ RunGives (now (problem .entry))
+        (work (now (nodes .entry)) (now (edges .entry)) (now (alternatives .entry))) r (work (now (nodes .exit)) (now (edges .exit)) (now (alternatives .exit))) ⌝ }
 {
     let none = Counts {
         nodes: 0,
@@ -62,7 +58,7 @@ pub fn run(
         alternatives: 0,
     };
     let root = Node {
-        rows: 0,
+        rows: empty(),
         status: Status::Unset,
         is_state: true,
         pst: 0,
@@ -71,6 +67,6 @@ pub fn run(
     };
     match add_node(nodes, none, root) {
         Step::Full(area) => Step::Full(area),
-        Step::Done(c) => rounds(rows, tbox, wanted, nodes, edges, alternatives, c),
+        Step::Done(c) => rounds(problem, nodes, edges, alternatives, c),
     }
 }

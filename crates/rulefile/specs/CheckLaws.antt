@@ -9,9 +9,9 @@ use mathlib.Core.Option.{Option, none, some}
 use Prim.Native.Nat.{ℕ, _+_, _*_, _≤_, _<_}
 use native.Mathlib.Omega.{arith}
 use lib.Dec.{eqb, ltb}
-use lib.ListN.{length, getD}
+use lib.ListN.{length}
 use borrow.Author.Tests.{ltb-false, eqb-true, eqb-false, not-false}
-use Rattle.concepts.specs.Tests.{or-neither}
+use Rattle.concepts.specs.Tests.{impossible, or-neither}
 use Rattle.concepts.specs.ListLaws.{getD-mem, first-at, first-nowhere, first-none}
 use Rattle.rulefile.specs.Format.{Bytes, firstRow, rowCount, ruleCount, badLength, badCounts, badPlace, Check, checks, refusal, RuleFile, contents, Reading, refused, accepted, readingOf}
 use Rattle.decoding.specs.Decoding.{Kinds}
@@ -50,7 +50,7 @@ module _ (kinds : Kinds) (b : Bytes) where
   accepted-none : (f : RuleFile) (o : Option ℕ) → elim o as (λ x. Reading) [ some n ↦ refused n | none ↦ accepted (contents kinds b) ] ≡ accepted f
       → (o ≡ none) × (f ≡ contents kinds b)
   accepted-none f none e = (refl, cc)
-  accepted-none f (some n) e = let z : _≡_ {A = ℕ} 0 1 = cc in absurd (omega arith)
+  accepted-none f (some n) e = impossible cc
 
   pub accepted-contents : (f : RuleFile) → readingOf kinds b ≡ accepted f → f ≡ contents kinds b
   unfolding readingOf
@@ -65,7 +65,7 @@ module _ (kinds : Kinds) (b : Bytes) where
         where
           of : (x : Bool) → _≡_ {A = Option ℕ} (elim x [ true ↦ some (c .number) | false ↦ none ]) none → x ≡ false
           of false e = refl
-          of true e = let z : _≡_ {A = ℕ} 0 1 = cc in absurd (omega arith)
+          of true e = impossible cc
 
   pub accepted-passed : (f : RuleFile) → readingOf kinds b ≡ accepted f → Passed kinds b 9
   unfolding readingOf

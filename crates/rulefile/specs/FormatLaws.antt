@@ -3,7 +3,7 @@
 -- In order: what an accepted file holds (`Admitted`, `accepted-admitted`, `accepted-length`); that check 9 never refuses a file (`no-refusal-nine`).
 -- Assumes nothing.
 use mathlib.Core.Path.{_≡_, refl, sym, ap, _∙_, subst}
-use mathlib.Core.Bool.{true, false, not, _||_}
+use mathlib.Core.Bool.{true, false, not}
 use mathlib.Core.List.{List, [], _∷_, List·Memᴰ, List·Memᴰ·not-nil, List·Memᴰ·eq-of-singleton, Memᴰ·of-map}
 use mathlib.Core.Logic.{inl, inr}
 use mathlib.Core.Option.{some}

@@ -7,6 +7,7 @@ use mathlib.Core.List.{[], _∷_}
 use Prim.Native.Nat.{ℕ, _+_, _-_, _*_, _≤_}
 use native.Mathlib.Omega.{arith}
 use lib.ListN.{length, getD, take, drop}
+use Rattle.concepts.specs.Tests.{impossible}
 use Rattle.concepts.specs.Lists.{range}
 use Rattle.concepts.specs.ListLaws.{map-getD-range}
 use Rattle.rulefile.specs.Format.{Bytes, firstRow, rowCount, ruleCount, wantedRows, rules, rowsPart, Reading, refused, accepted, readingOf, textOf}
@@ -25,14 +26,14 @@ reads-refused kinds b n = of (readingOf kinds b)
   where
     of : (r : Reading) → Refused n ≡ readOf r → r ≡ refused n
     of (refused m) q = cc
-    of (accepted f) q = let z : _≡_ {A = ℕ} 0 1 = cc in absurd (omega arith)
+    of (accepted f) q = impossible cc
 
 pub reads-accepted : (kinds : Kinds) (b : Bytes) (l : Layout) → Accepted l ≡ readOf (readingOf kinds b) → Laid kinds b l
 unfolding readOf
 reads-accepted kinds b l q = of (readingOf kinds b) refl q
   where
     of : (r : Reading) → readingOf kinds b ≡ r → Accepted l ≡ readOf r → Laid kinds b l
-    of (refused m) e h = let z : _≡_ {A = ℕ} 0 1 = cc in absurd (omega arith)
+    of (refused m) e h = impossible cc
     of (accepted f) e h = record { file = f; reads = e; layout = cc }
 
 -- ---- an accepted file

@@ -12,13 +12,14 @@ use Rattle.procedure.specs.Tableau.{foldChildren}
 use Rattle.records.specs.Areas.{Bytes}
 use Rattle.records.specs.Codes.{statusOf}
 use Rattle.records.specs.Records.{nodeIn}
-use Rattle.records.specs.Graphs.{graphOf, Changed, WithEdges, ChangesNodes, childrenFrom, IsNext}
-use Rattle.records.specs.GraphLaws.{graph-node, children-all}
-use Rattle.records.specs.declared.Counts.{Counts}
+use Rattle.graph.specs.Graphs.{work, graphOf, WithEdges, ChangesNodes, childrenFrom, IsNext}
+use Rattle.graph.specs.GraphLaws.{graph-node}
+use Rattle.graph.specs.SearchLaws.{children-all}
+use Rattle.graph.specs.declared.Counts.{Counts}
 use Rattle.records.specs.declared.Status.{Status}
 use Rattle.records.specs.declared.Status.the-variants.{Unset}
-use Rattle.records.specs.declared.Next.{Next}
-use Rattle.records.specs.declared.Next.the-variants as Next
+use Rattle.graph.specs.declared.Next.{Next}
+use Rattle.graph.specs.declared.Next.the-variants as Next
 use Rattle.steps.specs.Tables.{Judges, JudgesAs, endsFrom, statusesFrom}
 
 -- ---- an entry of a table
@@ -39,7 +40,7 @@ entry-at rows table e a b i j p q =
 -- ---- a fold over the children
 
 -- the children are by the edges alone
-ends-of : (n e a : Bytes) (c : Counts) (x i : ℕ) → childrenFrom (graphOf n e a c) x i ≡ endsFrom e c x i
+ends-of : (n e a : Bytes) (c : Counts) (x i : ℕ) → childrenFrom (graphOf (work n e a) c) x i ≡ endsFrom e c x i
 unfolding graphOf childrenFrom endsFrom
 ends-of n e a c x i = refl
 
@@ -48,8 +49,8 @@ pub record Folds (table : P.StatusTable) (n e : Bytes) (c : Counts) (x : ℕ) (s
   pub inside : (y : ℕ) → List·Memᴰ y (endsFrom e c x i) → y < c .nodes
   pub rest : P.foldStatus table v (statusesFrom n e c x i) ≡ P.foldStatus table start (statusesFrom n e c x 0)
 
-ends-all : (n e a : Bytes) (c : Counts) (x : ℕ) → endsFrom e c x 0 ≡ G.children (graphOf n e a c) x
-ends-all n e a c x = sym (ends-of n e a c x 0) ∙ children-all (graphOf n e a c) x
+ends-all : (n e a : Bytes) (c : Counts) (x : ℕ) → endsFrom e c x 0 ≡ G.children (graphOf (work n e a) c) x
+ends-all n e a c x = sym (ends-of n e a c x 0) ∙ children-all (graphOf (work n e a) c) x
 
 -- every child is a node
 judges-inside : {n e : Bytes} {c : Counts} {x : ℕ} → Judges n e c x → (y : ℕ) → List·Memᴰ y (endsFrom e c x 0) → y < c .nodes
@@ -58,29 +59,37 @@ judges-inside {n} {e} {c} {x} j y m = j .inside y (subst (λ (ys : List ℕ). Li
 pub folds-start : {n e : Bytes} {c : Counts} {x : ℕ} → Judges n e c x → (table : P.StatusTable) (v : P.Status) → Folds table n e c x v 0 v
 folds-start j table v = record { inside = judges-inside j; rest = refl }
 
+-- of the ends from edge i on the first is y, of edge k
+pub record NextEnd (e : Bytes) (c : Counts) (x i k y : ℕ) : Type 0 where
+  pub from : i ≤ k
+  pub below : k < c .edges
+  pub more : endsFrom e c x i ≡ y ∷ endsFrom e c x (k + 1)
+
 -- what the search for the next child says of the ends
 module _ {n e : Bytes} {c : Counts} {x : ℕ} (j : Judges n e c x) (i : ℕ) {r : Next} (all : WithEdges e c (λ g. IsNext r i (c .edges) (childrenFrom g x))) where
-  pub next-at : {k y : ℕ} → r ≡ Next.At k y → (i ≤ k) × (k < c .edges) × (endsFrom e c x i ≡ y ∷ endsFrom e c x (k + 1))
+  as-next : (s : Next) → r ≡ s → IsNext s i (c .edges) (endsFrom e c x)
   unfolding graphOf childrenFrom endsFrom
-  next-at w = subst (λ (s : Next). IsNext s i (c .edges) (childrenFrom (graphOf n e (j .alternatives) c) x)) w (all n (j .alternatives) (j .held))
+  as-next s w = subst (λ (t : Next). IsNext t i (c .edges) (childrenFrom (graphOf (work n e (j .alternatives)) c) x)) w (all n (j .alternatives) (j .held))
+
+  pub next-at : {k y : ℕ} → r ≡ Next.At k y → NextEnd e c x i k y
+  next-at {k} {y} w = let (from, below, more) = as-next (Next.At k y) w in record { from = from; below = below; more = more }
 
   pub next-end : r ≡ Next.End → endsFrom e c x i ≡ []
-  unfolding graphOf childrenFrom endsFrom
-  next-end w = subst (λ (s : Next). IsNext s i (c .edges) (childrenFrom (graphOf n e (j .alternatives) c) x)) w (all n (j .alternatives) (j .held))
+  next-end w = as-next Next.End w
 
 module _ {table : P.StatusTable} {n e : Bytes} {c : Counts} {x : ℕ} {start : P.Status} {i : ℕ} {v : P.Status} (f : Folds table n e c x start i v) where
-  module _ (k y : ℕ) (next : endsFrom e c x i ≡ y ∷ endsFrom e c x (k + 1)) where
+  module _ {k y : ℕ} (next : NextEnd e c x i k y) where
     pub folds-node : y < c .nodes
-    folds-node = f .inside y (rw next (List·Memᴰ·head refl))
+    folds-node = f .inside y (rw (next .more) (List·Memᴰ·head refl))
 
     pub folds-more : (w : P.Status) → w ≡ P.entry table v (nodeIn n y .status) → Folds table n e c x start (k + 1) w
     unfolding statusesFrom P.foldStatus
     folds-more w p =
         record {
-          inside = λ z m. f .inside z (rw next (List·Memᴰ·tail m));
+          inside = λ z m. f .inside z (rw (next .more) (List·Memᴰ·tail m));
           rest =
               ap (λ (u : P.Status). P.foldStatus table u (map (λ d. nodeIn n d .status) (endsFrom e c x (k + 1)))) p
-              ∙ ap (λ (ys : List ℕ). P.foldStatus table v (map (λ d. nodeIn n d .status) ys)) (sym next) ∙ f .rest;
+              ∙ ap (λ (ys : List ℕ). P.foldStatus table v (map (λ d. nodeIn n d .status) ys)) (sym (next .more)) ∙ f .rest;
         }
 
   pub folds-end : endsFrom e c x i ≡ [] → v ≡ P.foldStatus table start (statusesFrom n e c x 0)
@@ -94,18 +103,21 @@ map-same f g [] all = refl
 map-same f g (x ∷ xs) all = let p = all x (List·Memᴰ·head refl) in let q = map-same f g xs (λ y m. all y (List·Memᴰ·tail m)) in cc
 
 module _ {n e : Bytes} {c : Counts} {x : ℕ} (j : Judges n e c x) where
-  statuses-graph : (a : Bytes) → statusesFrom n e c x 0 ≡ map (λ y. G.nodeAt (graphOf n e a c) y .status) (G.children (graphOf n e a c) x)
+  statuses-graph : (a : Bytes) → statusesFrom n e c x 0 ≡ map (λ y. G.nodeAt (graphOf (work n e a) c) y .status) (G.children (graphOf (work n e a) c) x)
   unfolding statusesFrom
   statuses-graph a =
-      map-same (λ y. nodeIn n y .status) (λ y. G.nodeAt (graphOf n e a c) y .status) (endsFrom e c x 0)
-      (λ y m. ap (λ (v : G.Node). v .status) (sym (graph-node n e a c y (judges-inside j y m))))
-      ∙ ap (λ (ys : List ℕ). map (λ y. G.nodeAt (graphOf n e a c) y .status) ys) (ends-all n e a c x)
+      map-same (λ y. nodeIn n y .status) (λ y. G.nodeAt (graphOf (work n e a) c) y .status) (endsFrom e c x 0)
+      (λ y m. ap (λ (v : G.Node). v .status) (sym (graph-node (work n e a) c y (judges-inside j y m))))
+      ∙ ap (λ (ys : List ℕ). map (λ y. G.nodeAt (graphOf (work n e a) c) y .status) ys) (ends-all n e a c x)
 
   -- a node that took what the fold gave is judged
   pub judged : {n′ : Bytes} (table : P.StatusTable) (v u : P.Status) → u ≡ P.foldStatus table v (statusesFrom n e c x 0) → ChangesNodes n n′ c (G.setStatus x u)
       → JudgesAs n n′ e c (foldChildren table v x)
   unfolding foldChildren
   judged {n′} table v u p changes a h =
-      let q : u ≡ P.foldStatus table v (map (λ y. G.nodeAt (graphOf n e a c) y .status) (G.children (graphOf n e a c) x)) =
-      p ∙ ap (λ (ws : List P.Status). P.foldStatus table v ws) (statuses-graph a) in
-      subst (λ (w : P.Status). Changed c n′ e a (G.setStatus x w (graphOf n e a c))) q (changes e a h)
+      let C = changes e a h in
+      record {
+        meets = C .meets ∙ ap (λ (w : P.Status). G.setStatus x w (graphOf (work n e a) c)) (p ∙ ap (λ (ws : List P.Status). P.foldStatus table v ws) (statuses-graph a));
+        held = C .held;
+        sized = C .sized;
+      }

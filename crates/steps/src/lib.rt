@@ -6,31 +6,35 @@ ghost use Prim.Native.Nat.{_≤_, _<_};
 ghost use Rattle.procedure.specs.Status as Procedure;
 ghost use Rattle.procedure.specs.Graph as Graph;
 ghost use Rattle.procedure.specs.Tableau as Tableau;
+ghost use Rattle.words.specs.Sizes.{nodeSize, alternativeSize, mostRecords};
+ghost use Rattle.rowset.specs.Value.{valueOf};
 ghost use Rattle.records.specs.Areas.{roomOf};
 ghost use Rattle.records.specs.Codes as Codes;
 ghost use Rattle.records.specs.Records as Records;
-ghost use Rattle.records.specs.Graphs.{graphOf, capacityOf, Held, Added};
+ghost use Rattle.graph.specs.Graphs.{work, Held, Refines};
 ghost use Rattle.steps.specs.Steps as Steps;
 ghost use Rattle.steps.specs.Tables as Tables;
-use records::Counts;
-use records::FoundState;
+use graph::Counts;
+use graph::FoundNode;
+use graph::Next;
+use graph::Step;
+use graph::add_alternative;
+use graph::add_edge;
+use graph::add_node;
+use graph::find_state;
+use graph::next_child;
+use graph::set_link;
+use graph::set_status;
 use records::Link;
-use records::Next;
 use records::Node;
 use records::Status;
-use records::Step;
-use records::add_alternative;
-use records::add_edge;
-use records::add_node;
-use records::find_state;
+use records::is_live;
 use records::load_node;
-use records::next_child;
-use records::set_link;
-use records::set_status;
+use rowset::RowSet;
 
 // Adds a node, and the edge to it.
 pub fn add_child(nodes: &mut [u8], edges: &mut [u8], c: Counts, from: u16, node: Node) -> Step
-    requires { ⌜ c .nodes ≤ 4096 ⌝ }
+    requires { ⌜ c .nodes ≤ mostRecords ⌝ }
     ensures { λ r. ⌜ Steps.AddsBelow (now (nodes .entry)) (now (nodes .exit)) (now (edges .entry)) (now (edges .exit)) c r (Steps.addChild from (Records.nodeOf node)) ⌝ }
 {
     match add_node(nodes, c, node) {
@@ -41,21 +45,22 @@ pub fn add_child(nodes: &mut [u8], edges: &mut [u8], c: Counts, from: u16, node:
 
 // Links node z to state y, and adds the edge from z.
 fn link_to(nodes: &mut [u8], edges: &mut [u8], c: Counts, z: u16, y: u16) -> Step
-    requires { ⌜ (z < c .nodes) × (c .nodes ≤ roomOf 64 (now nodes)) ⌝ }
-    ensures { λ r. ⌜ ((t : Steps.Table) → Steps.AddsBelow (now (nodes .entry)) (now (nodes .exit)) (now (edges .entry)) (now (edges .exit)) c r (λ k g. Tableau.linkTo t k z y g)) ⌝ }
+    requires { ⌜ (z < c .nodes) × (c .nodes ≤ roomOf nodeSize (now nodes)) ⌝ }
+    ensures { λ r. ⌜ Steps.AddsBelow (now (nodes .entry)) (now (nodes .exit)) (now (edges .entry)) (now (edges .exit)) c r (λ k g. Tableau.linkTo k z y g) ⌝ }
 {
     set_link(nodes, c, z as usize, Link::State(y));
     add_edge(edges, c, z, y)
 }
 
 // Links node z to the state with this set, made if new.
-fn link_found(nodes: &mut [u8], edges: &mut [u8], c: Counts, z: u16, rows: u64) -> Step
+fn link_found(nodes: &mut [u8], edges: &mut [u8], c: Counts, z: u16, rows: RowSet) -> Step
     requires { ⌜ (z < c .nodes) × Steps.Holds (now nodes) (now edges) c ⌝ }
-    ensures { λ r. ⌜ ((t : Steps.Table) → Steps.AddsBelow (now (nodes .entry)) (now (nodes .exit)) (now (edges .entry)) (now (edges .exit)) c r (λ k g. Tableau.linkFound t k z rows (Graph.findState rows g) g)) ⌝ }
+    ensures { λ r. ⌜ Steps.AddsBelow (now (nodes .entry)) (now (nodes .exit)) (now (edges .entry)) (now (edges .exit)) c r
+        (λ k g. Tableau.linkFound k z (valueOf rows) (Graph.findState (valueOf rows) g) g) ⌝ }
 {
     match find_state(nodes, c, rows) {
-        FoundState::At(y) => link_to(nodes, edges, c, z, y),
-        FoundState::Nothing => {
+        FoundNode::At(y) => link_to(nodes, edges, c, z, y),
+        FoundNode::Nothing => {
             let state = Node {
                 rows,
                 status: Status::Unset,
@@ -79,10 +84,10 @@ pub fn link_special(
     c: Counts,
     p: u16,
     role: u8,
-    rows: u64,
+    rows: RowSet,
 ) -> Step
     requires { ⌜ Steps.Holds (now nodes) (now edges) c ⌝ }
-    ensures { λ r. ⌜ ((t : Steps.Table) → Steps.AddsBelow (now (nodes .entry)) (now (nodes .exit)) (now (edges .entry)) (now (edges .exit)) c r (λ k g. Tableau.linkSpecial t k p role rows g)) ⌝ }
+    ensures { λ r. ⌜ Steps.AddsBelow (now (nodes .entry)) (now (nodes .exit)) (now (edges .entry)) (now (edges .exit)) c r (λ k g. Tableau.linkSpecial k p role (valueOf rows) g) ⌝ }
 {
     let special = Node {
         rows,
@@ -98,23 +103,10 @@ pub fn link_special(
     }
 }
 
-// Whether a status is none or open.
-pub fn is_live(s: Status) -> bool
-    ensures { λ r. ⌜ r ≡ Procedure.isLive (Codes.statusOf s) ⌝ }
-{
-    match s {
-        Status::Unset => true,
-        Status::Open => true,
-        Status::Sat => false,
-        Status::Unsat => false,
-        Status::TooSmall => false,
-    }
-}
-
 // What a set lacks joins the alternatives of state p while its status is none or open.
-fn join(nodes: &[u8], alternatives: &mut [u8], c: Counts, p: u16, lacked: u64) -> Step
-    requires { ⌜ (p < c .nodes) × (c .nodes ≤ roomOf 64 (now nodes)) × (c .alternatives ≤ roomOf 16 (now alternatives)) ⌝ }
-    ensures { λ r. ⌜ ((t : Steps.Table) → Steps.Joins (now (nodes .entry)) (now (alternatives .entry)) (now (alternatives .exit)) c r (λ k g. Tableau.joinAlternatives t k p lacked g)) ⌝ }
+fn join(nodes: &[u8], alternatives: &mut [u8], c: Counts, p: u16, lacked: RowSet) -> Step
+    requires { ⌜ (p < c .nodes) × (c .nodes ≤ roomOf nodeSize (now nodes)) × (c .alternatives ≤ roomOf alternativeSize (now alternatives)) ⌝ }
+    ensures { λ r. ⌜ Steps.Joins (now (nodes .entry)) (now (alternatives .entry)) (now (alternatives .exit)) c r (λ k g. Tableau.joinAlternatives k p (valueOf lacked) g) ⌝ }
 {
     let above = load_node(nodes, p as usize);
     let status = above.status;
@@ -134,11 +126,12 @@ pub fn add_lapsed(
     from: u16,
     p: u16,
     role: u8,
-    rows: u64,
-    lacked: u64,
+    rows: RowSet,
+    lacked: RowSet,
 ) -> Step
-    requires { ⌜ (p < c .nodes) × Held (now nodes) (now edges) (now alternatives) c ⌝ }
-    ensures { λ r. ⌜ ((t : Steps.Table) → Added c (now (nodes .exit)) (now (edges .exit)) (now (alternatives .exit)) r (Steps.addLapsed t from p role rows lacked (capacityOf (now (nodes .entry)) (now (edges .entry)) (now (alternatives .entry))) (graphOf (now (nodes .entry)) (now (edges .entry)) (now (alternatives .entry)) c))) ⌝ }
+    requires { ⌜ (p < c .nodes) × Held (work (now nodes) (now edges) (now alternatives)) c ⌝ }
+    ensures { λ r. ⌜ Refines (work (now (nodes .entry)) (now (edges .entry)) (now (alternatives .entry))) c r (work (now (nodes .exit)) (now (edges .exit)) (now (alternatives .exit)))
+        (Steps.addLapsed from p role (valueOf rows) (valueOf lacked)) ⌝ }
 {
     let lapsed = Node {
         rows,
@@ -203,7 +196,7 @@ fn rank(s: Status) -> usize
 
 // The entry of a pair of statuses.
 fn entry(by: Pairs, a: Status, b: Status) -> Status
-    ensures { λ r. ⌜ Codes.statusOf r ≡ Procedure.entry (Tables.tableOf by) (Codes.statusOf a) (Codes.statusOf b) ⌝ }
+    ensures { λ r. ⌜ Codes.statusOf r ≡ Procedure.entry (Tables.statusTable by) (Codes.statusOf a) (Codes.statusOf b) ⌝ }
 {
     let i = rank(a);
     let j = rank(b);
@@ -222,7 +215,7 @@ fn entry(by: Pairs, a: Status, b: Status) -> Status
 // The statuses of the children of x, folded from `start` on.
 fn fold(nodes: &[u8], edges: &[u8], c: Counts, x: u16, by: Pairs, start: Status) -> Status
     requires { ⌜ Tables.Judges (now nodes) (now edges) c x ⌝ }
-    ensures { λ r. ⌜ Codes.statusOf r ≡ Procedure.foldStatus (Tables.tableOf by) (Codes.statusOf start) (Tables.statusesFrom (now (nodes .entry)) (now (edges .entry)) c x 0) ⌝ }
+    ensures { λ r. ⌜ Codes.statusOf r ≡ Procedure.foldStatus (Tables.statusTable by) (Codes.statusOf start) (Tables.statusesFrom (now (nodes .entry)) (now (edges .entry)) c x 0) ⌝ }
 {
     let mut v = start;
     let mut i = 0;

@@ -1,58 +1,60 @@
 -- What the functions of the tableau rely on, and what they give.
--- For the rows of a file, three areas n e a and counts c, the graph is `graphOf n e a c`, the places are `capacityOf n e a`.
+-- For the words ws of a decoded problem, the work areas w and counts c, the problem is `problemOf ws`, the graph `graphOf w c`, the places `capacityOf w`.
 --
--- In order: putting a set; judging a node; the alternatives of a small state.
+-- In order: putting a set; judging a node; a node that is linked, and the alternatives of a small state.
 -- Assumes nothing.
 use mathlib.Core.Path.{_≡_}
+use mathlib.Core.List.{List}
 use Prim.Native.Nat.{ℕ, _≤_, _<_}
 use lib.ListN.{length}
 use Rattle.concepts.specs.RowSet.{RowSet, missing}
 use Rattle.procedure.specs.Status.{toosmall}
-use Rattle.procedure.specs.Graph.{toState, nodeAt}
-use Rattle.procedure.specs.Tableau.{putWithin, judge, putAlternatives}
+use Rattle.procedure.specs.Graph.{toState, Capacity, nodeAt}
+use Rattle.procedure.specs.Tableau.{Put, putWithin, judge, putAlternatives}
 use Rattle.procedure.proofs.Fit.{PutFit, JudgeFit}
-use Rattle.records.specs.Areas.{Bytes}
-use Rattle.records.specs.Graphs.{graphOf, capacityOf, Held, Added}
-use Rattle.records.specs.declared.Counts.{Counts}
-use Rattle.records.specs.declared.Step.{Step}
-use Rattle.settests.specs.Rows.{tableOf, Rows}
+use Rattle.problem.specs.Decoded.{tableOf, problemOf, Decoded}
+use Rattle.graph.specs.Graphs.{Work, graphOf, capacityOf, Held, Refines}
+use Rattle.graph.specs.declared.Counts.{Counts}
+use Rattle.graph.specs.declared.Step.{Step}
 
 -- the rows that a set lacks
-abbrev pub lacks : Bytes → RowSet → ℕ
-lacks rows s = missing (length (tableOf rows)) s
+abbrev pub lacks : List ℕ → RowSet → ℕ
+lacks ws s = missing (length (tableOf ws)) s
+
+-- the put of the definitions, with so much fuel and in so many places
+abbrev pub puts : List ℕ → ℕ → Capacity → Put
+puts ws f k m p ρ s g = putWithin (problemOf ws) k f m p ρ s g
 
 -- ---- putting a set: under node m, with the state above p and the role ρ
 
-pub record PutAsks (rows n e a : Bytes) (c : Counts) (m p ρ : ℕ) (s : RowSet) : Type 0 where
-  pub table : Rows rows
-  pub held : Held n e a c
-  pub fit : PutFit (tableOf rows) (capacityOf n e a) (graphOf n e a c) m p ρ s
+pub record PutAsks (ws : List ℕ) (w : Work) (c : Counts) (m p ρ : ℕ) (s : RowSet) : Type 0 where
+  pub decoded : Decoded ws
+  pub held : Held w c
+  pub fit : PutFit (problemOf ws) (capacityOf w) (graphOf w c) m p ρ s
 
 -- whatever the fuel, as long as there is more of it than rows missing from the set
-abbrev pub PutGives : (rows n e a : Bytes) → Counts → (m p ρ : ℕ) → RowSet → Step → (n′ e′ a′ : Bytes) → Type 0
-PutGives rows n e a c m p ρ s r n′ e′ a′ =
-    (f : ℕ) → lacks rows s < f → Added c n′ e′ a′ r (putWithin (tableOf rows) (capacityOf n e a) f m p ρ s (graphOf n e a c))
+abbrev pub PutGives : List ℕ → Work → Counts → (m p ρ : ℕ) → RowSet → Step → Work → Type 0
+PutGives ws w c m p ρ s r w′ = (f : ℕ) → lacks ws s < f → Refines w c r w′ (λ k g. puts ws f k m p ρ s g)
 
 -- ---- judging node x
 
-pub record JudgeAsks (rows n e a : Bytes) (c : Counts) (x : ℕ) : Type 0 where
-  pub table : Rows rows
-  pub held : Held n e a c
-  pub fit : JudgeFit (tableOf rows) (capacityOf n e a) (graphOf n e a c) x
+pub record JudgeAsks (ws : List ℕ) (w : Work) (c : Counts) (x : ℕ) : Type 0 where
+  pub decoded : Decoded ws
+  pub held : Held w c
+  pub fit : JudgeFit (problemOf ws) (capacityOf w) (graphOf w c) x
 
-abbrev pub JudgeGives : (rows n e a : Bytes) → Counts → ℕ → Step → (n′ e′ a′ : Bytes) → Type 0
-JudgeGives rows n e a c x r n′ e′ a′ =
-    (f : ℕ) → lacks rows (nodeAt (graphOf n e a c) x .rows) ≤ f
-    → Added c n′ e′ a′ r (judge (λ m p ρ s g. putWithin (tableOf rows) (capacityOf n e a) f m p ρ s g) x (graphOf n e a c))
+abbrev pub JudgeGives : List ℕ → Work → Counts → ℕ → Step → Work → Type 0
+JudgeGives ws w c x r w′ = (f : ℕ) → lacks ws (nodeAt (graphOf w c) x .rows) ≤ f → Refines w c r w′ (λ k g. judge (puts ws f k) x g)
 
--- ---- a node z whose state y is small
+-- ---- a node z that is linked to state y; and one whose state is small
 
-pub record SmallAsks (rows n e a : Bytes) (c : Counts) (z y : ℕ) : Type 0 where
-  pub judge : JudgeAsks rows n e a c z
-  pub link : nodeAt (graphOf n e a c) z .link ≡ toState y
-  pub small : nodeAt (graphOf n e a c) y .status ≡ toosmall
+pub record LinkedAsks (ws : List ℕ) (w : Work) (c : Counts) (z y : ℕ) : Type 0 where
+  pub judge : JudgeAsks ws w c z
+  pub link : nodeAt (graphOf w c) z .link ≡ toState y
 
-abbrev pub SmallGives : (rows n e a : Bytes) → Counts → (z y : ℕ) → Step → (n′ e′ a′ : Bytes) → Type 0
-SmallGives rows n e a c z y r n′ e′ a′ =
-    (f : ℕ) → lacks rows (nodeAt (graphOf n e a c) z .rows) ≤ f
-    → Added c n′ e′ a′ r (putAlternatives (λ m p ρ s g. putWithin (tableOf rows) (capacityOf n e a) f m p ρ s g) z y (graphOf n e a c))
+pub record SmallAsks (ws : List ℕ) (w : Work) (c : Counts) (z y : ℕ) : Type 0 where
+  pub linked : LinkedAsks ws w c z y
+  pub small : nodeAt (graphOf w c) y .status ≡ toosmall
+
+abbrev pub SmallGives : List ℕ → Work → Counts → (z y : ℕ) → Step → Work → Type 0
+SmallGives ws w c z y r w′ = (f : ℕ) → lacks ws (nodeAt (graphOf w c) z .rows) ≤ f → Refines w c r w′ (λ k g. putAlternatives (puts ws f k) z y g)

@@ -1,6 +1,5 @@
--- The tableau over lent areas: its contracts, and the ways through its functions.
+-- The tableau over lent areas: its contracts, and the cases of its functions.
 pub mod Contracts
-pub mod StepLaws
-pub mod PutWays
-pub mod JudgeWays
-pub mod SmallWays
+pub mod PutCases
+pub mod JudgeCases
+pub mod SmallCases

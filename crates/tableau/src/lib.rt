@@ -6,20 +6,20 @@ ghost use Rattle.procedure.specs.Graph as Graph;
 ghost use Rattle.procedure.specs.Tableau as Tableau;
 ghost use Rattle.records.specs.Codes.{statusOf};
 ghost use Rattle.records.specs.Records.{nodeOf};
-ghost use Rattle.records.specs.Graphs.{graphOf};
+ghost use Rattle.graph.specs.Graphs.{work};
 ghost use Rattle.rowset.specs.Value.{valueOf};
-ghost use Rattle.tableau.specs.Contracts.{PutAsks, PutGives, JudgeAsks, JudgeGives, SmallAsks, SmallGives};
-use records::Counts;
+ghost use Rattle.tableau.specs.Contracts.{PutAsks, PutGives, JudgeAsks, JudgeGives, LinkedAsks, SmallAsks, SmallGives};
+use graph::Counts;
+use graph::NextAlternative;
+use graph::Step;
+use graph::add_edge;
+use graph::next_alternative;
+use graph::set_link;
+use graph::set_status;
 use records::Link;
-use records::NextAlternative;
 use records::Node;
 use records::Status;
-use records::Step;
-use records::add_edge;
 use records::load_node;
-use records::next_alternative;
-use records::set_link;
-use records::set_status;
 use rowset::RowSet;
 use rowset::is_empty;
 use rowset::union;
@@ -38,7 +38,7 @@ fn below(p: u16, role: u8, s: RowSet, status: Status) -> Node
     ensures { λ r. ⌜ nodeOf r ≡ Tableau.below p role (valueOf s) (statusOf status) Graph.unlinked ⌝ }
 {
     Node {
-        rows: s.bits,
+        rows: s,
         status,
         is_state: false,
         pst: p,
@@ -49,7 +49,7 @@ fn below(p: u16, role: u8, s: RowSet, status: Status) -> Node
 
 // Puts the set s under node m, with the state above p and the role.
 pub fn put(
-    rows: &[u8],
+    problem: &[u64],
     nodes: &mut [u8],
     edges: &mut [u8],
     alternatives: &mut [u8],
@@ -59,34 +59,26 @@ pub fn put(
     role: u8,
     s: RowSet,
 ) -> Step
-    requires { ⌜ PutAsks (now rows) (now nodes) (now edges) (now alternatives) c m p role (valueOf s) ⌝ }
-    ensures { λ r. ⌜ PutGives (now (rows .entry)) (now (nodes .entry)) (now (edges .entry)) (now (alternatives .entry)) c m p role (valueOf s) r (now (nodes .exit)) (now (edges .exit)) (now (alternatives .exit)) ⌝ }
+    requires { ⌜ PutAsks (now problem) (work (now nodes) (now edges) (now alternatives)) c m p role (valueOf s) ⌝ }
+    ensures { λ r. ⌜ PutGives (now (problem .entry))
+        (work (now (nodes .entry)) (now (edges .entry)) (now (alternatives .entry))) c m p role (valueOf s) r (work (now (nodes .exit)) (now (edges .exit)) (now (alternatives .exit))) ⌝ }
 {
-    if clash(rows, s) {
+    if clash(problem, s) {
         return add_child(nodes, edges, c, m, below(p, role, s, Status::Unsat));
     }
-    if unfinished(rows, s) {
+    if unfinished(problem, s) {
         return add_child(nodes, edges, c, m, below(p, role, s, Status::Unset));
     }
     let above = load_node(nodes, p as usize);
-    let lacked = lacking(rows, s, inverse(role), RowSet { bits: above.rows });
+    let set = above.rows;
+    let lacked = lacking(problem, s, inverse(role), set);
     if !is_empty(lacked) {
-        return add_lapsed(
-            nodes,
-            edges,
-            alternatives,
-            c,
-            m,
-            p,
-            role,
-            s.bits,
-            lacked.bits,
-        );
+        return add_lapsed(nodes, edges, alternatives, c, m, p, role, s, lacked);
     }
     let z = c.nodes as u16;
-    match link_special(nodes, edges, c, p, role, s.bits) {
+    match link_special(nodes, edges, c, p, role, s) {
         Step::Full(area) => Step::Full(area),
-        Step::Done(d) => match judge(rows, nodes, edges, alternatives, d, z) {
+        Step::Done(d) => match judge(problem, nodes, edges, alternatives, d, z) {
             Step::Full(area) => Step::Full(area),
             Step::Done(b) => add_edge(edges, b, m, z),
         },
@@ -95,20 +87,21 @@ pub fn put(
 
 // Gives node x its status, by its state or its children.
 pub fn judge(
-    rows: &[u8],
+    problem: &[u64],
     nodes: &mut [u8],
     edges: &mut [u8],
     alternatives: &mut [u8],
     c: Counts,
     x: u16,
 ) -> Step
-    requires { ⌜ JudgeAsks (now rows) (now nodes) (now edges) (now alternatives) c x ⌝ }
-    ensures { λ r. ⌜ JudgeGives (now (rows .entry)) (now (nodes .entry)) (now (edges .entry)) (now (alternatives .entry)) c x r (now (nodes .exit)) (now (edges .exit)) (now (alternatives .exit)) ⌝ }
+    requires { ⌜ JudgeAsks (now problem) (work (now nodes) (now edges) (now alternatives)) c x ⌝ }
+    ensures { λ r. ⌜ JudgeGives (now (problem .entry))
+        (work (now (nodes .entry)) (now (edges .entry)) (now (alternatives .entry))) c x r (work (now (nodes .exit)) (now (edges .exit)) (now (alternatives .exit))) ⌝ }
 {
     let node = load_node(nodes, x as usize);
     let link = node.link;
     match link {
-        Link::State(y) => judge_linked(rows, nodes, edges, alternatives, c, x, y),
+        Link::State(y) => judge_linked(problem, nodes, edges, alternatives, c, x, y),
         Link::Lapsed => {
             judge_branch(nodes, edges, c, x);
             Step::Done(c)
@@ -126,7 +119,7 @@ pub fn judge(
 
 // Gives node x, which is linked to state y, its status.
 fn judge_linked(
-    rows: &[u8],
+    problem: &[u64],
     nodes: &mut [u8],
     edges: &mut [u8],
     alternatives: &mut [u8],
@@ -134,8 +127,9 @@ fn judge_linked(
     x: u16,
     y: u16,
 ) -> Step
-    requires { ⌜ JudgeAsks (now rows) (now nodes) (now edges) (now alternatives) c x × (Graph.nodeAt (graphOf (now nodes) (now edges) (now alternatives) c) x .link ≡ Graph.toState y) ⌝ }
-    ensures { λ r. ⌜ JudgeGives (now (rows .entry)) (now (nodes .entry)) (now (edges .entry)) (now (alternatives .entry)) c x r (now (nodes .exit)) (now (edges .exit)) (now (alternatives .exit)) ⌝ }
+    requires { ⌜ LinkedAsks (now problem) (work (now nodes) (now edges) (now alternatives)) c x y ⌝ }
+    ensures { λ r. ⌜ JudgeGives (now (problem .entry))
+        (work (now (nodes .entry)) (now (edges .entry)) (now (alternatives .entry))) c x r (work (now (nodes .exit)) (now (edges .exit)) (now (alternatives .exit))) ⌝ }
 {
     let state = load_node(nodes, y as usize);
     let status = state.status;
@@ -156,13 +150,13 @@ fn judge_linked(
             set_status(nodes, c, x as usize, Status::Open);
             Step::Done(c)
         }
-        Status::TooSmall => put_alternatives(rows, nodes, edges, alternatives, c, x, y),
+        Status::TooSmall => put_alternatives(problem, nodes, edges, alternatives, c, x, y),
     }
 }
 
 // Puts the alternatives of the small state y, each joined to its set, under node z, which lapses and is judged by its children.
 fn put_alternatives(
-    rows: &[u8],
+    problem: &[u64],
     nodes: &mut [u8],
     edges: &mut [u8],
     alternatives: &mut [u8],
@@ -170,12 +164,13 @@ fn put_alternatives(
     z: u16,
     y: u16,
 ) -> Step
-    requires { ⌜ SmallAsks (now rows) (now nodes) (now edges) (now alternatives) c z y ⌝ }
-    ensures { λ r. ⌜ SmallGives (now (rows .entry)) (now (nodes .entry)) (now (edges .entry)) (now (alternatives .entry)) c z y r (now (nodes .exit)) (now (edges .exit)) (now (alternatives .exit)) ⌝ }
+    requires { ⌜ SmallAsks (now problem) (work (now nodes) (now edges) (now alternatives)) c z y ⌝ }
+    ensures { λ r. ⌜ SmallGives (now (problem .entry))
+        (work (now (nodes .entry)) (now (edges .entry)) (now (alternatives .entry))) c z y r (work (now (nodes .exit)) (now (edges .exit)) (now (alternatives .exit))) ⌝ }
 {
     let node = load_node(nodes, z as usize);
     let state = load_node(nodes, y as usize);
-    let set = RowSet { bits: state.rows };
+    let set = state.rows;
     let mut cur = c;
     let mut i: usize = 0;
     loop {
@@ -186,9 +181,9 @@ fn put_alternatives(
             return Step::Done(cur);
         };
         i = index + 1;
-        let joined = union(RowSet { bits: extra }, set);
+        let joined = union(extra, set);
         match put(
-            rows,
+            problem,
             nodes,
             edges,
             alternatives,

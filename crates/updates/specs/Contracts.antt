@@ -1,31 +1,39 @@
--- What an update relies on, and what it gives. Areas and counts as in the tableau's contracts.
+-- What an update relies on, and what it gives. Words, areas and counts as in the tableau's contracts.
 -- Assumes nothing.
-use Prim.Native.Nat.{ℕ, _+_, _<_}
-use Rattle.procedure.specs.Graph.{nodeCount}
+use mathlib.Core.List.{List}
+use Prim.Native.Nat.{ℕ, _+_, _-_, _<_}
+use Rattle.procedure.specs.Graph.{Capacity, Graph, Result, nodeCount}
 use Rattle.procedure.specs.Tableau.{updateWithin, updateParents}
 use Rattle.procedure.proofs.Fit.{Fit}
 use Rattle.procedure.proofs.Measure.{settled}
-use Rattle.records.specs.Areas.{Bytes, roomOf}
-use Rattle.records.specs.Graphs.{graphOf, capacityOf, Held, Added}
-use Rattle.records.specs.declared.Counts.{Counts}
-use Rattle.records.specs.declared.Step.{Step}
-use Rattle.settests.specs.Rows.{tableOf, Rows}
+use Rattle.words.specs.Sizes.{nodeSize}
+use Rattle.problem.specs.Decoded.{problemOf, Decoded}
+use Rattle.records.specs.Areas.{roomOf}
+use Rattle.graph.specs.Graphs.{Work, graphOf, capacityOf, Held, Refines}
+use Rattle.graph.specs.declared.Counts.{Counts}
+use Rattle.graph.specs.declared.Step.{Step}
 
-pub record UpdateAsks (rows n e a : Bytes) (c : Counts) (x : ℕ) : Type 0 where
-  pub table : Rows rows
-  pub held : Held n e a c
-  pub fit : Fit (tableOf rows) (capacityOf n e a) (graphOf n e a c)
-  pub there : x < nodeCount (graphOf n e a c)
+pub record UpdateAsks (ws : List ℕ) (w : Work) (c : Counts) (x : ℕ) : Type 0 where
+  pub decoded : Decoded ws
+  pub held : Held w c
+  pub fit : Fit (problemOf ws) (capacityOf w) (graphOf w c)
+  pub there : x < nodeCount (graphOf w c)
 
 -- the settled nodes and the fuel are more than the places for nodes
-abbrev pub Enough : (n e a : Bytes) → Counts → ℕ → Type 0
-Enough n e a c f = roomOf 64 n < settled (graphOf n e a c) + f
+abbrev pub Enough : Work → Counts → ℕ → Type 0
+Enough w c f = roomOf nodeSize (w .nodes) < settled (graphOf w c) + f
+
+-- the places for nodes that settled nodes have not taken: what falls
+abbrev pub unsettled : Work → Counts → ℕ
+unsettled w c = roomOf nodeSize (w .nodes) - settled (graphOf w c)
+
+-- the update of the definitions, with so much fuel and in so many places
+abbrev pub updates : List ℕ → ℕ → Capacity → ℕ → Graph → Result
+updates ws f k x g = updateWithin (problemOf ws) k f x g
 
 -- whatever the fuel, as long as it is enough
-abbrev pub UpdateGives : (rows n e a : Bytes) → Counts → ℕ → Step → (n′ e′ a′ : Bytes) → Type 0
-UpdateGives rows n e a c x r n′ e′ a′ = (f : ℕ) → Enough n e a c f → Added c n′ e′ a′ r (updateWithin (tableOf rows) (capacityOf n e a) f x (graphOf n e a c))
+abbrev pub UpdateGives : List ℕ → Work → Counts → ℕ → Step → Work → Type 0
+UpdateGives ws w c x r w′ = (f : ℕ) → Enough w c f → Refines w c r w′ (λ k g. updates ws f k x g)
 
-abbrev pub ParentsGives : (rows n e a : Bytes) → Counts → ℕ → Step → (n′ e′ a′ : Bytes) → Type 0
-ParentsGives rows n e a c x r n′ e′ a′ =
-    (f : ℕ) → Enough n e a c f
-    → Added c n′ e′ a′ r (updateParents (tableOf rows) (capacityOf n e a) (λ y k. updateWithin (tableOf rows) (capacityOf n e a) f y k) x (graphOf n e a c))
+abbrev pub ParentsGives : List ℕ → Work → Counts → ℕ → Step → Work → Type 0
+ParentsGives ws w c x r w′ = (f : ℕ) → Enough w c f → Refines w c r w′ (λ k g. updateParents (updates ws f k) x g)

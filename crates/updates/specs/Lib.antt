@@ -1,4 +1,4 @@
 -- Updates over lent areas: their contracts, and the ways through their functions.
 pub mod Contracts
-pub mod UpdateWays
-pub mod ParentWays
+pub mod UpdateCases
+pub mod ParentCases

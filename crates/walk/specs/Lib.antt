@@ -1,8 +1,7 @@
--- The walk of the example over lent areas: its contracts, and the ways through its functions.
+-- The walk of the example over lent areas: its contracts, and the cases of its functions.
 pub mod Contracts
 pub mod KeptLaws
-pub mod ChildWays
-pub mod MeetWays
-pub mod RowWays
-pub mod FinishedLaws
-pub mod WalkWays
+pub mod ChildCases
+pub mod MeetCases
+pub mod RowCases
+pub mod WalkCases

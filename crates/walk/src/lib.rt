@@ -5,12 +5,19 @@
 // Elements and links are kept as marks in the spare bytes of the records.
 ghost use mathlib.Core.Path.{_≡_};
 ghost use Prim.Native.Nat.{_≤_};
-ghost use Rattle.procedure.specs.Status.{isSat, isOpen};
+ghost use Rattle.procedure.specs.Status.{isSat};
 ghost use Rattle.procedure.specs.Example as Example;
+ghost use Rattle.words.specs.Sizes.{nodeSize};
 ghost use Rattle.records.specs.Areas.{roomOf};
 ghost use Rattle.records.specs.Codes.{statusOf, linkOf};
-ghost use Rattle.records.specs.Graphs.{foundOf};
+ghost use Rattle.graph.specs.Graphs.{graphOf, foundOf};
 ghost use Rattle.walk.specs.Contracts as Contracts;
+ghost use Rattle.walk.specs.Contracts.{nodesEdges};
+use graph::Counts;
+use graph::FoundNode;
+use graph::Next;
+use graph::next_child;
+use marks::LinkMark;
 use marks::Sizes;
 use marks::clear_numbers;
 use marks::load_number;
@@ -18,14 +25,10 @@ use marks::load_state;
 use marks::store_number;
 use marks::store_role_link;
 use marks::store_state;
-use records::Counts;
-use records::FoundState;
 use records::Link;
-use records::Next;
 use records::Status;
+use records::is_open;
 use records::load_node;
-use records::next_child;
-use rowset::RowSet;
 use settests::Exist;
 use settests::next_exist;
 
@@ -37,19 +40,6 @@ fn is_sat(s: Status) -> bool
         Status::Sat => true,
         Status::Unset => false,
         Status::Open => false,
-        Status::Unsat => false,
-        Status::TooSmall => false,
-    }
-}
-
-// Whether a status is open.
-fn is_open(s: Status) -> bool
-    ensures { λ r. ⌜ r ≡ isOpen (statusOf s) ⌝ }
-{
-    match s {
-        Status::Open => true,
-        Status::Unset => false,
-        Status::Sat => false,
         Status::Unsat => false,
         Status::TooSmall => false,
     }
@@ -67,7 +57,7 @@ fn is_asked(s: Status, sat: bool) -> bool
 
 // The status of node y; none if there is no such node.
 fn status_at(nodes: &[u8], c: Counts, y: u16) -> Status
-    requires { ⌜ c .nodes ≤ roomOf 64 (now nodes) ⌝ }
+    requires { ⌜ c .nodes ≤ roomOf nodeSize (now nodes) ⌝ }
     ensures { λ r. ⌜ Contracts.StatusAt (now (nodes .entry)) c y (statusOf r) ⌝ }
 {
     let x = y as usize;
@@ -79,58 +69,58 @@ fn status_at(nodes: &[u8], c: Counts, y: u16) -> Status
 }
 
 // The first child of x that has the status looked for.
-fn first_child(nodes: &[u8], edges: &[u8], c: Counts, x: u16, sat: bool) -> FoundState
-    requires { ⌜ Contracts.Holds (now nodes) (now edges) c ⌝ }
-    ensures { λ r. ⌜ foundOf r ≡ Example.firstChild (Contracts.asked sat) (Contracts.graphIn (now (nodes .entry)) (now (edges .entry)) c) x ⌝ }
+fn first_child(nodes: &[u8], edges: &[u8], c: Counts, x: u16, sat: bool) -> FoundNode
+    requires { ⌜ Contracts.Holds (nodesEdges (now nodes) (now edges)) c ⌝ }
+    ensures { λ r. ⌜ foundOf r ≡ Example.firstChild (Contracts.asked sat) (graphOf (nodesEdges (now (nodes .entry)) (now (edges .entry))) c) x ⌝ }
 {
     let mut i: usize = 0;
     loop {
         let Next::At { index, node } = next_child(edges, c, x, i) else {
-            return FoundState::Nothing;
+            return FoundNode::Nothing;
         };
         i = index + 1;
         if is_asked(status_at(nodes, c, node), sat) {
-            return FoundState::At(node);
+            return FoundNode::At(node);
         }
     }
 }
 
 // "The first child that is yes, else the first open".
-fn live_child(nodes: &[u8], edges: &[u8], c: Counts, x: u16) -> FoundState
-    requires { ⌜ Contracts.Holds (now nodes) (now edges) c ⌝ }
-    ensures { λ r. ⌜ foundOf r ≡ Example.liveChild (Contracts.graphIn (now (nodes .entry)) (now (edges .entry)) c) x ⌝ }
+fn live_child(nodes: &[u8], edges: &[u8], c: Counts, x: u16) -> FoundNode
+    requires { ⌜ Contracts.Holds (nodesEdges (now nodes) (now edges)) c ⌝ }
+    ensures { λ r. ⌜ foundOf r ≡ Example.liveChild (graphOf (nodesEdges (now (nodes .entry)) (now (edges .entry))) c) x ⌝ }
 {
     match first_child(nodes, edges, c, x, true) {
-        FoundState::At(y) => FoundState::At(y),
-        FoundState::Nothing => first_child(nodes, edges, c, x, false),
+        FoundNode::At(y) => FoundNode::At(y),
+        FoundNode::Nothing => first_child(nodes, edges, c, x, false),
     }
 }
 
 // The state to which a link leads, if it does.
-fn linked_state(link: Link) -> FoundState
+fn linked_state(link: Link) -> FoundNode
     ensures { λ r. ⌜ foundOf r ≡ Contracts.stateOf (linkOf link) ⌝ }
 {
     match link {
-        Link::State(y) => FoundState::At(y),
-        Link::None => FoundState::Nothing,
-        Link::Lapsed => FoundState::Nothing,
+        Link::State(y) => FoundNode::At(y),
+        Link::None => FoundNode::Nothing,
+        Link::Lapsed => FoundNode::Nothing,
     }
 }
 
 // The state to which the way down from node `from` leads. The nodes on the way rise.
 fn descend(nodes: &[u8], edges: &[u8], c: Counts, from: u16) -> u16
-    requires { ⌜ Contracts.DescendAsks (now nodes) (now edges) c from ⌝ }
-    ensures { λ r. ⌜ Contracts.DescendGives (now (nodes .entry)) (now (edges .entry)) c from r ⌝ }
+    requires { ⌜ Contracts.DescendAsks (nodesEdges (now nodes) (now edges)) c from ⌝ }
+    ensures { λ r. ⌜ Contracts.DescendGives (nodesEdges (now (nodes .entry)) (now (edges .entry))) c from r ⌝ }
 {
     let mut x = from;
     loop {
         let node = load_node(nodes, x as usize);
         let link = node.link;
         match linked_state(link) {
-            FoundState::At(y) => return y,
-            FoundState::Nothing => match live_child(nodes, edges, c, x) {
-                FoundState::At(child) => x = child,
-                FoundState::Nothing => return 0,
+            FoundNode::At(y) => return y,
+            FoundNode::Nothing => match live_child(nodes, edges, c, x) {
+                FoundNode::At(child) => x = child,
+                FoundNode::Nothing => return 0,
             },
         }
     }
@@ -138,14 +128,19 @@ fn descend(nodes: &[u8], edges: &[u8], c: Counts, from: u16) -> u16
 
 // Meets state y from element d along the role: "a state met first gets the next number, and one link is written".
 fn meet(nodes: &mut [u8], edges: &mut [u8], c: Counts, s: Sizes, d: u16, role: u8, y: u16) -> Sizes
-    requires { ⌜ Contracts.MeetAsks (now nodes) (now edges) c s d role y ⌝ }
-    ensures { λ r. ⌜ Contracts.MeetGives (now (nodes .entry)) (now (edges .entry)) c s d role y r (now (nodes .exit)) (now (edges .exit)) ⌝ }
+    requires { ⌜ Contracts.MeetAsks (nodesEdges (now nodes) (now edges)) c s d role y ⌝ }
+    ensures { λ r. ⌜ Contracts.MeetGives (nodesEdges (now (nodes .entry)) (now (edges .entry))) c s d role y r (nodesEdges (now (nodes .exit)) (now (edges .exit))) ⌝ }
 {
     let number = load_number(nodes, y as usize);
     let elements = s.elements;
     let links = s.links;
     if 0 < number {
-        store_role_link(edges, links, d, role as u16, number - 1);
+        let link = LinkMark {
+            from: d,
+            role: role as u16,
+            to: number - 1,
+        };
+        store_role_link(edges, links, link);
         return Sizes {
             elements,
             links: links + 1,
@@ -153,7 +148,12 @@ fn meet(nodes: &mut [u8], edges: &mut [u8], c: Counts, s: Sizes, d: u16, role: u
     }
     store_number(nodes, y as usize, (elements + 1) as u16);
     store_state(nodes, elements, y);
-    store_role_link(edges, links, d, role as u16, elements as u16);
+    let link = LinkMark {
+        from: d,
+        role: role as u16,
+        to: elements as u16,
+    };
+    store_role_link(edges, links, link);
     Sizes {
         elements: elements + 1,
         links: links + 1,
@@ -161,13 +161,20 @@ fn meet(nodes: &mut [u8], edges: &mut [u8], c: Counts, s: Sizes, d: u16, role: u
 }
 
 // Walks the rows of element d with the children put for them.
-fn walk_rows(rows: &[u8], nodes: &mut [u8], edges: &mut [u8], c: Counts, s: Sizes, d: u16) -> Sizes
-    requires { ⌜ Contracts.RowsAsks (now rows) (now nodes) (now edges) c s d ⌝ }
-    ensures { λ r. ⌜ Contracts.RowsGives (now (rows .entry)) (now (nodes .entry)) (now (edges .entry)) c s d r (now (nodes .exit)) (now (edges .exit)) ⌝ }
+fn walk_rows(
+    problem: &[u64],
+    nodes: &mut [u8],
+    edges: &mut [u8],
+    c: Counts,
+    s: Sizes,
+    d: u16,
+) -> Sizes
+    requires { ⌜ Contracts.RowsAsks (now problem) (nodesEdges (now nodes) (now edges)) c s d ⌝ }
+    ensures { λ r. ⌜ Contracts.RowsGives (now (problem .entry)) (nodesEdges (now (nodes .entry)) (now (edges .entry))) c s d r (nodesEdges (now (nodes .exit)) (now (edges .exit))) ⌝ }
 {
     let x = load_state(nodes, d as usize);
     let state = load_node(nodes, x as usize);
-    let set = RowSet { bits: state.rows };
+    let set = state.rows;
     let mut cur = s;
     let mut k: usize = 0;
     let mut i: usize = 0;
@@ -176,7 +183,7 @@ fn walk_rows(rows: &[u8], nodes: &mut [u8], edges: &mut [u8], c: Counts, s: Size
             row,
             role,
             argument: _,
-        } = next_exist(rows, set, k)
+        } = next_exist(problem, set, k)
         else {
             return cur;
         };
@@ -205,15 +212,15 @@ fn start(nodes: &mut [u8], c: Counts, y: u16) -> Sizes
 }
 
 // Walks the example, and keeps it in the marks.
-pub fn walk(rows: &[u8], nodes: &mut [u8], edges: &mut [u8], c: Counts) -> Sizes
-    requires { ⌜ Contracts.WalkAsks (now rows) (now nodes) (now edges) c ⌝ }
-    ensures { λ r. ⌜ Contracts.WalkGives (now (rows .entry)) (now (nodes .entry)) (now (edges .entry)) c r (now (nodes .exit)) (now (edges .exit)) ⌝ }
+pub fn walk(problem: &[u64], nodes: &mut [u8], edges: &mut [u8], c: Counts) -> Sizes
+    requires { ⌜ Contracts.WalkAsks (now problem) (nodesEdges (now nodes) (now edges)) c ⌝ }
+    ensures { λ r. ⌜ Contracts.WalkGives (now (problem .entry)) (nodesEdges (now (nodes .entry)) (now (edges .entry))) c r (nodesEdges (now (nodes .exit)) (now (edges .exit))) ⌝ }
 {
     let first = descend(nodes, edges, c, 0);
     let mut s = start(nodes, c, first);
     let mut d: usize = 0;
     while d < s.elements {
-        s = walk_rows(rows, nodes, edges, c, s, d as u16);
+        s = walk_rows(problem, nodes, edges, c, s, d as u16);
         d += 1;
     }
     s

@@ -11,6 +11,7 @@ use Rattle.concepts.specs.RowSet.{RowSet}
 use Rattle.procedure.specs.Example.{RoleLink}
 use Rattle.run.specs.Run.{elementBytes, linkBytes, overwrite}
 use Rattle.words.specs.Fields.{Field}
+use Rattle.words.specs.Sizes.{nodeSize, edgeSize, setSize, linkSize}
 use Rattle.records.specs.Areas.{Bytes, roomOf}
 use Rattle.records.specs.Records.{nodeIn}
 use Rattle.marks.specs.Marks.{stateIn, roleLinkIn, exampleHeld}
@@ -37,21 +38,21 @@ linkFields l = (0, 2, l .from) ∷ (2, 2, l .role) ∷ (4, 2, l .to) ∷ []
 -- ---- what the writers ask and give
 
 pub record ElementsAsk (nodes : Bytes) (count : ℕ) (elements : Bytes) : Type 0 where
-  pub held : count ≤ roomOf 64 nodes
-  pub states : (d : ℕ) → d < count → stateIn nodes d < roomOf 64 nodes
-  pub room : 8 * count ≤ length elements
+  pub held : count ≤ roomOf nodeSize nodes
+  pub states : (d : ℕ) → d < count → stateIn nodes d < roomOf nodeSize nodes
+  pub room : setSize * count ≤ length elements
 
 pub record LinksAsk (edges : Bytes) (count : ℕ) (links : Bytes) : Type 0 where
-  pub held : count ≤ roomOf 16 edges
-  pub room : 6 * count ≤ length links
+  pub held : count ≤ roomOf edgeSize edges
+  pub room : linkSize * count ≤ length links
 
 -- the records hold so many elements and links, each element stands for a node of the area, and the example areas have room
 pub record WriteAsks (nodes edges : Bytes) (sizes : Sizes) (elements links : Bytes) : Type 0 where
-  pub elementsHeld : sizes .elements ≤ roomOf 64 nodes
-  pub linksHeld : sizes .links ≤ roomOf 16 edges
-  pub states : (d : ℕ) → d < sizes .elements → stateIn nodes d < roomOf 64 nodes
-  pub elementRoom : 8 * sizes .elements ≤ length elements
-  pub linkRoom : 6 * sizes .links ≤ length links
+  pub elementsHeld : sizes .elements ≤ roomOf nodeSize nodes
+  pub linksHeld : sizes .links ≤ roomOf edgeSize edges
+  pub states : (d : ℕ) → d < sizes .elements → stateIn nodes d < roomOf nodeSize nodes
+  pub elementRoom : setSize * sizes .elements ≤ length elements
+  pub linkRoom : linkSize * sizes .links ≤ length links
 
 -- both areas are written over by the bytes of the example that the records hold, and keep the rest
 pub record WriteGives (nodes edges : Bytes) (sizes : Sizes) (elements elements′ links links′ : Bytes) : Type 0 where

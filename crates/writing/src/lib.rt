@@ -6,31 +6,30 @@ ghost use Prim.Native.Nat.{_+_, _*_, _≤_};
 ghost use lib.ListN.{length};
 ghost use Rattle.run.specs.Run.{overwrite};
 ghost use Rattle.words.specs.Fields.{putFields};
+ghost use Rattle.words.specs.Sizes.{nodeSize, edgeSize, linkSize};
+ghost use Rattle.rowset.specs.Value.{valueOf};
 ghost use Rattle.records.specs.Areas.{Fits};
 ghost use Rattle.marks.specs.Marks.{stateIn, roleLinkIn};
 ghost use Rattle.writing.specs.Writing as Writing;
 use marks::Sizes;
-use words::get2;
-use words::get8;
+use marks::load_role_link;
+use marks::load_state;
+use records::load_node;
+use rowset::RowSet;
+use rowset::SET_BYTES;
 use words::put2;
-use words::put8;
 
-// The bytes of a node's record, of an edge's, of an element and of a link.
-const NODE: usize = 64;
-
-const EDGE: usize = 16;
-
-const ELEMENT: usize = 8;
-
-const LINK: usize = 6;
+// The bytes of a link. An element is a set.
+pub const LINK_BYTES: usize = 6;
 
 // The set of element d: that of the state for which it stands.
-fn set_of(nodes: &[u8], d: usize) -> u64
-    requires { ⌜ Fits 64 (now nodes) d × Fits 64 (now nodes) (stateIn (now nodes) d) ⌝ }
-    ensures { λ r. ⌜ r ≡ Writing.setIn (now (nodes .entry)) d ⌝ }
+fn set_of(nodes: &[u8], d: usize) -> RowSet
+    requires { ⌜ Fits nodeSize (now nodes) d × Fits nodeSize (now nodes) (stateIn (now nodes) d) ⌝ }
+    ensures { λ r. ⌜ valueOf r ≡ Writing.setIn (now (nodes .entry)) d ⌝ }
 {
-    let y = get2(nodes, NODE * d + 18) as usize;
-    get8(nodes, NODE * y)
+    let y = load_state(nodes, d) as usize;
+    let state = load_node(nodes, y);
+    state.rows
 }
 
 // Writes the elements: "8 bytes: the row set, row k as bit k, low byte first".
@@ -40,21 +39,21 @@ fn write_elements(nodes: &[u8], count: usize, elements: &mut [u8])
 {
     let mut d = 0;
     while d < count {
-        put8(elements, ELEMENT * d, set_of(nodes, d));
+        rowset::put(elements, SET_BYTES * d, set_of(nodes, d));
         d += 1;
     }
 }
 
 // Writes link k: "6 bytes: from, role code, to, 2 bytes each, low byte first".
 fn write_link(edges: &[u8], k: usize, links: &mut [u8])
-    requires { ⌜ Fits 16 (now edges) k × (6 * k + 6 ≤ length (now links)) ⌝ }
-    ensures { λ _. ⌜ now (links .exit) ≡ putFields (now (links .entry)) (6 * k) (Writing.linkFields (roleLinkIn (now (edges .entry)) k)) ⌝ }
+    requires { ⌜ Fits edgeSize (now edges) k × (linkSize * k + linkSize ≤ length (now links)) ⌝ }
+    ensures { λ _. ⌜ now (links .exit) ≡ putFields (now (links .entry)) (linkSize * k) (Writing.linkFields (roleLinkIn (now (edges .entry)) k)) ⌝ }
 {
-    let held = EDGE * k;
-    let at = LINK * k;
-    put2(links, at, get2(edges, held + 4));
-    put2(links, at + 2, get2(edges, held + 6));
-    put2(links, at + 4, get2(edges, held + 8));
+    let l = load_role_link(edges, k);
+    let at = LINK_BYTES * k;
+    put2(links, at, l.from);
+    put2(links, at + 2, l.role);
+    put2(links, at + 4, l.to);
 }
 
 // Writes the links.

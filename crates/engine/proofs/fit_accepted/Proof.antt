@@ -1,88 +1,50 @@
--- An accepted file: decided, and the work areas cleared. Assumes nothing.
-use Rattle.rulefile.specs.PartLaws.{laid-placed}
-use Rattle.engine.specs.PartLaws.{file-asks}
-use Rattle.engine.specs.AnswerWays.{file-answered}
+-- `engine::fit_accepted` meets its contract: the file is decoded and decided, and the work areas are cleared.
+-- Assumes nothing.
 use borrow.Author.Needs.{needs}
+use Rattle.run.specs.Run.{areasOf}
+use Rattle.engine.specs.AnswerCases.{Settled, file-settled, file-answered}
 use Rattle.engine.proofs.fit_accepted.Statement.{statement}
 use Rattle.engine.proofs.fit_accepted.Tie as tie
 
--- src/lib.rt:147:9
-rows-of-requires : tie.Need-rows-of-requires
-rows-of-requires c κs = search (laid-placed, needs)
+-- ---- the places, seen from a later one
 
--- src/lib.rt:148:9
-rules-of-requires : tie.Need-rules-of-requires
-rules-of-requires c κs = search (laid-placed, needs)
+abbrev the-words : tie.After-decide → tie.After-decode-file
+the-words c = c .before .before .before .before .before .before .before .before
 
--- src/lib.rt:149:9
-wanted-of-requires : tie.Need-wanted-of-requires
-wanted-of-requires c κs = search (laid-placed, needs)
+abbrev begun : tie.After-decode-file → tie.Start
+begun c = c .before .before .before .before .before .before .before .before
 
--- src/lib.rt:150:9
-decide-requires : tie.Need-decide-requires
-decide-requires c κs =
-    let a = c .before .before .before .before .before .before .before .before .before .before .before .before .before .before .args in file-asks (a .file .now) (a .layout) (c .before .before .before .before .before .before .before .before .before .before .before .before .before .before .pre) _ _ _ (c .before .before .before .before .before .before .before .rows-of .ensures) (c .before .before .before .before .before .before .rules-of .ensures) (c .before .before .before .before .before .wanted-of .ensures)
+abbrev the-decision : tie.After-clear → tie.After-decide
+the-decision c = c .before .before .before .before .before .before .before .before .before .before .before .before
 
--- src/lib.rt:151:5
-clear-requires : tie.Need-clear-requires
-clear-requires c κs = search needs
+abbrev the-nodes : tie.After-clear2 → tie.After-clear
+the-nodes c = c .before .before .before .before
 
--- src/lib.rt:152:5
-clear-requires-2 : tie.Need-clear-requires-2
-clear-requires-2 c κs = search needs
+abbrev the-edges : tie.After-clear3 → tie.After-clear2
+the-edges c = c .before .before .before .before
 
--- src/lib.rt:153:5
-clear-requires-3 : tie.Need-clear-requires-3
-clear-requires-3 c κs = search needs
+-- it was decided
+settled : (c : tie.After-decide) → let s = begun (the-words c) in
+    Settled (s .pre) (the-words c .decode-file .ensures) (areasOf (s .args .nodes .now) (s .args .edges .now) (s .args .alternatives .now) (s .args .elements .now) (s .args .links .now))
+    (c .decide .result) (c .decide .last .1 .1 .1 .1 .0) (c .decide .last .1 .1 .1 .1 .1 .0)
+settled c = file-settled _ _ _ (c .decide .ensures)
 
--- src/lib.rt:154:5
-answer-of-requires : tie.Need-answer-of-requires
-answer-of-requires c κs = search needs
-
--- src/lib.rt:135:1
-same-length : tie.Need-same-length
-same-length c = search needs
-
--- src/lib.rt:135:1
-same-length-2 : tie.Need-same-length-2
-same-length-2 c = search needs
-
--- src/lib.rt:135:1
-same-length-3 : tie.Need-same-length-3
-same-length-3 c = search needs
-
--- src/lib.rt:135:1
-same-length-4 : tie.Need-same-length-4
-same-length-4 c = search needs
-
--- src/lib.rt:135:1
-same-length-5 : tie.Need-same-length-5
-same-length-5 c = search needs
-
--- src/lib.rt:135:1
-returns : tie.Need-returns
-returns c =
-    let a = c .before .before .before .before .before .before .before .before .before .before .before .before .before .before .before .before .before .before .before .before .before .before .before .before .before .before .before .before .before .before .before .before .before .before .before .before .before .before .args in
-    file-answered (a .file .now) (a .layout) (c .before .before .before .before .before .before .before .before .before .before .before .before .before .before .before .before .before .before .before .before .before .before .before .before .before .before .before .before .before .before .before .before .before .before .before .before .before .before .pre) (a .nodes .now) (a .edges .now) (a .alternatives .now) (a .elements .now) (a .links .now) _ _ _ (c .before .before .before .before .before .before .before .before .before .before .before .before .before .before .before .before .before .before .before .before .before .before .before .before .before .before .before .before .before .before .before .rows-of .ensures) (c .before .before .before .before .before .before .before .before .before .before .before .before .before .before .before .before .before .before .before .before .before .before .before .before .before .before .before .before .before .before .rules-of .ensures) (c .before .before .before .before .before .before .before .before .before .before .before .before .before .before .before .before .before .before .before .before .before .before .before .before .before .before .before .before .before .wanted-of .ensures)
-    (c .before .before .before .before .before .before .before .before .before .before .before .before .before .before .before .before .before .before .before .before .before .before .before .decide .result) (c .before .before .before .before .before .before .before .before .before .before .before .before .before .before .before .before .before .before .before .before .before .before .before .decide .last .1 .1 .1 .1 .1 .1 .0) (c .before .before .before .before .before .before .before .before .before .before .before .before .before .before .before .before .before .before .before .before .before .before .before .decide .last .1 .1 .1 .1 .1 .1 .1 .0) (c .before .before .before .before .before .before .before .before .before .before .before .before .before .before .before .before .before .before .before .before .before .before .before .decide .ensures) _ (c .answer-of .ensures)
-    (c .before .before .before .before .before .before .before .before .before .before .before .before .before .before .before .before .before .before .before .before .before .before .before .decide .last .1 .1 .1 .0) (c .before .before .before .before .before .before .before .before .before .before .before .before .before .before .before .before .before .before .before .before .before .before .before .decide .last .1 .1 .1 .1 .0) (c .before .before .before .before .before .before .before .before .before .before .before .before .before .before .before .before .before .before .before .before .before .before .before .decide .last .1 .1 .1 .1 .1 .0) (c .before .before .before .before .before .before .before .before .before .before .before .clear .last .0) (c .before .before .before .before .before .before .before .clear2 .last .0) (c .before .before .before .clear3 .last .0)
-    (c .before .before .before .before .before .before .before .before .before .before .before .before .before .before .before .before .before .before .before .before .before .before .before .decide .kept .1 .1 .1 .0) (c .before .before .before .before .before .before .before .before .before .before .before .before .before .before .before .before .before .before .before .before .before .before .before .decide .kept .1 .1 .1 .1 .0) (c .before .before .before .before .before .before .before .before .before .before .before .before .before .before .before .before .before .before .before .before .before .before .before .decide .kept .1 .1 .1 .1 .1 .0) (c .before .before .before .before .before .before .before .before .before .before .before .clear .ensures) (c .before .before .before .before .before .before .before .clear2 .ensures) (c .before .before .before .clear3 .ensures)
+-- ---- the needs, in the code's order
 
 pub fit-accepted-spec : {M : Type 1} → statement M
 fit-accepted-spec =
-    tie.close
-    (tie.spec
-    rows-of-requires
-    rules-of-requires
-    wanted-of-requires
-    decide-requires
-    clear-requires
-    clear-requires-2
-    clear-requires-3
-    answer-of-requires
-    same-length
-    same-length-2
-    same-length-3
-    same-length-4
-    same-length-5
-    returns)
+    tie.close (tie.spec
+    -- decode_file(file, layout, &mut words)
+    (λ c. search needs)
+    (λ c κs. search needs)
+    -- decide(&words, ..)
+    (λ c. search needs)
+    (λ c κs. let d : tie.After-decode-file = search in d .decode-file .ensures .decoded)
+    -- clear(nodes), clear(edges), clear(alternatives), answer_of(d)
+    (λ c κs. search needs) (λ c κs. search needs) (λ c κs. search needs)
+    (λ c κs. let d : tie.After-decide = search in d .decide .ensures .small)
+    -- the end
+    (λ c. search needs) (λ c. search needs) (λ c. search needs) (λ c. search needs) (λ c. search needs)
+    (λ c. let a : tie.After-clear3 = search in let e = the-edges a in let n = the-nodes e in let d = the-decision n in
+    file-answered (settled d) (c .answer-of .ensures) (n .clear .ensures) (d .decide .kept .1 .0) (e .clear2 .ensures) (d .decide .kept .1 .1 .0)
+    (a .clear3 .ensures) (d .decide .kept .1 .1 .1 .0)))

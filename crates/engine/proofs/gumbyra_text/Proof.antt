@@ -1,5 +1,5 @@
 -- The text's length: the text is a leading part of the file. Assumes nothing.
-use mathlib.Core.Path.{ap, _∙_}
+use mathlib.Core.Path.{ap}
 use lib.ListN.{length}
 use borrow.Author.Needs.{needs}
 use Rattle.decoding.specs.Decoding.{ruleKinds}

@@ -1,10 +1,9 @@
 -- `marks::clear_numbers` meets its contract: the invariant is that the states below `y` have no number.
 -- Assumes nothing.
-use mathlib.Core.Path.{_≡_, subst}
-use Prim.Native.Nat.{ℕ, _-_, _≤_}
+use Prim.Native.Nat.{_-_, _≤_}
 use native.Mathlib.Omega.{arith}
-use Rattle.marks.specs.Changes.{NumbersCleared}
-use Rattle.marks.specs.MarkLaws.{cleared-none, cleared-more}
+use Rattle.marks.specs.Marked.{NumbersCleared}
+use Rattle.marks.specs.MarkLaws.{cleared-none, cleared-fits, cleared-more, cleared-all}
 use Rattle.marks.proofs.clear_numbers.Statement.{statement}
 use Rattle.marks.proofs.clear_numbers.Tie as tie
 
@@ -14,42 +13,19 @@ Inv-loop nodes₀ count y₀ nodes y = (y ≤ count) × NumbersCleared nodes₀ 
 abbrev μ-loop : tie.MeasureT-loop
 μ-loop nodes₀ count y₀ nodes y = count - y
 
-loop-holds : tie.Need-loop-holds Inv-loop μ-loop
-loop-holds c = (omega arith, cleared-none _)
-
-store-number-requires : tie.Need-store-number-requires Inv-loop μ-loop
-store-number-requires c κs =
-    (omega (arith, c .before .before .before .before .pre, c .before .before .loop .inv .1 .size), omega (arith, c .before .before .before .before .pre, c .before .before .loop .inv .1 .size))
-
-add-y : tie.Need-add-y Inv-loop μ-loop
-add-y c = omega arith
-
-loop-less : tie.Need-loop-less Inv-loop μ-loop
-loop-less c = omega arith
-
-loop-again : tie.Need-loop-again Inv-loop μ-loop
-loop-again c =
-    (omega (arith, c .before .before .before .before .loop-test .taken), cleared-more _ (c .before .before .before .before .before .loop .nodes) _ (c .before .before .before .before .before .loop .y) (c .before .before .before .before .before .loop .inv .1) (c .before .before .store-number .ensures))
-
-same-length : tie.Need-same-length Inv-loop μ-loop
-same-length c = c .before .loop .inv .1 .size
-
-returns : tie.Need-returns Inv-loop μ-loop
-returns c =
-    let l = c .before .loop in
-    let e : l .y ≡ c .before .before .before .args .c .nodes = omega (arith, c .loop-test .left, l .inv .0) in
-    subst (λ (k : ℕ). NumbersCleared (c .before .before .before .args .nodes .now) (l .nodes) k) e (l .inv .1)
+abbrev At : (tie.InvT-loop → tie.MeasureT-loop → Type 0) → Type 0
+At P = P Inv-loop μ-loop
 
 pub clear-numbers-spec : {M : Type 1} → statement M
 clear-numbers-spec =
-    tie.close
-    (tie.spec
-    Inv-loop
-    μ-loop
-    loop-holds
-    store-number-requires
-    add-y
-    loop-less
-    loop-again
-    same-length
-    returns)
+    tie.close (tie.spec Inv-loop μ-loop
+    -- while y < count
+    (λ c. (omega arith, cleared-none))
+    -- store_number(nodes, y, 0)
+    (λ c κs. let s : At tie.Start = search in let l : At tie.At-loop = search in cleared-fits (l .loop .inv .1) (s .pre) (omega arith))
+    -- y += 1, the loop again
+    (λ c. omega arith) (λ c. omega arith)
+    (λ c. let l : At tie.At-loop = search in let w : At tie.After-store-number = search in (omega arith, cleared-more (l .loop .inv .1) (w .store-number .ensures)))
+    -- the end
+    (λ c. c .before .loop .inv .1 .size)
+    (λ c. let l = c .before .loop in cleared-all (l .inv .1) (l .inv .0) (omega arith)))

@@ -5,18 +5,14 @@ use Rattle.marks.specs.Marks.{stateIn}
 use Rattle.marks.proofs.load_state.Statement.{statement}
 use Rattle.marks.proofs.load_state.Tie as tie
 
-mul-get2 : tie.Need-mul-get2
-mul-get2 c = search needs
-
-add-get2 : tie.Need-add-get2
-add-get2 c = search needs
-
-get2-requires : tie.Need-get2-requires
-get2-requires c κs = search needs
-
 returns : tie.Need-returns
 unfolding stateIn
 returns c = c .get2 .ensures
 
 pub load-state-spec : {M : Type 1} → statement M
-load-state-spec = tie.close (tie.spec mul-get2 add-get2 get2-requires returns)
+load-state-spec =
+    tie.close
+    (tie.spec
+    -- get2(nodes, NODE_BYTES * d + STATE)
+    (λ c. search needs) (λ c. search needs) (λ c κs. search needs)
+    returns)

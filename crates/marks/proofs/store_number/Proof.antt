@@ -5,22 +5,11 @@ use Rattle.marks.specs.MarkLaws.{number-stored}
 use Rattle.marks.proofs.store_number.Statement.{statement}
 use Rattle.marks.proofs.store_number.Tie as tie
 
-mul-put2 : tie.Need-mul-put2
-mul-put2 c = search needs
-
-add-put2 : tie.Need-add-put2
-add-put2 c = search needs
-
-put2-requires : tie.Need-put2-requires
-put2-requires c κs = search needs
-
-same-length : tie.Need-same-length
-same-length c = search needs
-
-returns : tie.Need-returns
-returns c =
-    let s = c .before .before .before .before .before in
-    number-stored (s .args .nodes .now) (c .before .before .put2 .last .0) (s .args .y) (s .args .v) (s .pre) (search needs) (c .before .before .put2 .ensures)
-
 pub store-number-spec : {M : Type 1} → statement M
-store-number-spec = tie.close (tie.spec mul-put2 add-put2 put2-requires same-length returns)
+store-number-spec =
+    tie.close (tie.spec
+    -- put2(nodes, NODE_BYTES * y + NUMBER, v)
+    (λ c. search needs) (λ c. search needs) (λ c κs. search needs)
+    -- the end
+    (λ c. search needs)
+    (λ c. let s : tie.Start = search in let w : tie.After-put2 = search in number-stored (s .pre) (search needs) (w .put2 .ensures)))

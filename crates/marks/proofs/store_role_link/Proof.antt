@@ -5,46 +5,15 @@ use Rattle.marks.specs.MarkLaws.{link-stored}
 use Rattle.marks.proofs.store_role_link.Statement.{statement}
 use Rattle.marks.proofs.store_role_link.Tie as tie
 
-mul-at : tie.Need-mul-at
-mul-at c = search needs
-
-add-put2 : tie.Need-add-put2
-add-put2 c = search needs
-
-put2-requires : tie.Need-put2-requires
-put2-requires c κs = search needs
-
-add-put2-2 : tie.Need-add-put2-2
-add-put2-2 c = search needs
-
-put2-requires-2 : tie.Need-put2-requires-2
-put2-requires-2 c κs = search needs
-
-add-put2-3 : tie.Need-add-put2-3
-add-put2-3 c = search needs
-
-put2-requires-3 : tie.Need-put2-requires-3
-put2-requires-3 c κs = search needs
-
-same-length : tie.Need-same-length
-same-length c = search needs
-
-returns : tie.Need-returns
-returns c =
-    let s = c .before .before .before .before .before .before .before .before .before .before .before .before .before in
-    let a = s .args in
-    link-stored (a .edges .now) (c .before .before .put23 .last .0) (a .k) (a .from) (a .role) (a .to) (s .pre) (search needs, search needs, search needs) (cc)
-
 pub store-role-link-spec : {M : Type 1} → statement M
 store-role-link-spec =
-    tie.close
-    (tie.spec
-    mul-at
-    add-put2
-    put2-requires
-    add-put2-2
-    put2-requires-2
-    add-put2-3
-    put2-requires-3
-    same-length
-    returns)
+    tie.close (tie.spec
+    -- EDGE_BYTES * k
+    (λ c. search needs)
+    -- put2(edges, at + FROM, l.from), put2(edges, at + ROLE, l.role), put2(edges, at + TO, l.to)
+    (λ c. search needs) (λ c κs. search needs)
+    (λ c. search needs) (λ c κs. search needs)
+    (λ c. search needs) (λ c κs. search needs)
+    -- the end
+    (λ c. search needs)
+    (λ c. let s : tie.Start = search in link-stored (s .pre) (search needs, search needs, search needs) (cc)))

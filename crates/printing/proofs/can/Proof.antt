@@ -32,7 +32,8 @@ returns c =
     let at-line-of-two = at-used-line .before .before .before .before in
     let start = at-line-of-two .before .before .before .before .before .before in
     let a = start .args in
-    wrote-can (numbersOf (a .answer)) (a .elements .now) (a .links .now) (at-line-of-two .line-of-two .ensures) (at-used-line .used-line .ensures) (at-element-lines .element-lines .ensures) (at-link-lines .link-lines .ensures)
+    wrote-can (numbersOf (a .answer)) (a .elements .now) (a .links .now) (at-line-of-two .line-of-two .ensures) (at-used-line .used-line .ensures) (at-element-lines .element-lines .ensures)
+    (at-link-lines .link-lines .ensures)
 
 pub can-spec : {M : Type 1} → statement M
 can-spec =

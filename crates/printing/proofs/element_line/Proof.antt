@@ -40,7 +40,8 @@ returns c =
     let at-word-of = at-put .before .before in
     let start = at-word-of .before .before .before in
     let a = start .args in
-    wrote-element (a .d) (elementAt (a .elements .now) (a .d)) (at-word-of .word-of .ensures) (at-put .put .ensures) (at-number .number .ensures) (at-put2 .put2 .ensures) (at-hexadecimal .hexadecimal .ensures) (at-put3 .put3 .ensures)
+    wrote-element (a .d) (elementAt (a .elements .now) (a .d)) (at-word-of .word-of .ensures) (at-put .put .ensures) (at-number .number .ensures) (at-put2 .put2 .ensures)
+    (at-hexadecimal .hexadecimal .ensures) (at-put3 .put3 .ensures)
 
 pub element-line-spec : {M : Type 1} → statement M
 element-line-spec =

@@ -37,7 +37,8 @@ loop-again c =
     let at-loop = at-loop-test .before in
     let start = at-loop .before .before .before in
     let a = start .args in
-    pieces-more (elementLines (a .elements .now)) 30 (a .count) (at-loop .loop .inv) (at-loop-test .loop-test .taken) (elementLines-more (a .elements .now) (at-loop .loop .d)) (at-element-line .element-line .ensures)
+    pieces-more (elementLines (a .elements .now)) 30 (a .count) (at-loop .loop .inv) (at-loop-test .loop-test .taken) (elementLines-more (a .elements .now) (at-loop .loop .d))
+    (at-element-line .element-line .ensures)
 
 same-length : tie.Need-same-length Inv-loop μ-loop
 same-length c = wrote-size (c .before .loop .inv .wrote)

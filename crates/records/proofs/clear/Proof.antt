@@ -17,30 +17,21 @@ Inv-loop area₀ i₀ area i = (i ≤ length area) × (length area ≡ length ar
 abbrev μ-loop : tie.MeasureT-loop
 μ-loop area₀ i₀ area i = length area - i
 
-loop-holds : tie.Need-loop-holds Inv-loop μ-loop
-loop-holds c = (omega arith, refl, fill-none _ 0)
+abbrev At : (tie.InvT-loop → tie.MeasureT-loop → Type 0) → Type 0
+At P = P Inv-loop μ-loop
 
-slice-write-area : tie.Need-slice-write-area Inv-loop μ-loop
-slice-write-area c = omega arith
-
-add-i : tie.Need-add-i Inv-loop μ-loop
-add-i c = omega arith
-
-loop-less : tie.Need-loop-less Inv-loop μ-loop
-loop-less c = simp length-set (omega arith)
-
-loop-again : tie.Need-loop-again Inv-loop μ-loop
+loop-again : At tie.Need-loop-again
 loop-again c =
+    let s : At tie.Start = search in
     let l = c .before .loop in
-    (simp length-set (omega arith), simp length-set (l .inv .1), ap (λ (b : List ℕ). set b (l .i) 0) (l .inv .2) ∙ fill-more (l .i) 0 (c .before .before .args .area .now) (omega (arith, c .loop-test .taken, l .inv .1)))
+    let more = fill-more (l .i) 0 (s .args .area .now) (omega (arith, c .loop-test .taken, l .inv .1)) in
+    (simp length-set (omega arith), simp length-set (l .inv .1), ap (λ (b : List ℕ). set b (l .i) 0) (l .inv .2) ∙ more)
 
-same-length : tie.Need-same-length Inv-loop μ-loop
-same-length c = search needs
-
-returns : tie.Need-returns Inv-loop μ-loop
+returns : At tie.Need-returns
 returns c =
+    let s : At tie.Start = search in
     let l = c .before .loop in
-    let b : List ℕ = c .before .before .args .area .now in
+    let b : List ℕ = s .args .area .now in
     let e : l .i ≡ length b = omega (arith, c .loop-test .left, l .inv .0, l .inv .1) in
     l .inv .2 ∙ ap (λ (k : ℕ). replicate k 0 ++ drop k b) e ∙ ap (λ (r : List ℕ). replicate (length b) 0 ++ r) (drop-length b) ∙ append-nil (replicate (length b) 0)
 
@@ -50,10 +41,11 @@ clear-spec =
     (tie.spec
     Inv-loop
     μ-loop
-    loop-holds
-    slice-write-area
-    add-i
-    loop-less
+    (λ c. (omega arith, refl, fill-none _ 0))
+    -- area[i] = 0
+    (λ c. omega arith)
+    -- i += 1
+    (λ c. omega arith) (λ c. simp length-set (omega arith))
     loop-again
-    same-length
+    (λ c. search needs)
     returns)

@@ -5,19 +5,9 @@ use Prim.Native.Nat.{ℕ}
 use borrow.Author.Needs.{needs}
 use Rattle.procedure.specs.Status.{isUnset}
 use Rattle.records.specs.Codes.{statusIn, unset-code}
-use Rattle.records.specs.Records.{nodeIn}
-use Rattle.records.specs.Graphs.{isUnsetAt}
+use Rattle.records.specs.Records.{nodeIn, isUnsetAt}
 use Rattle.records.proofs.is_unset.Statement.{statement}
 use Rattle.records.proofs.is_unset.Tie as tie
-
-mul-get1 : tie.Need-mul-get1
-mul-get1 c = search needs
-
-add-get1 : tie.Need-add-get1
-add-get1 c = search needs
-
-get1-requires : tie.Need-get1-requires
-get1-requires c κs = search needs
 
 returns : tie.Need-returns
 unfolding isUnsetAt nodeIn
@@ -25,4 +15,9 @@ returns c =
     unset-code (c .get1 .result) ∙ ap (λ (k : ℕ). isUnset (statusIn k)) (c .get1 .ensures)
 
 pub is-unset-spec : {M : Type 1} → statement M
-is-unset-spec = tie.close (tie.spec mul-get1 add-get1 get1-requires returns)
+is-unset-spec =
+    tie.close
+    (tie.spec
+    -- get1(nodes, NODE_BYTES * x + 8)
+    (λ c. search needs) (λ c. search needs) (λ c κs. search needs)
+    returns)

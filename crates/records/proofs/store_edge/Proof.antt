@@ -1,38 +1,29 @@
 -- `records::store_edge` meets its contract: the numbers that it writes are the fields of the edge.
 -- Assumes nothing.
-use mathlib.Core.Path.{_≡_}
-use Prim.Native.Nat.{_+_, _*_}
 use native.Mathlib.Omega.{arith}
 use borrow.Author.Needs.{needs}
 use Rattle.words.specs.Fields.{Apart}
+use Rattle.words.specs.Sizes.{edgeSize}
 use Rattle.records.specs.Records.{edgeFields}
 use Rattle.records.specs.RecordLaws.{edge-stored}
 use Rattle.records.proofs.store_edge.Statement.{statement}
 use Rattle.records.proofs.store_edge.Tie as tie
 
-mul-at : tie.Need-mul-at
-mul-at c = search needs
-
-put2-requires : tie.Need-put2-requires
-put2-requires c κs = search needs
-
-add-put2 : tie.Need-add-put2
-add-put2 c = search needs
-
-put2-requires-2 : tie.Need-put2-requires-2
-put2-requires-2 c κs = search needs
-
-same-length : tie.Need-same-length
-same-length c = search needs
-
 returns : tie.Need-returns
 returns c =
-    let s = c .before .before .before .before .before .before .before .before .before in
+    let s : tie.Start = search in
     let d = s .args .d in
-    let z : 16 * s .args .i + 0 ≡ 16 * s .args .i = omega arith in
-    let apart : Apart 0 16 (edgeFields d) = (omega arith, search needs, (omega arith, search needs, omega arith)) in
-    edge-stored (s .args .edges .now) (c .before .before .put22 .last .0) (s .args .i) d (s .pre) apart (cc)
+    let apart : Apart 0 edgeSize (edgeFields d) = (omega arith, search needs, (omega arith, search needs, omega arith)) in
+    edge-stored _ _ (s .args .i) d (s .pre) apart (cc)
 
 pub store-edge-spec : {M : Type 1} → statement M
 store-edge-spec =
-    tie.close (tie.spec mul-at put2-requires add-put2 put2-requires-2 same-length returns)
+    tie.close
+    (tie.spec
+    -- EDGE_BYTES * i
+    (λ c. search needs)
+    -- put2(edges, at + FROM, d.from), put2(edges, at + TO, d.to)
+    (λ c. search needs) (λ c κs. search needs)
+    (λ c. search needs) (λ c κs. search needs)
+    (λ c. search needs)
+    returns)

@@ -1,67 +1,38 @@
--- The run: the root, then the rounds. Assumes nothing.
-use Rattle.rounds.specs.RunWays.{root-short, rounds-asks, rounds-give}
+-- `rounds::run` meets its contract: the root, then the rounds.
+-- Assumes nothing.
 use borrow.Author.Needs.{needs}
+use Rattle.rounds.specs.RunCases.{root-short, rounds-asks, rounds-give}
 use Rattle.rounds.proofs.run.Statement.{statement}
 use Rattle.rounds.proofs.run.Tie as tie
 
--- src/lib.rt:82:11
-add-node-requires : tie.Need-add-node-requires
-add-node-requires c κs = search needs
+-- the root was made, and before it its set, seen from what the rounds returned
+abbrev the-counts : tie.After-rounds → tie.After-c
+the-counts c = c .before .before .before .before .before
 
--- src/lib.rt:83:20
-enum-known-area : tie.Need-enum-known-area
-enum-known-area c = search needs
+abbrev the-node : tie.After-c → tie.After-add-node
+the-node c = c .before .before .before .before
 
--- src/lib.rt:84:20
-enum-known-c : tie.Need-enum-known-c
-enum-known-c c = search needs
+abbrev the-set : tie.After-add-node → tie.After-empty
+the-set c = c .before .before
 
--- src/lib.rt:84:26
-rounds-requires : tie.Need-rounds-requires
-rounds-requires c κs =
-    let a = c .before .before .before .before .before .before .before .before .before .before .before .before .before .before .before .before .args in
-    rounds-asks (a .rows .now) (a .tbox .now) (a .wanted .now) (a .nodes .now) (a .edges .now) (a .alternatives .now) (c .before .before .before .before .before .before .before .before .before .before .before .before .before .before .before .before .pre) (c .before .before .before .before .before .before .before .before .add-node .last .0) (c .before .before .before .before .before .before .before .before .add-node .result) (c .before .before .before .before .before .before .before .before .add-node .ensures) (c .before .before .before .before .c .given .0 .0) (c .before .before .before .before .c .given .1) (c .before .before .before .before .before .before .before .before .add-node .kept .0)
-
--- src/lib.rt:58:1
-same-length : tie.Need-same-length
-same-length c = search needs
-
--- src/lib.rt:58:1
-returns : tie.Need-returns
-returns c =
-    let a = c .before .before .before .before .before .before .before .before .before .before .before .before .before .args in
-    root-short (a .rows .now) (a .tbox .now) (a .wanted .now) (a .nodes .now) (a .edges .now) (a .alternatives .now) (c .before .before .before .before .before .before .before .before .before .before .before .before .before .pre) (c .before .before .before .before .before .add-node .last .0) (c .before .before .before .before .before .add-node .result) (c .before .before .before .before .before .add-node .ensures) (c .before .area .given .0 .0) (c .before .area .given .1)
-
--- src/lib.rt:58:1
-same-length-2 : tie.Need-same-length-2
-same-length-2 c = search needs
-
--- src/lib.rt:58:1
-same-length-3 : tie.Need-same-length-3
-same-length-3 c = search needs
-
--- src/lib.rt:58:1
-same-length-4 : tie.Need-same-length-4
-same-length-4 c = search needs
-
--- src/lib.rt:58:1
-returns-2 : tie.Need-returns-2
-returns-2 c =
-    let a = c .before .before .before .before .before .before .before .before .before .before .before .before .before .before .before .before .before .before .before .before .before .before .before .args in
-    rounds-give (a .rows .now) (a .tbox .now) (a .wanted .now) (a .nodes .now) (a .edges .now) (a .alternatives .now) (c .before .before .before .before .before .before .before .before .before .before .before .before .before .before .before .before .before .before .before .before .before .before .before .pre) (c .before .before .before .before .before .before .before .before .before .before .before .before .before .before .before .add-node .last .0) (c .before .before .before .before .before .before .before .before .before .before .before .before .before .before .before .add-node .result) (c .before .before .before .before .before .before .before .before .before .before .before .before .before .before .before .add-node .ensures) (c .before .before .before .before .before .before .before .before .before .before .before .c .given .0 .0) (c .before .before .before .before .before .before .before .before .before .before .before .c .given .1) (c .before .before .before .before .before .before .before .before .before .before .before .before .before .before .before .add-node .kept .0)
-    (c .before .before .before .before .before .before .rounds .last .1 .1 .1 .0) (c .before .before .before .before .before .before .rounds .last .1 .1 .1 .1 .0) (c .before .before .before .before .before .before .rounds .last .1 .1 .1 .1 .1 .0) (c .before .before .before .before .before .before .rounds .result) (c .before .before .before .before .before .before .rounds .ensures)
+abbrev begun : tie.After-add-node → tie.Start
+begun c = the-set c .before .before .before .before .before
 
 pub run-spec : {M : Type 1} → statement M
 run-spec =
-    tie.close
-    (tie.spec
-    add-node-requires
-    enum-known-area
-    enum-known-c
-    rounds-requires
-    same-length
-    returns
-    same-length-2
-    same-length-3
-    same-length-4
-    returns-2)
+    tie.close (tie.spec
+    -- empty(), add_node(nodes, none, root)
+    (λ c κs. search needs)
+    (λ c κs. search needs)
+    -- rounds(problem, .., c)
+    (λ c. search needs) (λ c. search needs)
+    (λ c κs. let s : tie.Start = search in let b : tie.After-empty = search in let n : tie.After-add-node = search in let d : tie.After-c = search in
+    rounds-asks (s .pre) (s .args .edges .now) (s .args .alternatives .now) (b .empty .ensures) (n .add-node .ensures) (d .c .given .1))
+    -- the end: Full(area)
+    (λ c. search needs)
+    (λ c. let s : tie.Start = search in let b : tie.After-empty = search in let n : tie.After-add-node = search in let f : tie.After-area = search in
+    root-short (s .pre) (s .args .edges .now) (s .args .alternatives .now) (b .empty .ensures) (n .add-node .ensures) (f .area .given .1))
+    -- the end: what rounds returned
+    (λ c. search needs) (λ c. search needs) (λ c. search needs)
+    (λ c. let r : tie.After-rounds = search in let d = the-counts r in let n = the-node d in let s = begun n in
+    rounds-give (s .pre) (s .args .edges .now) (s .args .alternatives .now) (the-set n .empty .ensures) (n .add-node .ensures) (d .c .given .1) (r .rounds .ensures)))

@@ -1,8 +1,6 @@
 -- `rulefile::bad_argument` meets its contract: the rows that row k names are the arguments of its concept.
 -- Assumes nothing.
 use mathlib.Core.Path.{sym, ap, _∙_}
-use mathlib.Core.List.{List}
-use Prim.Native.Nat.{ℕ}
 use lib.Dec.{leb}
 use borrow.Author.Needs.{needs}
 use Rattle.concepts.specs.Lists.{any}

@@ -4,7 +4,6 @@ use mathlib.Core.Path.{sym, ap, _∙_}
 use Prim.Native.Nat.{_≤_, _-_}
 use native.Mathlib.Omega.{arith}
 use borrow.Author.Count.{below-none, below-more}
-use borrow.Author.Needs.{needs}
 use Rattle.rulefile.specs.declared.Outcome.the-variants.{Refused, Accepted}
 use Rattle.rulefile.specs.Checks.{Passed}
 use Rattle.rulefile.specs.CheckLaws.{reading-refused, reading-accepted, parted}

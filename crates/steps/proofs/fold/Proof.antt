@@ -7,62 +7,62 @@ use borrow.Author.Needs.{needs}
 use Rattle.procedure.specs.Status as Procedure
 use Rattle.procedure.specs.Graph as Graph
 use Rattle.records.specs.Codes.{statusOf}
-use Rattle.steps.specs.Tables.{tableOf}
-use Rattle.steps.specs.TableLaws.{Folds, folds-start, next-at, next-end, folds-node, folds-more, folds-end}
+use Rattle.graph.specs.GraphLaws.{held-node}
+use Rattle.steps.specs.Tables.{statusTable}
+use Rattle.steps.specs.TableLaws.{Folds, NextEnd, folds-start, next-at, next-end, folds-node, folds-more, folds-end}
 use Rattle.steps.proofs.fold.Statement.{statement}
 use Rattle.steps.proofs.fold.Tie as tie
 
 abbrev Inv-loop : tie.InvT-loop
-Inv-loop nodes edges c x by v₀ i₀ v i = Folds (tableOf by) nodes edges c x (statusOf v₀) i (statusOf v)
+Inv-loop nodes edges c x by v₀ i₀ v i = Folds (statusTable by) nodes edges c x (statusOf v₀) i (statusOf v)
 
 abbrev μ-loop : tie.MeasureT-loop
 μ-loop nodes edges c x by v₀ i₀ v i = c .edges - i
 
-loop-holds : tie.Need-loop-holds Inv-loop μ-loop
-loop-holds c =
-    folds-start (c .before .before .pre) (tableOf (c .before .before .args .by)) (statusOf (c .before .before .args .start))
+abbrev At : (tie.InvT-loop → tie.MeasureT-loop → Type 0) → Type 0
+At P = P Inv-loop μ-loop
 
-next-child-requires : tie.Need-next-child-requires Inv-loop μ-loop
-next-child-requires c κs = c .before .before .before .pre .held .edges
+-- the next child, at the place where it is taken
+next : (k : At tie.After-index) → let a = k .before .before .before .before .before .before .args in
+    NextEnd (a .edges .now) (a .c) (a .x) (k .before .before .before .loop .i) (k .index .given .0 .0) (k .index .given .0 .1 .0)
+next k = let s : At tie.Start = search in let n : At tie.After-next-child = search in next-at (s .pre) _ (n .next-child .ensures) (k .index .given .1)
 
-enum-known-index : tie.Need-enum-known-index Inv-loop μ-loop
-enum-known-index c = search needs
+loop-holds : At tie.Need-loop-holds
+loop-holds c = let s : At tie.Start = search in folds-start (s .pre) _ _
 
-enum-told : tie.Need-enum-told Inv-loop μ-loop
-enum-told c = search needs
+next-child-requires : At tie.Need-next-child-requires
+next-child-requires c κs = let s : At tie.Start = search in s .pre .held .edges
 
-returns : tie.Need-returns Inv-loop μ-loop
+returns : At tie.Need-returns
 returns c =
-    folds-end (c .before .before .before .loop .inv) (next-end (c .before .before .before .before .before .before .pre) (c .before .before .before .loop .i) (c .before .before .next-child .ensures) (c .enum-told .given .1))
+    let s : At tie.Start = search in
+    let l : At tie.At-loop = search in
+    let n : At tie.After-next-child = search in
+    folds-end (l .loop .inv) (next-end (s .pre) _ (n .next-child .ensures) (c .enum-told .given .1))
 
-cast-load-node : tie.Need-cast-load-node Inv-loop μ-loop
-cast-load-node c = search needs
-
-load-node-requires : tie.Need-load-node-requires Inv-loop μ-loop
+load-node-requires : At tie.Need-load-node-requires
 load-node-requires c κs =
-    let (_, _, more) = next-at (c .before .before .before .before .before .before .before .pre) (c .before .before .before .before .loop .i) (c .before .before .before .next-child .ensures) (c .before .index .given .1) in
-    let l = folds-node (c .before .before .before .before .loop .inv) (c .before .index .given .0 .0) (c .before .index .given .0 .1 .0) more in
-    (omega (arith, l, c .before .before .before .before .before .before .before .pre .held .nodes), omega (arith, l, c .before .before .before .before .before .before .before .pre .held .nodes))
+    let s : At tie.Start = search in
+    let l : At tie.At-loop = search in
+    held-node (s .pre .held) (folds-node (l .loop .inv) (next (c .before)))
 
-entry-requires : tie.Need-entry-requires Inv-loop μ-loop
-entry-requires c κs = search needs
-
-add-i : tie.Need-add-i Inv-loop μ-loop
+add-i : At tie.Need-add-i
 add-i c =
-    let (_, l, _) = next-at (c .before .before .before .before .before .before .before .before .before .pre) (c .before .before .before .before .before .before .loop .i) (c .before .before .before .before .before .next-child .ensures) (c .before .before .before .index .given .1) in
-    omega (arith, l, c .before .before .before .before .before .before .before .before .before .pre .held .edges)
+    let s : At tie.Start = search in
+    let k : At tie.After-index = search in
+    omega (arith, next k .below, s .pre .held .edges)
 
-loop-less : tie.Need-loop-less Inv-loop μ-loop
-loop-less c =
-    let (k, l, _) = next-at (c .before .before .before .before .before .before .before .before .before .pre) (c .before .before .before .before .before .before .loop .i) (c .before .before .before .before .before .next-child .ensures) (c .before .before .before .index .given .1) in
-    omega (arith, k, l)
+loop-less : At tie.Need-loop-less
+loop-less c = let k : At tie.After-index = search in omega (arith, next k .from, next k .below)
 
-loop-again : tie.Need-loop-again Inv-loop μ-loop
+loop-again : At tie.Need-loop-again
 loop-again c =
-    let (_, _, more) = next-at (c .before .before .before .before .before .before .before .before .before .pre) (c .before .before .before .before .before .before .loop .i) (c .before .before .before .before .before .next-child .ensures) (c .before .before .before .index .given .1) in
-    let w = c .before .load-node .ensures in
-    folds-more (c .before .before .before .before .before .before .loop .inv) (c .before .before .before .index .given .0 .0) (c .before .before .before .index .given .0 .1 .0) more (statusOf (c .entry .result))
-    (c .entry .ensures ∙ ap (λ (v : Graph.Node). Procedure.entry (tableOf (c .before .before .before .before .before .before .before .before .before .args .by)) (statusOf (c .before .before .before .before .before .before .loop .v)) (v .status)) w)
+    let s : At tie.Start = search in
+    let l : At tie.At-loop = search in
+    let k : At tie.After-index = search in
+    let d : At tie.After-load-node = search in
+    folds-more (l .loop .inv) (next k) (statusOf (c .entry .result))
+    (c .entry .ensures ∙ ap (λ (v : Graph.Node). Procedure.entry (statusTable (s .args .by)) (statusOf (l .loop .v)) (v .status)) (d .load-node .ensures))
 
 pub fold-spec : {M : Type 1} → statement M
 fold-spec =
@@ -71,13 +71,16 @@ fold-spec =
     Inv-loop
     μ-loop
     loop-holds
+    -- next_child(edges, c, x, i)
     next-child-requires
-    enum-known-index
-    enum-told
+    (λ c. search needs) (λ c. search needs)
     returns
-    cast-load-node
+    -- load_node(nodes, node as usize)
+    (λ c. search needs)
     load-node-requires
-    entry-requires
+    -- entry(by, v, status)
+    (λ c κs. search needs)
+    -- index + 1
     add-i
     loop-less
     loop-again)

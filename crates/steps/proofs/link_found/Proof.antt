@@ -1,89 +1,44 @@
 -- `steps::link_found` meets its contract: by what the search found, and by the room for a new state.
 -- Assumes nothing.
-use native.Mathlib.Omega.{arith}
 use borrow.Author.Needs.{needs}
+use Rattle.rowset.specs.Value.{valueOf}
+use native.Mathlib.Omega.{arith}
 use Rattle.procedure.specs.Tableau.{state}
 use Rattle.steps.specs.StepLaws.{node-held, found-there, found-new, found-full}
 use Rattle.steps.proofs.link_found.Statement.{statement}
 use Rattle.steps.proofs.link_found.Tie as tie
 
-find-state-requires : tie.Need-find-state-requires
-find-state-requires c κs = search needs
+-- the node was added, and before that nothing was found, seen from its counts d
+abbrev the-node : tie.After-d → tie.After-add-node
+the-node c = c .before .before .before .before
 
-enum-known-y : tie.Need-enum-known-y
-enum-known-y c = search needs
-
-link-to-requires : tie.Need-link-to-requires
-link-to-requires c κs = search needs
-
-enum-told : tie.Need-enum-told
-enum-told c = search needs
-
-add-node-requires : tie.Need-add-node-requires
-add-node-requires c κs = search needs
-
-enum-known-d : tie.Need-enum-known-d
-enum-known-d c = search needs
-
-cast-link-to : tie.Need-cast-link-to
-cast-link-to c = search needs
-
-link-to-requires-2 : tie.Need-link-to-requires-2
-link-to-requires-2 c κs =
-    let (held, more) = node-held (state (c .before .before .before .before .before .before .before .before .before .before .before .before .before .before .before .before .args .rows)) (c .before .before .before .before .before .before .before .before .add-node .ensures) (c .before .before .before .before .d .given .1) (c .before .before .before .before .before .before .before .before .before .before .before .before .before .before .before .before .pre .1 .1) in
-    (omega (arith, c .before .before .before .before .before .before .before .before .before .before .before .before .before .before .before .before .pre .0, more), held .nodes)
-
-enum-known-area : tie.Need-enum-known-area
-enum-known-area c = search needs
-
-same-length : tie.Need-same-length
-same-length c = search needs
-
-same-length-2 : tie.Need-same-length-2
-same-length-2 c = search needs
-
-returns : tie.Need-returns
-returns c =
-    let s = c .before .before .before .before .before .before .before .before .before .before .before .before .before .before .args in
-    λ t a h. found-there t (s .z) (c .before .before .before .before .before .before .before .before .y .given .0 .0) (s .rows) (c .before .before .before .before .before .before .before .before .before .before .find-state .result) (c .before .before .before .before .before .before .before .before .before .before .find-state .ensures) (c .before .before .before .before .before .before .before .before .y .given .1) (c .before .before .before .before .link-to .ensures t) h
-
-same-length-3 : tie.Need-same-length-3
-same-length-3 c = search needs
-
-same-length-4 : tie.Need-same-length-4
-same-length-4 c = search needs
-
-returns-2 : tie.Need-returns-2
-returns-2 c =
-    let s = c .before .before .before .before .before .before .before .before .before .before .before .before .before .before .before .before .before .before .before .before .before .args in
-    λ t a h. found-new t (s .z) (s .rows) (c .before .before .before .before .before .before .before .before .before .before .before .before .before .before .before .before .before .find-state .ensures) (c .before .before .before .before .before .before .before .before .before .before .before .before .before .before .before .enum-told .given .1) (c .before .before .before .before .before .before .before .before .before .before .before .before .before .add-node .ensures) (c .before .before .before .before .before .before .before .before .before .d .given .1) (c .before .before .before .before .before .before .before .before .before .before .before .before .before .add-node .kept .0) (c .before .before .before .before .link-to2 .ensures t) h
-
-same-length-5 : tie.Need-same-length-5
-same-length-5 c = search needs
-
-returns-3 : tie.Need-returns-3
-returns-3 c =
-    let s = c .before .before .before .before .before .before .before .before .before .before .before .before .before .args in
-    λ t a h. found-full t (s .z) (s .rows) (c .before .before .before .before .before .before .before .before .before .find-state .ensures) (c .before .before .before .before .before .before .before .enum-told .given .1) (c .before .before .before .before .before .add-node .ensures) (c .before .area .given .1) h
+abbrev the-none : tie.After-d → tie.After-enum-told
+the-none c = the-node c .before .before
 
 pub link-found-spec : {M : Type 1} → statement M
 link-found-spec =
-    tie.close
-    (tie.spec
-    find-state-requires
-    enum-known-y
-    link-to-requires
-    enum-told
-    add-node-requires
-    enum-known-d
-    cast-link-to
-    link-to-requires-2
-    enum-known-area
-    same-length
-    same-length-2
-    returns
-    same-length-3
-    same-length-4
-    returns-2
-    same-length-5
-    returns-3)
+    tie.close (tie.spec
+    -- find_state(nodes, c, rows)
+    (λ c κs. search needs)
+    -- link_to(.., c, z, y)
+    (λ c. search needs) (λ c κs. search needs)
+    -- add_node(nodes, c, state)
+    (λ c. search needs) (λ c κs. search needs)
+    -- link_to(.., d, z, c.nodes)
+    (λ c. search needs) (λ c. search needs)
+    (λ c κs. let s : tie.Start = search in let n : tie.After-add-node = search in let d : tie.After-d = search in
+    let (held, more) = node-held (state (valueOf (s .args .rows))) (n .add-node .ensures) (d .d .given .1) (s .pre .1 .1) in (omega (arith, s .pre .0, more), held .nodes))
+    (λ c. search needs)
+    -- the end: what link_to returned, with the state that was found
+    (λ c. search needs) (λ c. search needs)
+    (λ c. let s : tie.Start = search in let f : tie.After-find-state = search in let y : tie.After-y = search in let l : tie.After-link-to = search in
+    found-there (s .args .z) (valueOf (s .args .rows)) (f .find-state .ensures) (y .y .given .1) (l .link-to .ensures))
+    -- the end: what link_to returned, with the state that was made
+    (λ c. search needs) (λ c. search needs)
+    (λ c. let s : tie.Start = search in let d : tie.After-d = search in let n = the-node d in let o = the-none d in let f = o .before .before in let l : tie.After-link-to2 = search in
+    found-new (s .args .z) (valueOf (s .args .rows)) (f .find-state .ensures) (o .enum-told .given .1) (n .add-node .ensures) (d .d .given .1) (l .link-to2 .ensures))
+    -- the end: Full(area)
+    (λ c. search needs)
+    (λ c. let s : tie.Start = search in let f : tie.After-find-state = search in let o : tie.After-enum-told = search in let n : tie.After-add-node = search in
+    let d : tie.After-area = search in
+    found-full (s .args .z) (valueOf (s .args .rows)) (f .find-state .ensures) (o .enum-told .given .1) (n .add-node .ensures) (d .area .given .1)))

@@ -5,23 +5,13 @@ use Rattle.steps.specs.StepLaws.{link-done}
 use Rattle.steps.proofs.link_to.Statement.{statement}
 use Rattle.steps.proofs.link_to.Tie as tie
 
-set-link-requires : tie.Need-set-link-requires
-set-link-requires c κs = search needs
-
-add-edge-requires : tie.Need-add-edge-requires
-add-edge-requires c κs = search needs
-
-same-length : tie.Need-same-length
-same-length c = search needs
-
-same-length-2 : tie.Need-same-length-2
-same-length-2 c = search needs
-
-returns : tie.Need-returns
-returns c =
-    let s = c .before .before .before .before .before .before .before .before .before .before .args in
-    λ t a h. link-done t (s .z) (s .y) (c .before .before .before .before .before .before .set-link .ensures) (c .before .before .before .before .before .before .set-link .kept .0) (c .before .before .add-edge .ensures) h
-
 pub link-to-spec : {M : Type 1} → statement M
 link-to-spec =
-    tie.close (tie.spec set-link-requires add-edge-requires same-length same-length-2 returns)
+    tie.close (tie.spec
+    -- set_link(nodes, c, z, State(y)), add_edge(edges, c, z, y)
+    (λ c κs. search needs)
+    (λ c κs. search needs)
+    -- the end
+    (λ c. search needs) (λ c. search needs)
+    (λ c. let s : tie.Start = search in let l : tie.After-set-link = search in let e : tie.After-add-edge = search in
+    link-done (s .args .z) (s .args .y) (l .set-link .ensures) (e .add-edge .ensures)))

@@ -1,105 +1,51 @@
--- `walk::descend` meets its contract: the invariant is that the way from `from` goes through `x`; the nodes on it rise.
+-- `walk::descend` meets its contract: the way down from `from` goes through x; the nodes on it rise.
 -- Assumes nothing.
-use Prim.Native.Nat.{ℕ, _-_}
+use Prim.Native.Nat.{_-_}
 use native.Mathlib.Omega.{arith}
 use borrow.Author.Needs.{needs}
-use Rattle.procedure.proofs.Way.{Way}
-use Rattle.records.specs.GraphLaws.{held-node}
-use Rattle.walk.specs.Contracts.{graphIn}
-use Rattle.walk.specs.ChildWays.{down-there, down-linked, down-child, down-nowhere, down-gives}
+use Rattle.walk.specs.Contracts.{nodesEdges}
+use Rattle.walk.specs.ChildCases.{Going, Links, going-start, going-fits, going-links, going-lands, going-on, going-less, going-nowhere}
 use Rattle.walk.proofs.descend.Statement.{statement}
 use Rattle.walk.proofs.descend.Tie as tie
 
 abbrev Inv-loop : tie.InvT-loop
-Inv-loop nodes edges c from x₀ x = (y : ℕ) → Way (graphIn nodes edges c) from y → Way (graphIn nodes edges c) x y
+Inv-loop nodes edges c from x₀ x = Going (nodesEdges nodes edges) c from x
 
 abbrev μ-loop : tie.MeasureT-loop
 μ-loop nodes edges c from x₀ x = c .nodes - x
 
-loop-holds : tie.Need-loop-holds Inv-loop μ-loop
-loop-holds c = λ y w. w
+abbrev At : (tie.InvT-loop → tie.MeasureT-loop → Type 0) → Type 0
+At P = P Inv-loop μ-loop
 
-cast-load-node : tie.Need-cast-load-node Inv-loop μ-loop
-cast-load-node c =
-    let s = c .before .before .before in
-    omega (arith, down-there (s .args .nodes .now) (s .args .edges .now) (s .args .c) (c .loop .inv (s .pre .end) (s .pre .way)), s .pre .holds .held .nodes)
+abbrev the-loop : At tie.After-linked-state → At tie.At-loop
+the-loop c = c .before .before
 
-load-node-requires : tie.Need-load-node-requires Inv-loop μ-loop
-load-node-requires c κs =
-    let s = c .before .before .before in
-    held-node (s .pre .holds .held) (down-there (s .args .nodes .now) (s .args .edges .now) (s .args .c) (c .loop .inv (s .pre .end) (s .pre .way)))
-
-linked-state-requires : tie.Need-linked-state-requires Inv-loop μ-loop
-linked-state-requires c κs = search needs
-
-enum-known-y : tie.Need-enum-known-y Inv-loop μ-loop
-enum-known-y c = search needs
-
-returns : tie.Need-returns Inv-loop μ-loop
-returns c =
-    let s = c .before .before .before .before .before .before .before .before in
-    let a = s .args in
-    let w = c .before .before .before .before .before .loop .inv (s .pre .end) (s .pre .way) in
-    let h = down-there (a .nodes .now) (a .edges .now) (a .c) w in
-    down-gives (s .pre) (c .before .y .given .0 .0)
-    (down-linked (a .nodes .now) (a .edges .now) (a .c) (c .before .before .before .before .before .loop .x) (c .before .before .before .before .load-node .result) h (c .before .before .before .before .load-node .ensures) (s .pre .end) w (c .before .before .before .linked-state .ensures) (c .before .y .given .1))
-
-enum-told : tie.Need-enum-told Inv-loop μ-loop
-enum-told c = search needs
-
-live-child-requires : tie.Need-live-child-requires Inv-loop μ-loop
-live-child-requires c κs = c .before .before .before .before .before .before .before .pre .holds
-
-enum-known-child : tie.Need-enum-known-child Inv-loop μ-loop
-enum-known-child c = search needs
-
-loop-less : tie.Need-loop-less Inv-loop μ-loop
-loop-less c =
-    let s = c .before .before .before .before .before .before .before .before .before .before .before in
-    let a = s .args in
-    let w = c .before .before .before .before .before .before .before .before .loop .inv (s .pre .end) (s .pre .way) in
-    let h = down-there (a .nodes .now) (a .edges .now) (a .c) w in
-    let (up, on) = down-child (a .nodes .now) (a .edges .now) (a .c) (c .before .before .before .before .before .before .before .before .loop .x) (c .before .before .before .before .before .before .before .load-node .result) h (c .before .before .before .before .before .before .before .load-node .ensures) (s .pre .end) w
-    (c .before .before .before .before .before .before .linked-state .ensures) (c .before .before .before .before .enum-told .given .1) (c .before .before .before .live-child .ensures) (c .before .child .given .1) in
-    omega (arith, up, h)
-
-loop-again : tie.Need-loop-again Inv-loop μ-loop
-loop-again c =
-    let s = c .before .before .before .before .before .before .before .before .before .before .before in
-    let a = s .args in
-    λ y v.
-    let w = c .before .before .before .before .before .before .before .before .loop .inv y v in
-    down-child (a .nodes .now) (a .edges .now) (a .c) (c .before .before .before .before .before .before .before .before .loop .x) (c .before .before .before .before .before .before .before .load-node .result) (down-there (a .nodes .now) (a .edges .now) (a .c) w) (c .before .before .before .before .before .before .before .load-node .ensures) y w
-    (c .before .before .before .before .before .before .linked-state .ensures) (c .before .before .before .before .enum-told .given .1) (c .before .before .before .live-child .ensures) (c .before .child .given .1) .1
-
-enum-told-2 : tie.Need-enum-told-2 Inv-loop μ-loop
-enum-told-2 c = search needs
-
-returns-2 : tie.Need-returns-2 Inv-loop μ-loop
-returns-2 c =
-    let s = c .before .before .before .before .before .before .before .before .before .before in
-    let a = s .args in
-    let w = c .before .before .before .before .before .before .before .loop .inv (s .pre .end) (s .pre .way) in
-    let h = down-there (a .nodes .now) (a .edges .now) (a .c) w in
-    absurd (down-nowhere (a .nodes .now) (a .edges .now) (a .c) (c .before .before .before .before .before .before .before .loop .x) (c .before .before .before .before .before .before .load-node .result) h (c .before .before .before .before .before .before .load-node .ensures) (s .pre .end) w
-    (c .before .before .before .before .before .linked-state .ensures) (c .before .before .before .enum-told .given .1) (c .before .before .live-child .ensures) (c .enum-told2 .given .1))
+-- what the link of node x names
+links : (c : At tie.After-linked-state) → Links (the-loop c .loop .inv) (c .linked-state .result)
+links c = going-links (the-loop c .loop .inv) (c .before .load-node .result) (c .before .load-node .ensures) (c .linked-state .ensures)
 
 pub descend-spec : {M : Type 1} → statement M
 descend-spec =
-    tie.close
-    (tie.spec
-    Inv-loop
-    μ-loop
-    loop-holds
-    cast-load-node
-    load-node-requires
-    linked-state-requires
-    enum-known-y
-    returns
-    enum-told
-    live-child-requires
-    enum-known-child
-    loop-less
-    loop-again
-    enum-told-2
-    returns-2)
+    tie.close (tie.spec Inv-loop μ-loop
+    -- loop, load_node(nodes, x as usize)
+    (λ c. search (going-start, needs))
+    (λ c. omega (arith, going-fits (c .loop .inv) .0))
+    (λ c κs. search (going-fits, needs))
+    -- linked_state(link)
+    (λ c κs. search needs)
+    (λ c. search needs)
+    -- At(y): return y
+    (λ c. let y : At tie.After-y = search in going-lands (links (search)) (y .y .given .1))
+    -- Nothing: live_child(nodes, edges, c, x)
+    (λ c. search needs)
+    (λ c κs. search needs)
+    (λ c. search needs)
+    -- At(child): the loop again
+    (λ c. let n : At tie.After-enum-told = search in let l : At tie.After-live-child = search in let b : At tie.After-child = search in
+    going-less (links (search)) (n .enum-told .given .1) (l .live-child .ensures) (b .child .given .1))
+    (λ c. let n : At tie.After-enum-told = search in let l : At tie.After-live-child = search in let b : At tie.After-child = search in
+    going-on (links (search)) (n .enum-told .given .1) (l .live-child .ensures) (b .child .given .1))
+    -- Nothing: there is always a child
+    (λ c. search needs)
+    (λ c. let n : At tie.After-enum-told = search in let l : At tie.After-live-child = search in
+    absurd (going-nowhere (links (search)) (n .enum-told .given .1) (l .live-child .ensures) (c .enum-told2 .given .1))))

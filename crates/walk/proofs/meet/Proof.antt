@@ -1,115 +1,42 @@
 -- `walk::meet` meets its contract: by the number of the state, which is 0 if it is met first.
 -- Assumes nothing.
-use mathlib.Core.Path.{_≡_, sym, _∙_}
 use native.Mathlib.Omega.{arith}
 use borrow.Author.Needs.{needs}
-use Rattle.marks.specs.Marks.{numberIn}
-use Rattle.walk.specs.MeetWays.{met-before, meet-room, met-first}
+use Rattle.walk.specs.MeetCases.{met-before, New, meet-new, meet-few, meet-fits, met-first}
 use Rattle.walk.proofs.meet.Statement.{statement}
 use Rattle.walk.proofs.meet.Tie as tie
 
-load-number-requires : tie.Need-load-number-requires
-load-number-requires c κs = search needs
+abbrev begun : tie.Else1 → tie.Start
+begun c = c .before .before .before .before .before
 
-sub-store-role-link : tie.Need-sub-store-role-link
-sub-store-role-link c = search needs
-
-store-role-link-requires : tie.Need-store-role-link-requires
-store-role-link-requires c κs = search needs
-
-add-t20 : tie.Need-add-t20
-add-t20 c = search needs
-
-same-length : tie.Need-same-length
-same-length c = search needs
-
-same-length-2 : tie.Need-same-length-2
-same-length-2 c = search needs
-
-returns : tie.Need-returns
-returns c =
-    let s = c .before .before .before .before .before .before .before .before .before in
-    let a = s .args in
-    met-before (a .nodes .now) (a .edges .now) (a .c) (a .s) (a .d) (a .role) (a .y) (s .pre) (c .before .before .before .before .before .load-number .result) (c .before .before .store-role-link .last .0) (c .before .before .before .before .before .load-number .ensures) (c .before .before .before .before .if1 .taken) (c .before .before .store-role-link .ensures)
-
-add-store-number : tie.Need-add-store-number
-add-store-number c =
-    let s = c .before .before .before .before .before .before in
-    let a = s .args in
-    let new : numberIn (a .nodes .now) (a .y) ≡ 0 = sym (c .before .before .load-number .ensures) ∙ omega (arith, c .before .if1 .left) in
-    omega (arith, meet-room (a .nodes .now) (a .edges .now) (a .c) (a .s) (a .d) (a .role) (a .y) (s .pre) new, s .pre .holds .held .nodes)
-
-cast-store-number : tie.Need-cast-store-number
-cast-store-number c =
-    let s = c .before .before .before .before .before .before in
-    let a = s .args in
-    let new : numberIn (a .nodes .now) (a .y) ≡ 0 = sym (c .before .before .load-number .ensures) ∙ omega (arith, c .before .if1 .left) in
-    omega (arith, meet-room (a .nodes .now) (a .edges .now) (a .c) (a .s) (a .d) (a .role) (a .y) (s .pre) new, s .pre .holds .held .nodes)
-
-store-number-requires : tie.Need-store-number-requires
-store-number-requires c κs = search needs
-
-store-state-requires : tie.Need-store-state-requires
-store-state-requires c κs =
-    let s = c .before .before .before .before .before .before .before .before .before .before in
-    let a = s .args in
-    let new : numberIn (a .nodes .now) (a .y) ≡ 0 = sym (c .before .before .before .before .before .before .load-number .ensures) ∙ omega (arith, c .before .before .before .before .before .if1 .left) in
-    let room = meet-room (a .nodes .now) (a .edges .now) (a .c) (a .s) (a .d) (a .role) (a .y) (s .pre) new in
-    (omega (arith, room, s .pre .holds .held .nodes), omega (arith, room, s .pre .holds .held .nodes, c .before .before .before .store-number .ensures .stored .size))
-
-cast-store-role-link : tie.Need-cast-store-role-link
-cast-store-role-link c =
-    let s = c .before .before .before .before .before .before .before .before .before .before .before .before .before .before in
-    let a = s .args in
-    let new : numberIn (a .nodes .now) (a .y) ≡ 0 = sym (c .before .before .before .before .before .before .before .before .before .before .load-number .ensures) ∙ omega (arith, c .before .before .before .before .before .before .before .before .before .if1 .left) in
-    omega (arith, meet-room (a .nodes .now) (a .edges .now) (a .c) (a .s) (a .d) (a .role) (a .y) (s .pre) new, s .pre .holds .held .nodes)
-
-store-role-link-requires-2 : tie.Need-store-role-link-requires-2
-store-role-link-requires-2 c κs = search needs
-
-add-t24 : tie.Need-add-t24
-add-t24 c =
-    let s = c .before .before .before .before .before .before .before .before .before .before .before .before .before .before .before .before .before in
-    let a = s .args in
-    let new : numberIn (a .nodes .now) (a .y) ≡ 0 = sym (c .before .before .before .before .before .before .before .before .before .before .before .before .before .load-number .ensures) ∙ omega (arith, c .before .before .before .before .before .before .before .before .before .before .before .before .if1 .left) in
-    omega (arith, meet-room (a .nodes .now) (a .edges .now) (a .c) (a .s) (a .d) (a .role) (a .y) (s .pre) new, s .pre .holds .held .nodes)
-
-add-t13 : tie.Need-add-t13
-add-t13 c = search needs
-
-same-length-3 : tie.Need-same-length-3
-same-length-3 c = search needs
-
-same-length-4 : tie.Need-same-length-4
-same-length-4 c = search needs
-
-returns-2 : tie.Need-returns-2
-returns-2 c =
-    let s = c .before .before .before .before .before .before .before .before .before .before .before .before .before .before .before .before .before in
-    let a = s .args in
-    let new : numberIn (a .nodes .now) (a .y) ≡ 0 = sym (c .before .before .before .before .before .before .before .before .before .before .before .before .before .load-number .ensures) ∙ omega (arith, c .before .before .before .before .before .before .before .before .before .before .before .before .if1 .left) in
-    met-first (a .nodes .now) (a .edges .now) (a .c) (a .s) (a .d) (a .role) (a .y) (s .pre) new
-    (c .before .before .before .before .before .before .before .before .before .before .store-number .last .0) (c .before .before .before .before .before .before .store-state .last .0) (c .before .before .store-role-link2 .last .0) (c .before .before .before .before .before .before .before .before .before .before .store-number .ensures) (c .before .before .before .before .before .before .store-state .ensures) (c .before .before .store-role-link2 .ensures)
+-- the state is met first
+new : (c : tie.Else1) → New (begun c .pre)
+new c = meet-new (begun c .pre) (c .before .load-number .ensures) (search needs)
 
 pub meet-spec : {M : Type 1} → statement M
 meet-spec =
-    tie.close
-    (tie.spec
-    load-number-requires
-    sub-store-role-link
-    store-role-link-requires
-    add-t20
-    same-length
-    same-length-2
-    returns
-    add-store-number
-    cast-store-number
-    store-number-requires
-    store-state-requires
-    cast-store-role-link
-    store-role-link-requires-2
-    add-t24
-    add-t13
-    same-length-3
-    same-length-4
-    returns-2)
+    tie.close (tie.spec
+    -- load_number(nodes, y as usize)
+    (λ c κs. search needs)
+    -- LinkMark { from: d, role: role as u16, to: number - 1 }
+    (λ c. search needs)
+    -- store_role_link(edges, links, link)
+    (λ c κs. search needs)
+    -- return Sizes { elements, links: links + 1 }
+    (λ c. search needs)
+    (λ c. search needs) (λ c. search needs)
+    (λ c. let s : tie.Start = search in let n : tie.After-load-number = search in let t : tie.Then1 = search in let l : tie.After-store-role-link = search in
+    met-before (s .pre) (n .load-number .ensures) (t .if1 .taken) (l .store-role-link .ensures))
+    -- store_number(nodes, y as usize, (elements + 1) as u16)
+    (λ c. omega (arith, meet-few (new (search)))) (λ c. omega (arith, meet-few (new (search)))) (λ c κs. search needs)
+    -- store_state(nodes, elements, y)
+    (λ c κs. let n : tie.After-store-number = search in meet-fits (new (search)) (n .store-number .ensures))
+    -- LinkMark { from: d, role: role as u16, to: elements as u16 }
+    (λ c. omega (arith, meet-few (new (search))))
+    -- store_role_link(edges, links, link)
+    (λ c κs. search needs)
+    -- Sizes { elements: elements + 1, links: links + 1 }
+    (λ c. omega (arith, meet-few (new (search)))) (λ c. search needs)
+    (λ c. search needs) (λ c. search needs)
+    (λ c. let n : tie.After-store-number = search in let e : tie.After-store-state = search in let l : tie.After-store-role-link2 = search in
+    met-first (new (search)) (n .store-number .ensures) (e .store-state .ensures) (l .store-role-link2 .ensures)))

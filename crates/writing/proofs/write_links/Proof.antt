@@ -14,39 +14,19 @@ Inv-loop edges count links₀ k₀ links k = Written (linksTo edges) count links
 abbrev μ-loop : tie.MeasureT-loop
 μ-loop edges count links₀ k₀ links k = count - k
 
-loop-holds : tie.Need-loop-holds Inv-loop μ-loop
-loop-holds c = let a = c .before .before .args in written-none (linksTo (a .edges .now)) (a .count) (a .links .now) (links-none (a .edges .now))
-
-write-link-requires : tie.Need-write-link-requires Inv-loop μ-loop
-write-link-requires c κs = ((omega arith, omega arith), omega arith)
-
-add-k : tie.Need-add-k Inv-loop μ-loop
-add-k c = omega arith
-
-loop-less : tie.Need-loop-less Inv-loop μ-loop
-loop-less c = omega arith
-
-loop-again : tie.Need-loop-again Inv-loop μ-loop
-loop-again c =
-    let s = c .before .before .before .before .before .before .before .before in
-    link-written (s .args .edges .now) (c .before .before .before .before .before .loop .inv) (omega arith) (s .pre .room) (cc)
-
-same-length : tie.Need-same-length Inv-loop μ-loop
-same-length c = search needs
-
-returns : tie.Need-returns Inv-loop μ-loop
-returns c = written-all (c .before .loop .inv) (omega arith)
+abbrev At : (tie.InvT-loop → tie.MeasureT-loop → Type 0) → Type 0
+At P = P Inv-loop μ-loop
 
 pub write-links-spec : {M : Type 1} → statement M
 write-links-spec =
-    tie.close
-    (tie.spec
-    Inv-loop
-    μ-loop
-    loop-holds
-    write-link-requires
-    add-k
-    loop-less
-    loop-again
-    same-length
-    returns)
+    tie.close (tie.spec Inv-loop μ-loop
+    -- while k < count
+    (λ c. written-none (links-none _))
+    -- write_link(edges, k, links)
+    (λ c κs. ((omega arith, omega arith), omega arith))
+    -- k += 1, the loop again
+    (λ c. omega arith) (λ c. omega arith)
+    (λ c. let s : At tie.Start = search in let l : At tie.At-loop = search in link-written _ (l .loop .inv) (omega arith) (s .pre .room) (cc))
+    -- the end
+    (λ c. search needs)
+    (λ c. written-all (c .before .loop .inv) (omega arith)))

@@ -1,0 +1,107 @@
+-- The puts of one expansion, whatever their sets: the graph in between (`Now`), what a put may rely on, the graph after it.
+-- Assumes nothing.
+use mathlib.Core.Path.{_≡_, sym, ap, _∙_, subst}
+use mathlib.Core.List.{List}
+use Prim.Native.Nat.{ℕ, suc, _<_}
+use native.Mathlib.Omega.{arith}
+use lib.ListN.{length}
+use Rattle.concepts.specs.RowSet.{RowSet}
+use Rattle.concepts.specs.RowSetLaws.{missing-all}
+use Rattle.procedure.specs.Problem.{Problem}
+use Rattle.procedure.specs.Graph.{Graph, Capacity, Result, nodeAt}
+use Rattle.procedure.specs.GraphLaws.{Sure}
+use Rattle.procedure.specs.Tableau.{put}
+use Rattle.procedure.proofs.Fit.{PutFit}
+use Rattle.procedure.proofs.ExpandFit as E
+use Rattle.words.specs.Sizes.{nodeSize}
+use Rattle.problem.specs.Decoded.{tableOf, problemOf}
+use Rattle.problem.specs.DecodedLaws.{length-tableOf}
+use Rattle.records.specs.Areas.{Bytes, Fits}
+use Rattle.records.specs.Records.{nodeOf, nodeIn}
+use Rattle.records.specs.declared.Node as D
+use Rattle.rowset.specs.Value.{width}
+use Rattle.graph.specs.Graphs.{Work, work, graphOf, capacityOf, Held, Sized, Refines}
+use Rattle.graph.specs.GraphLaws.{sized-refl, sized-trans, sized-places, count-nodes, graph-node, held-node}
+use Rattle.graph.specs.RefineLaws.{refines-answer, refines-held}
+use Rattle.graph.specs.declared.Counts.{Counts}
+use Rattle.graph.specs.declared.Step.{Step}
+use Rattle.graph.specs.declared.Step.the-variants.{Done}
+use Rattle.tableau.specs.Contracts.{PutAsks, PutGives}
+use Rattle.expansion.specs.Contracts.{ExpandAsks}
+
+module _ {ws : List ℕ} {w : Work} {c : Counts} {x : ℕ} (A : ExpandAsks ws w c x) where
+  abbrev pub P : Problem
+  P = problemOf ws
+
+  abbrev pub cap : Capacity
+  cap = capacityOf w
+
+  abbrev pub g : Graph
+  g = graphOf w c
+
+  there : x < c .nodes
+  there = omega (arith, A .there, count-nodes w c)
+
+  -- a row of the table is one of the set's width
+  pub row-fits : (k : ℕ) → k < length (tableOf ws) → k < width
+  row-fits k h = omega (arith, A .decoded .few, length-tableOf ws)
+
+  -- ---- between two puts
+
+  -- some children of x are put
+  abbrev pub Growing : Graph → Type 0
+  Growing h = E.Growing P cap g x (A .still) (A .there) (A .fresh) h
+
+  pub record Now (w′ : Work) (d : Counts) : Type 0 where
+    pub held : Held w′ d
+    pub sized : Sized w w′
+    pub growing : Growing (graphOf w′ d)
+
+  pub growing-start : Growing g
+  growing-start = E.growing-start P cap g x (A .still) (A .there) (A .fresh)
+
+  pub now-start : Now w c
+  now-start = record { held = A .held; sized = sized-refl; growing = growing-start }
+
+  -- the set s may be put now
+  abbrev pub MayPut : Graph → (p ρ : ℕ) → RowSet → Type 0
+  MayPut h p ρ s = E.Puts P cap g x (A .still) (A .there) (A .fresh) h p ρ s
+
+-- ---- the node, as it was loaded
+
+module _ {ws : List ℕ} {n e a : Bytes} {c : Counts} {x : ℕ} (A : ExpandAsks ws (work n e a) c x) where
+  pub expand-fits : Fits nodeSize n x
+  expand-fits = held-node (A .held) (there A)
+
+  pub expand-loaded : (v : D.Node) → nodeOf v ≡ nodeIn n x → nodeAt (graphOf (work n e a) c) x ≡ nodeOf v
+  expand-loaded v hv = graph-node (work n e a) c x (there A) ∙ sym hv
+
+-- ---- a put
+
+module _ {ws : List ℕ} {w : Work} {c : Counts} {x : ℕ} {A : ExpandAsks ws w c x} {w′ : Work} {d : Counts} (N : Now A w′ d)
+    {p ρ : ℕ} {s : RowSet} (M : MayPut A (graphOf w′ d) p ρ s) where
+  abbrev h : Graph
+  h = graphOf w′ d
+
+  pub now-asks : PutAsks ws w′ d x p ρ s
+  now-asks = record {
+    decoded = A .decoded;
+    held = N .held;
+    fit = subst (λ (q : Capacity). PutFit (P A) q h x p ρ s) (sym (sized-places (N .sized))) (E.puts-fit (P A) (cap A) (g A) x (A .still) (A .there) (A .fresh) h (N .growing) p ρ s M);
+  }
+
+  module _ {w″ : Work} {r : Step} (G : PutGives ws w′ d x p ρ s r w″) where
+    -- with the fuel of the definition
+    pub now-gives : {z : Step} → r ≡ z → Refines w′ d z w″ (λ k u. put (problemOf ws) k x p ρ s u)
+    unfolding put
+    now-gives er = refines-answer (G (suc (length (tableOf ws))) (omega (arith, missing-all (length (tableOf ws)) s))) er
+
+    pub now-put : {d₂ : Counts} → r ≡ Done d₂ → Now A w″ d₂
+    now-put {d₂} er =
+        let R = now-gives er in
+        let q = R .meets ∙ ap (λ (k : Capacity). put (P A) k x p ρ s h) (sized-places (N .sized)) in
+        record {
+          held = refines-held R;
+          sized = sized-trans (N .sized) (R .sized);
+          growing = subst (λ (q : Result). Sure (Growing A) q) (sym q) (E.puts-done (P A) (cap A) (g A) x (A .still) (A .there) (A .fresh) h (N .growing) p ρ s M);
+        }

@@ -1,0 +1,51 @@
+-- `graph::add_alternative` meets its contract: by what the search found, and by the room that is left.
+-- Assumes nothing.
+use mathlib.Core.Path.{sym, _∙_}
+use native.Mathlib.Omega.{arith}
+use borrow.Author.Needs.{needs}
+use Rattle.rowset.specs.Value.{valueOf}
+use Rattle.graph.specs.GraphLaws.{add-alternative-known, add-alternative-done, add-alternative-full}
+use Rattle.graph.proofs.add_alternative.Statement.{statement}
+use Rattle.graph.proofs.add_alternative.Tie as tie
+
+returns : tie.Need-returns
+returns c =
+    let s : tie.Start = search in
+    let had = c .before .has-alternative .ensures in
+    add-alternative-known _ (s .args .owner) (valueOf (s .args .rows)) (λ n e h. sym (had n e h) ∙ c .if1 .taken)
+
+returns-2 : tie.Need-returns-2
+returns-2 c =
+    let s : tie.Start = search in
+    let new : tie.Else1 = search in
+    let had = new .before .has-alternative .ensures in
+    let there : tie.Then2 = search in
+    let w : tie.After-store-alternative = search in
+    add-alternative-done _ (s .args .owner) (valueOf (s .args .rows)) (λ n e h. sym (had n e h) ∙ new .if1 .left) (w .store-alternative .ensures)
+    (omega (arith, there .if2 .taken, there .before .room .ensures))
+
+returns-3 : tie.Need-returns-3
+returns-3 c =
+    let s : tie.Start = search in
+    let new : tie.Else1 = search in
+    let had = new .before .has-alternative .ensures in
+    add-alternative-full _ (s .args .owner) (valueOf (s .args .rows)) (λ n e h. sym (had n e h) ∙ new .if1 .left)
+    (omega (arith, c .if2 .left, c .before .room .ensures))
+
+pub add-alternative-spec : {M : Type 1} → statement M
+add-alternative-spec =
+    tie.close
+    (tie.spec
+    -- has_alternative(alternatives, c, owner, rows)
+    (λ c κs. search needs)
+    (λ c. search needs)
+    returns
+    -- room(alternatives.len(), ALTERNATIVE_BYTES)
+    (λ c κs. search needs)
+    -- store_alternative(alternatives, i, Alternative { owner, rows }), i + 1
+    (λ c κs. search needs)
+    (λ c. search needs)
+    (λ c. search needs)
+    returns-2
+    (λ c. search needs)
+    returns-3)

@@ -1,0 +1,181 @@
+-- The rounds of a run: a turn of the loop, on plain values.
+--
+-- In order: the root, loaded; the loop's invariant (`Turn`); its start; the end, by the root's status or for want of a node without status;
+-- the node to expand (`Fresh`), and its expansion.
+-- Assumes nothing.
+use mathlib.Core.Path.{_≡_, refl, sym, ap, _∙_, subst}
+use mathlib.Core.Bool.{Bool, true, false, not}
+use mathlib.Core.List.{List}
+use mathlib.Core.Option.{some}
+use Prim.Native.Nat.{ℕ, zero, suc, _+_, _-_, _≤_, _<_}
+use native.Mathlib.Omega.{arith}
+use Rattle.procedure.specs.Status.{unset, isUnset, isLive}
+use Rattle.procedure.specs.StatusLaws.{is-unset}
+use Rattle.procedure.specs.Problem.{Problem}
+use Rattle.procedure.specs.Graph.{Node, Graph, Capacity, Result, reached, _>>=_, nodeCount, nodeAt, lowestUnset}
+use Rattle.procedure.specs.GraphLaws.{lowestUnset-some}
+use Rattle.procedure.specs.Tableau.{expand, loopWithin}
+use Rattle.procedure.specs.TableauLaws.{bind-reached, bind-noPlace, loop-settled, loop-done, loop-round}
+use Rattle.procedure.proofs.Measure.{count-le, withAStatus}
+use Rattle.procedure.proofs.ExpandFit.{Still, still-after}
+use Rattle.words.specs.Sizes.{nodeSize}
+use Rattle.problem.specs.Decoded.{problemOf}
+use Rattle.records.specs.Areas.{Bytes, roomOf, Fits}
+use Rattle.records.specs.Codes.{statusOf}
+use Rattle.records.specs.Records.{nodeOf, nodeIn}
+use Rattle.graph.specs.Graphs.{Work, work, graphOf, capacityOf, Held, Grown, Sized, areaOf, resultOf, WithNodes, foundOf}
+use Rattle.graph.specs.GraphLaws.{grown-refl, grown-trans, sized-refl, sized-trans, sized-places, count-nodes, graph-node, held-node}
+use Rattle.graph.specs.RefineLaws.{refines-answer}
+use Rattle.graph.specs.declared.Counts.{Counts}
+use Rattle.graph.specs.declared.FoundNode.{FoundNode}
+use Rattle.graph.specs.declared.FoundNode.the-variants as Found
+use Rattle.records.specs.declared.Node as D
+use Rattle.graph.specs.declared.Area.{Area}
+use Rattle.graph.specs.declared.Step.{Step}
+use Rattle.graph.specs.declared.Step.the-variants.{Done, Full}
+use Rattle.expansion.specs.Contracts.{ExpandAsks, ExpandGives}
+use Rattle.rounds.specs.Contracts.{RoundsAsks, allRounds, RoundsGives}
+
+-- there are no more nodes with a status than places
+statuses-fit : (P : Problem) (c : Capacity) (g : Graph) → Still P c g → withAStatus g ≤ c .nodeRoom
+statuses-fit P c g A = omega (arith, A .inv .fits, count-le (λ n. not (isUnset (n .status))) (g .nodes))
+
+-- the root, as it was loaded, is live or not
+pub record RootLive (n : Bytes) (b : Bool) : Type 0 where
+  pub status : isLive (nodeIn n 0 .status) ≡ b
+
+pub root-live : {n : Bytes} {b v : Bool} (d : D.Node) → nodeOf d ≡ nodeIn n 0 → b ≡ isLive (statusOf (d .status)) → b ≡ v → RootLive n v
+root-live d hd hb hv = record { status = ap (λ (u : Node). isLive (u .status)) (sym hd) ∙ sym hb ∙ hv }
+
+-- ---- the loop's invariant
+
+-- the rounds from here on give the whole
+pub record Turn (ws : List ℕ) (w : Work) (c : Counts) (w′ : Work) (d : Counts) : Type 0 where
+  pub asks : RoundsAsks ws w c
+  pub held : Held w′ d
+  pub grown : Grown c d
+  pub sized : Sized w w′
+  pub still : Still (problemOf ws) (capacityOf w) (graphOf w′ d)
+  pub rest : (f : ℕ) × (roomOf nodeSize (w .nodes) < withAStatus (graphOf w′ d) + f)
+      × (loopWithin (problemOf ws) (capacityOf w) f (graphOf w′ d) ≡ allRounds ws (capacityOf w) (graphOf w c))
+
+pub turn-start : {ws : List ℕ} {w : Work} {c : Counts} → RoundsAsks ws w c → Turn ws w c w c
+turn-start {w = w} A = record {
+  asks = A;
+  held = A .held;
+  grown = grown-refl;
+  sized = sized-refl;
+  still = A .still;
+  rest = (suc (roomOf nodeSize (w .nodes)), omega arith, refl);
+}
+
+-- ---- a turn
+
+module _ {ws : List ℕ} {w : Work} {c : Counts} {n′ e′ a′ : Bytes} {d : Counts} (T : Turn ws w c (work n′ e′ a′) d) where
+  abbrev P : Problem
+  P = problemOf ws
+
+  abbrev cap : Capacity
+  cap = capacityOf w
+
+  abbrev loop : ℕ → Graph → Result
+  loop f u = loopWithin P cap f u
+
+  -- the graph of the call, and as it is now
+  abbrev g : Graph
+  g = graphOf w c
+
+  abbrev h : Graph
+  h = graphOf (work n′ e′ a′) d
+
+  -- the root is live, and x is the lowest node without status
+  pub record Fresh (x : ℕ) : Type 0 where
+    pub live : isLive (nodeAt h 0 .status) ≡ true
+    pub found : lowestUnset h ≡ some x
+
+  root : 0 < d .nodes
+  root = omega (arith, T .still .inv .root .0, count-nodes (work n′ e′ a′) d)
+
+  pub turn-fits : Fits nodeSize n′ 0
+  turn-fits = held-node (T .held) root
+
+  pub turn-room : d .nodes ≤ roomOf nodeSize n′
+  turn-room = T .held .nodes
+
+  -- fuel is left
+  fueled : (f : ℕ) × (cap .nodeRoom < withAStatus h + suc f) × (loop (suc f) h ≡ allRounds ws cap g)
+  fueled = go (T .rest .0) (T .rest .1) (T .rest .2)
+    where
+      go : (f : ℕ) → cap .nodeRoom < withAStatus h + f → loop f h ≡ allRounds ws cap g → (f : ℕ) × (cap .nodeRoom < withAStatus h + suc f) × (loop (suc f) h ≡ allRounds ws cap g)
+      go zero few q = absurd (omega (arith, few, statuses-fit P cap h (T .still)))
+      go (suc f) few q = (f, few, q)
+
+  live : {b : Bool} → RootLive n′ b → isLive (nodeAt h 0 .status) ≡ b
+  live L = ap (λ (u : Node). isLive (u .status)) (graph-node (work n′ e′ a′) d 0 root) ∙ L .status
+
+  ended : loop (suc (fueled .0)) h ≡ reached h → RoundsGives ws w c (Done d) (work n′ e′ a′)
+  ended q = record { meets = sym q ∙ fueled .2; held = (T .held, T .grown); sized = T .sized }
+
+  pub turn-settled : RootLive n′ false → RoundsGives ws w c (Done d) (work n′ e′ a′)
+  turn-settled L = ended (loop-settled P cap (fueled .0) h (live L))
+
+  module _ (L : RootLive n′ true) {v : FoundNode} (W : WithNodes n′ d (λ u. foundOf v ≡ lowestUnset u)) where
+    pub turn-done : v ≡ Found.Nothing → RoundsGives ws w c (Done d) (work n′ e′ a′)
+    turn-done ev = ended (loop-done P cap (fueled .0) h (live L) (sym (W e′ a′ (T .held)) ∙ ap foundOf ev))
+
+    pub turn-fresh : {x : ℕ} → v ≡ Found.At x → Fresh x
+    turn-fresh ev = record { live = live L; found = sym (W e′ a′ (T .held)) ∙ ap foundOf ev }
+
+-- ---- an expansion
+
+module _ {ws : List ℕ} {w : Work} {c : Counts} {n′ e′ a′ : Bytes} {d : Counts} {T : Turn ws w c (work n′ e′ a′) d} {x : ℕ} (F : Fresh T x) where
+  there : x < nodeCount (h T)
+  there = lowestUnset-some (h T) x (F .found) .0
+
+  fresh : nodeAt (h T) x .status ≡ unset
+  fresh = is-unset (nodeAt (h T) x .status) (lowestUnset-some (h T) x (F .found) .1)
+
+  places : capacityOf (work n′ e′ a′) ≡ cap T
+  places = sized-places (T .sized)
+
+  pub turn-asks : ExpandAsks ws (work n′ e′ a′) d x
+  turn-asks = record {
+    decoded = T .asks .decoded;
+    held = T .held;
+    still = subst (λ (q : Capacity). Still (P T) q (h T)) (sym places) (T .still);
+    there = there;
+    fresh = fresh;
+  }
+
+  module _ {w″ : Work} {r : Step} (G : ExpandGives ws (work n′ e′ a′) d x r w″) where
+    -- the expansion, in the places of the start
+    expanded : {s : Step} → r ≡ s → resultOf s w″ ≡ expand (P T) (cap T) x (h T)
+    expanded er = refines-answer G er .meets ∙ ap (λ (q : Capacity). expand (P T) q x (h T)) places
+
+    round : {s : Step} → r ≡ s → (resultOf s w″ >>= loop T (fueled T .0)) ≡ allRounds ws (cap T) (g T)
+    round er = ap (λ (q : Result). q >>= loop T (fueled T .0)) (expanded er) ∙ sym (loop-round (P T) (cap T) (fueled T .0) (h T) (F .live) x (F .found)) ∙ fueled T .2
+
+    pub turn-short : {p : Area} → r ≡ Full p → RoundsGives ws w c (Full p) w″
+    turn-short {p} er = record {
+      meets = sym (bind-noPlace (areaOf p) (loop T (fueled T .0))) ∙ round er;
+      held = tt;
+      sized = sized-trans (T .sized) (G .sized);
+    }
+
+    module _ {d₂ : Counts} (er : r ≡ Done d₂) where
+      after : Still (P T) (cap T) (graphOf w″ d₂) × (withAStatus (h T) < withAStatus (graphOf w″ d₂))
+      after = still-after (P T) (cap T) (h T) x (T .still) there fresh (graphOf w″ d₂) (sym (expanded er))
+
+      -- one node more has a status
+      pub turn-less : roomOf nodeSize (w .nodes) - withAStatus (graphOf w″ d₂) < roomOf nodeSize (w .nodes) - withAStatus (graphOf (work n′ e′ a′) d)
+      turn-less = omega (arith, after .1, statuses-fit (P T) (cap T) (graphOf w″ d₂) (after .0))
+
+      pub turn-expanded : Turn ws w c w″ d₂
+      turn-expanded = let R = refines-answer G er in record {
+        asks = T .asks;
+        held = R .held .0;
+        grown = grown-trans (T .grown) (R .held .1);
+        sized = sized-trans (T .sized) (R .sized);
+        still = after .0;
+        rest = (fueled T .0, omega (arith, fueled T .1, after .1), sym (bind-reached (graphOf w″ d₂) (loop T (fueled T .0))) ∙ round er);
+      }

@@ -1,0 +1,209 @@
+-- The cases of put, on plain values.
+--
+-- In order: the places (`Finished`, `Weighed`, `Complete`, `Linked`); a node with no status or never; a lapsed special node; a linked one; its judgement, and its edge.
+-- Assumes nothing.
+use mathlib.Core.Path.{_≡_, sym, ap, _∙_, subst}
+use mathlib.Core.Bool.{Bool, true, false}
+use mathlib.Core.List.{List}
+use Prim.Native.Nat.{ℕ, zero, suc, _+_, _*_, _≤_, _<_}
+use native.Mathlib.Nat.{not-suc-le-zero}
+use native.Mathlib.Omega.{arith}
+use lib.Dec.{eqb, eqb→eq}
+use Rattle.concepts.specs.Tests.{from-true, from-false}
+use Rattle.concepts.specs.Role.{inverse}
+use Rattle.concepts.specs.RowSet.{RowSet, empty}
+use Rattle.procedure.specs.Status.{unset, unsat}
+use Rattle.procedure.specs.Problem.{Problem}
+use Rattle.procedure.specs.SetTests.{clash, unfinished, lacking}
+use Rattle.procedure.specs.Graph.{unlinked, Node, Graph, Capacity, Result, _>>=_, addEdge, nodeAt, nodeCount}
+use Rattle.procedure.specs.GraphLaws.{Sure, Child}
+use Rattle.procedure.specs.Tableau.{below, linkSpecial, judge}
+use Rattle.procedure.specs.TableauLaws.{put-clash, put-unfinished, put-lapsed, put-linked}
+use Rattle.procedure.proofs.Bare.{bare}
+use Rattle.procedure.proofs.Setting.{Setting}
+use Rattle.procedure.proofs.Special.{Started, special-started}
+use Rattle.procedure.proofs.Fit.{Anyone, anyone-quiet, JudgeFit}
+use Rattle.problem.specs.Decoded.{problemOf}
+use Rattle.records.specs.Areas.{Bytes}
+use Rattle.records.specs.Records.{nodeOf, nodeIn}
+use Rattle.graph.specs.Graphs.{Work, work, graphOf, capacityOf, Held, Operation, Refines, AddsEdge}
+use Rattle.graph.specs.GraphLaws.{sized-refl, sized-places, count-nodes, graph-node}
+use Rattle.graph.specs.RefineLaws.{refines-answer, refines-as, refines-held, refines-then, refines-short}
+use Rattle.records.specs.declared.Node as D
+use Rattle.graph.specs.declared.Counts.{Counts}
+use Rattle.graph.specs.declared.Area.{Area}
+use Rattle.graph.specs.declared.Step.{Step}
+use Rattle.graph.specs.declared.Step.the-variants.{Done, Full}
+use Rattle.rowset.specs.Value.{valueOf}
+use Rattle.steps.specs.Steps.{AddsBelow, addChild, addLapsed}
+use Rattle.tableau.specs.Contracts.{lacks, puts, PutAsks, PutGives, JudgeAsks, JudgeGives}
+
+-- ---- the places
+
+module _ {ws : List ℕ} {n e a : Bytes} {c : Counts} {m p ρ : ℕ} {s : RowSet} (A : PutAsks ws (work n e a) c m p ρ s) where
+  abbrev P : Problem
+  P = problemOf ws
+
+  abbrev w : Work
+  w = work n e a
+
+  abbrev cap : Capacity
+  cap = capacityOf w
+
+  abbrev g : Graph
+  g = graphOf w c
+
+  -- what is lacking in the state above
+  abbrev lacked : RowSet
+  lacked = lacking (P .table) s (inverse ρ) (nodeAt g p .rows)
+
+  -- the set is finished, without a clash
+  pub record Finished : Type 0 where
+    pub clean : clash P s ≡ false
+    pub finished : unfinished (P .table) s ≡ false
+
+  -- and l is what is lacking, with b for nothing
+  pub record Weighed (l : RowSet) (b : Bool) : Type 0 where
+    pub finished : Finished
+    pub is : l ≡ lacked
+    pub test : b ≡ eqb l empty
+
+  -- and nothing is lacking
+  pub record Complete : Type 0 where
+    pub finished : Finished
+    pub nothing : eqb lacked empty ≡ true
+
+  -- and the special node is made and linked
+  pub record Linked (w₁ : Work) (c₁ : Counts) : Type 0 where
+    pub complete : Complete
+    pub gives : Refines w c (Done c₁) w₁ (λ k h. linkSpecial k p ρ s h)
+
+  -- what holds one unit of fuel up holds with any that suffices
+  fueled : {r : Step} {w′ : Work} → ((f : ℕ) → lacks ws s ≤ f → Refines w c r w′ (λ k h. puts ws (suc f) k m p ρ s h)) → PutGives ws w c m p ρ s r w′
+  fueled h zero few = absurd (not-suc-le-zero few)
+  fueled h (suc f) few = h f (omega arith)
+
+  above-there : p < c .nodes
+  above-there = omega (arith, A .fit .pre .place .there, count-nodes w c)
+
+  pub put-joins : (p < c .nodes) × Held (work n e a) c
+  put-joins = (above-there, A .held)
+
+  -- ---- a node that needs no more
+
+  child : {n′ e′ : Bytes} {r : Step} {v u : Node} → v ≡ u → AddsBelow n n′ e e′ c r (addChild m v) → Refines w c r (work n′ e′ a) (addChild m u)
+  child {n′} {e′} {r} q B = subst (λ (u : Node). Refines w c r (work n′ e′ a) (addChild m u)) q (B a (A .held))
+
+  module _ {b : Bool} (hb : b ≡ clash P s) where
+    pub put-clashes : b ≡ true → (v : D.Node) → nodeOf v ≡ below p ρ s unsat unlinked
+        → {n′ e′ : Bytes} {r : Step} → AddsBelow n n′ e e′ c r (addChild m (nodeOf v)) → PutGives ws (work n e a) c m p ρ s r (work n′ e′ a)
+    put-clashes q v hv B = fueled (λ f few. refines-as (child hv B) (put-clash P cap f m p ρ s g (sym hb ∙ q)))
+
+    module _ (q : b ≡ false) {d : Bool} (hd : d ≡ unfinished (P .table) s) where
+      pub put-waits : d ≡ true → (v : D.Node) → nodeOf v ≡ below p ρ s unset unlinked
+          → {n′ e′ : Bytes} {r : Step} → AddsBelow n n′ e e′ c r (addChild m (nodeOf v)) → PutGives ws (work n e a) c m p ρ s r (work n′ e′ a)
+      put-waits u v hv B = fueled (λ f few. refines-as (child hv B) (put-unfinished P cap f m p ρ s g (sym hb ∙ q) (sym hd ∙ u)))
+
+      pub put-finished : d ≡ false → Finished
+      put-finished u = record { clean = sym hb ∙ q; finished = sym hd ∙ u }
+
+  -- with the state above as it was loaded
+  pub put-weighed : Finished → (v : D.Node) → nodeOf v ≡ nodeIn n p → {ι : ℕ} → ι ≡ inverse ρ → {l : RowSet} → l ≡ lacking (P .table) s ι (valueOf (v .rows))
+      → {b : Bool} → b ≡ eqb l empty → Weighed l b
+  put-weighed F v hv hι hl hb = record {
+    finished = F;
+    is = hl ∙ ap (λ (i : ℕ). lacking (P .table) s i (valueOf (v .rows))) hι ∙ ap (λ (u : Node). lacking (P .table) s (inverse ρ) (u .rows)) (hv ∙ sym (graph-node w c p above-there));
+    test = hb;
+  }
+
+-- ---- a finished set
+
+module _ {ws : List ℕ} {n e a : Bytes} {c : Counts} {m p ρ : ℕ} {s : RowSet} {A : PutAsks ws (work n e a) c m p ρ s} {l : RowSet} {b : Bool} (W : Weighed A l b) where
+  tested : {v : Bool} → b ≡ v → eqb (lacked A) empty ≡ v
+  tested q = ap (λ (x : RowSet). eqb x empty) (sym (W .is)) ∙ sym (W .test) ∙ q
+
+  pub put-lapses : b ≡ false → {w′ : Work} {r : Step} → Refines (work n e a) c r w′ (addLapsed m p ρ s l) → PutGives ws (work n e a) c m p ρ s r w′
+  put-lapses q {w′} {r} B = fueled A (λ f few.
+      refines-as (subst (λ (x : RowSet). Refines (w A) c r w′ (addLapsed m p ρ s x)) (W .is) B)
+      (put-lapsed (P A) (cap A) f m p ρ s (g A) (W .finished .clean) (W .finished .finished) (tested q)))
+
+  pub put-complete : b ≡ true → Complete A
+  put-complete q = record { finished = W .finished; nothing = tested q }
+
+-- ---- nothing is lacking: the special node
+
+module _ {ws : List ℕ} {n e a : Bytes} {c : Counts} {m p ρ : ℕ} {s : RowSet} {A : PutAsks ws (work n e a) c m p ρ s} (K : Complete A) where
+  -- the judgement that follows, with so much fuel, and the edge that comes last
+  abbrev pub judging : ℕ → Graph → Operation
+  judging f u k h = judge (puts ws f k) (nodeCount u) h
+
+  abbrev pub closing : Graph → Operation
+  closing u k h = addEdge k m (nodeCount u) h
+
+  -- the put is this
+  pub put-is : (f : ℕ) → puts ws (suc f) (cap A) m p ρ s (g A) ≡ (linkSpecial (cap A) p ρ s (g A) >>= judging f (g A) (cap A) >>= closing (g A) (cap A))
+  put-is f = put-linked (P A) (cap A) f m p ρ s (g A) (K .finished .clean) (K .finished .finished) (K .nothing)
+
+  module _ {n₁ e₁ : Bytes} {r₁ : Step} (L : AddsBelow n n₁ e e₁ c r₁ (λ k h. linkSpecial k p ρ s h)) where
+    pub put-link-short : {x : Area} → r₁ ≡ Full x → PutGives ws (work n e a) c m p ρ s (Full x) (work n₁ e₁ a)
+    put-link-short er = fueled A (λ f few. refines-as (refines-short (refines-short (refines-answer (L a (A .held)) er) (judging f) sized-refl) closing sized-refl) (put-is f))
+
+    pub put-links : {c₁ : Counts} → r₁ ≡ Done c₁ → Linked A (work n₁ e₁ a) c₁
+    put-links er = record { complete = K; gives = refines-answer (L a (A .held)) er }
+
+-- ---- the special node is made: its judgement, and its edge
+
+module _ {ws : List ℕ} {n e a : Bytes} {c : Counts} {m p ρ : ℕ} {s : RowSet} {A : PutAsks ws (work n e a) c m p ρ s} {w₁ : Work} {c₁ : Counts} (L : Linked A w₁ c₁) where
+  abbrev g₁ : Graph
+  g₁ = graphOf w₁ c₁
+
+  abbrev S : Setting
+  S = bare (P A) (cap A) (A .fit .fit .wellPosed)
+
+  started : Started S Anyone (g A) p ρ s g₁
+  started =
+      let B = A .fit .pre in
+      let K = L .complete in
+      subst (λ (r : Result). Sure (Started S Anyone (g A) p ρ s) r) (sym (L .gives .meets))
+      (special-started S Anyone (g A) p ρ s (A .fit .fit .inv) (B .place) (eqb→eq (lacked A) empty (from-true (eqb (lacked A) empty) (K .nothing))) (anyone-quiet S (g A)) (B .bounded) (B .rules)
+      (from-false (clash (P A) s) (K .finished .clean)) (from-false (unfinished (P A .table) s) (K .finished .finished)))
+
+  -- the judgement of the new node may rely on this
+  pub put-judge-asks : JudgeAsks ws w₁ c₁ (c .nodes)
+  put-judge-asks =
+      let K = started in
+      subst (λ (i : ℕ). JudgeAsks ws w₁ c₁ i) (count-nodes (w A) c) (
+      record {
+        decoded = A .decoded;
+        held = refines-held (L .gives);
+        fit = subst (λ (k : Capacity). JudgeFit (P A) k g₁ (nodeCount (g A))) (sym (sized-places (L .gives .sized))) (record {
+          fit = record { wellPosed = A .fit .fit .wellPosed; inv = K .made .inv };
+          there = K .made .fresh .there;
+          live = K .live;
+          edge = λ y v. let u : K .state ≡ y = cc (K .link, v) in subst (λ (i : ℕ). Child g₁ (nodeCount (g A)) i) u (K .edge);
+        });
+      })
+
+  -- it has the set that is put
+  new-rows : nodeAt g₁ (c .nodes) .rows ≡ s
+  new-rows = subst (λ (i : ℕ). nodeAt g₁ i .rows ≡ s) (count-nodes (w A) c) (started .made .fresh .rows)
+
+  pub put-judge-falls : 4 * lacks ws (nodeAt g₁ (c .nodes) .rows) + 2 < 4 * lacks ws s + 3
+  put-judge-falls = rw new-rows (omega arith)
+
+  module _ {n₂ e₂ a₂ : Bytes} {r₂ : Step} (J : JudgeGives ws w₁ c₁ (c .nodes) r₂ (work n₂ e₂ a₂)) where
+    judged : {r : Step} → r₂ ≡ r → (f : ℕ) → lacks ws s ≤ f → Refines (w A) c r (work n₂ e₂ a₂) (λ k h. linkSpecial k p ρ s h >>= judging (L .complete) f h k)
+    judged {r} er f few = refines-then (L .gives) (judging (L .complete) f)
+        (subst (λ (i : ℕ). Refines w₁ c₁ r (work n₂ e₂ a₂) (λ k h. judge (puts ws f k) i h)) (sym (count-nodes (w A) c))
+        (refines-answer (J f (subst (λ (x : RowSet). lacks ws x ≤ f) (sym new-rows) few)) er))
+
+    pub put-judge-short : {x : Area} → r₂ ≡ Full x → PutGives ws (work n e a) c m p ρ s (Full x) (work n₂ e₂ a₂)
+    put-judge-short er = fueled A (λ f few. refines-as (refines-short (judged er f few) (closing (L .complete)) sized-refl) (put-is (L .complete) f))
+
+    pub put-judged : {c₂ : Counts} → r₂ ≡ Done c₂ → {e₃ : Bytes} {r₃ : Step} → AddsEdge e₂ e₃ c₂ r₃ (λ k h. addEdge k m (c .nodes) h)
+        → PutGives ws (work n e a) c m p ρ s r₃ (work n₂ e₃ a₂)
+    put-judged {c₂} er {e₃} {r₃} E = fueled A (λ f few.
+        let B = judged er f few in
+        refines-as (refines-then B (closing (L .complete))
+        (subst (λ (i : ℕ). Refines (work n₂ e₂ a₂) c₂ r₃ (work n₂ e₃ a₂) (λ k h. addEdge k m i h))
+        (sym (count-nodes (w A) c)) (E n₂ a₂ (refines-held B)))) (put-is (L .complete) f))
