@@ -1,7 +1,7 @@
 -- Laws of RowParts.
 --
 -- In order: the parts of a row that is not malformed are its bytes (`Parts`, `row-parts`); a kind is below 16 (`kindOf-lt`);
--- the views of a concept, by its parts (`asAtomic-parts`, ..).
+-- the views of a concept, by its parts (`views-by-parts`).
 -- Assumes nothing.
 use mathlib.Core.Path.{_≡_, refl, sym, _∙_}
 use mathlib.Core.Bool.{false, _&&_, cond}
@@ -118,56 +118,19 @@ kindOf-lt (exist ρ l) = omega arith
 
 -- ---- the views of a concept, by its parts
 
-pub asAtomic-parts : (c : Concept) → asAtomic c ≡ cond (eqb (kindOf c) 1) (some (leftOf c)) none
-unfolding kindOf leftOf
-asAtomic-parts (atomic a) = refl
-asAtomic-parts (negated a) = refl
-asAtomic-parts (conj l r) = refl
-asAtomic-parts (disj l r) = refl
-asAtomic-parts (univ ρ l) = refl
-asAtomic-parts (exist ρ l) = refl
+pub record ViewsByParts (c : Concept) : Type 0 where
+  pub atomic-is : asAtomic c ≡ cond (eqb (kindOf c) 1) (some (leftOf c)) none
+  pub negated-is : asNegated c ≡ cond (eqb (kindOf c) 2) (some (leftOf c)) none
+  pub conj-is : asConj c ≡ cond (eqb (kindOf c) 3) (some (leftOf c, rightOf c)) none
+  pub disj-is : asDisj c ≡ cond (eqb (kindOf c) 4) (some (leftOf c, rightOf c)) none
+  pub univ-is : asUniv c ≡ cond (eqb (kindOf c) 5) (some (roleOf c, leftOf c)) none
+  pub exist-is : asExist c ≡ cond (eqb (kindOf c) 6) (some (roleOf c, leftOf c)) none
 
-pub asNegated-parts : (c : Concept) → asNegated c ≡ cond (eqb (kindOf c) 2) (some (leftOf c)) none
-unfolding kindOf leftOf
-asNegated-parts (atomic a) = refl
-asNegated-parts (negated a) = refl
-asNegated-parts (conj l r) = refl
-asNegated-parts (disj l r) = refl
-asNegated-parts (univ ρ l) = refl
-asNegated-parts (exist ρ l) = refl
-
-pub asConj-parts : (c : Concept) → asConj c ≡ cond (eqb (kindOf c) 3) (some (leftOf c, rightOf c)) none
-unfolding kindOf leftOf rightOf
-asConj-parts (atomic a) = refl
-asConj-parts (negated a) = refl
-asConj-parts (conj l r) = refl
-asConj-parts (disj l r) = refl
-asConj-parts (univ ρ l) = refl
-asConj-parts (exist ρ l) = refl
-
-pub asDisj-parts : (c : Concept) → asDisj c ≡ cond (eqb (kindOf c) 4) (some (leftOf c, rightOf c)) none
-unfolding kindOf leftOf rightOf
-asDisj-parts (atomic a) = refl
-asDisj-parts (negated a) = refl
-asDisj-parts (conj l r) = refl
-asDisj-parts (disj l r) = refl
-asDisj-parts (univ ρ l) = refl
-asDisj-parts (exist ρ l) = refl
-
-pub asUniv-parts : (c : Concept) → asUniv c ≡ cond (eqb (kindOf c) 5) (some (roleOf c, leftOf c)) none
-unfolding kindOf roleOf leftOf
-asUniv-parts (atomic a) = refl
-asUniv-parts (negated a) = refl
-asUniv-parts (conj l r) = refl
-asUniv-parts (disj l r) = refl
-asUniv-parts (univ ρ l) = refl
-asUniv-parts (exist ρ l) = refl
-
-pub asExist-parts : (c : Concept) → asExist c ≡ cond (eqb (kindOf c) 6) (some (roleOf c, leftOf c)) none
-unfolding kindOf roleOf leftOf
-asExist-parts (atomic a) = refl
-asExist-parts (negated a) = refl
-asExist-parts (conj l r) = refl
-asExist-parts (disj l r) = refl
-asExist-parts (univ ρ l) = refl
-asExist-parts (exist ρ l) = refl
+pub views-by-parts : (c : Concept) → ViewsByParts c
+unfolding kindOf roleOf leftOf rightOf
+views-by-parts (atomic a) = record { atomic-is = refl; negated-is = refl; conj-is = refl; disj-is = refl; univ-is = refl; exist-is = refl }
+views-by-parts (negated a) = record { atomic-is = refl; negated-is = refl; conj-is = refl; disj-is = refl; univ-is = refl; exist-is = refl }
+views-by-parts (conj l r) = record { atomic-is = refl; negated-is = refl; conj-is = refl; disj-is = refl; univ-is = refl; exist-is = refl }
+views-by-parts (disj l r) = record { atomic-is = refl; negated-is = refl; conj-is = refl; disj-is = refl; univ-is = refl; exist-is = refl }
+views-by-parts (univ ρ l) = record { atomic-is = refl; negated-is = refl; conj-is = refl; disj-is = refl; univ-is = refl; exist-is = refl }
+views-by-parts (exist ρ l) = record { atomic-is = refl; negated-is = refl; conj-is = refl; disj-is = refl; univ-is = refl; exist-is = refl }

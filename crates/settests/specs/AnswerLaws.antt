@@ -24,7 +24,7 @@ use Rattle.procedure.specs.ProblemLaws.{opposed-one-name, one-name-opposed}
 use Rattle.procedure.specs.SetTests.{concepts, clash, unfinishedConj, unfinishedDisj, lowestConj, lowestDisj, univArgument, box, lacking}
 use Rattle.procedure.specs.SetTestLaws.{concept-mem, mem-concept, clash-found, no-clash, lacking-mem, mem-lacking}
 use Rattle.decoding.specs.RowParts.{kindOf, leftOf, rightOf}
-use Rattle.decoding.specs.RowPartLaws.{asAtomic-parts, asNegated-parts, asConj-parts, asDisj-parts, asUniv-parts}
+use Rattle.decoding.specs.RowPartLaws.{views-by-parts}
 use Rattle.problem.specs.Decoded.{Picked, ofKind, universal}
 use Rattle.settests.specs.SetLoops.{answers-low, first-low, answers-empty, first-empty}
 use Rattle.settests.specs.Answers.{leftPart, finishedBy, openArguments}
@@ -92,17 +92,17 @@ only-conj : (s : RowSet) (c : Concept) → unfinishedConj s c ≡ cond (ofKind 3
 unfolding ofKind openArguments finishedBy
 only-conj s c =
     let outside : ℕ × ℕ → Bool = λ lr. not (mem (lr .0) s && mem (lr .1) s) in
-    ap (provided outside) (asConj-parts c) ∙ only-open outside (eqb (kindOf c) 3) (leftOf c, rightOf c)
+    ap (provided outside) (views-by-parts c .conj-is) ∙ only-open outside (eqb (kindOf c) 3) (leftOf c, rightOf c)
 
 only-disj : (s : RowSet) (c : Concept) → unfinishedDisj s c ≡ cond (ofKind 4 c) (openArguments 4 s c) none
 unfolding ofKind openArguments finishedBy
 only-disj s c =
     let outside : ℕ × ℕ → Bool = λ lr. not (mem (lr .0) s || mem (lr .1) s) in
-    ap (provided outside) (asDisj-parts c) ∙ only-open outside (eqb (kindOf c) 4) (leftOf c, rightOf c)
+    ap (provided outside) (views-by-parts c .disj-is) ∙ only-open outside (eqb (kindOf c) 4) (leftOf c, rightOf c)
 
 only-univ : (ρ : ℕ) (c : Concept) → univArgument ρ c ≡ cond (universal ρ c) (leftPart c) none
 unfolding universal leftPart
-only-univ ρ c = ap along (asUniv-parts c) ∙ by-kind (eqb (kindOf c) 5)
+only-univ ρ c = ap along (views-by-parts c .univ-is) ∙ by-kind (eqb (kindOf c) 5)
   where
     along : Option (ℕ × ℕ) → Option ℕ
     along o = elim o [ some u ↦ cond (eqb (u .0) ρ) (some (u .1)) none | none ↦ none ]
@@ -191,5 +191,5 @@ module _ (P : Problem) (by-names : (j k : ℕ) → P .opposed j k ≡ opposedNam
   unfolding ofKind leftPart
   clash-masked p q =
       ap₂ (λ (x y : List ℕ). not (eqb (common (fromList x) (fromList y)) empty))
-      (masked-answers s p leftPart asAtomic asAtomic-parts) (masked-answers s q leftPart asNegated asNegated-parts)
+      (masked-answers s p leftPart asAtomic (λ c. views-by-parts c .atomic-is)) (masked-answers s q leftPart asNegated (λ c. views-by-parts c .negated-is))
       ∙ names-clash

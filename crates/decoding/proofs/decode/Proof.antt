@@ -7,58 +7,41 @@ use Rattle.decoding.specs.DecodingLaws.{named-refused, named-literal, na
 use Rattle.decoding.proofs.decode.Statement.{statement}
 use Rattle.decoding.proofs.decode.Tie as tie
 
-allowed-requires : tie.Need-allowed-requires
-allowed-requires c κs = search needs
-
 returns : tie.Need-returns
 returns c =
     let a = c .before .before .args in
     sym (named-refused (a .kinds) (a .kind) (a .role) (a .left) (a .right) (sym (c .before .allowed .ensures) ∙ not-true _ (c .if1 .taken)))
 
-only-requires : tie.Need-only-requires
-only-requires c κs = search needs
-
 returns-2 : tie.Need-returns-2
 returns-2 c =
-    let a = c .before .before .before .before .args in
+    let begun : tie.Start = search in
+    let a = begun .args in
     let allowed = sym (c .before .before .before .allowed .ensures) ∙ not-false _ (c .before .before .if1 .left) in
     c .only .ensures ∙ sym (named-literal (a .kinds) (a .kind) (a .role) (a .left) (a .right) allowed (c .before .if2 .taken))
 
-only-requires-2 : tie.Need-only-requires-2
-only-requires-2 c κs = search needs
-
 returns-3 : tie.Need-returns-3
 returns-3 c =
-    let a = c .before .before .before .before .before .args in
+    let begun : tie.Start = search in
+    let a = begun .args in
     let allowed = sym (c .before .before .before .before .allowed .ensures) ∙ not-false _ (c .before .before .before .if1 .left) in
     c .only2 .ensures ∙ sym (named-binary (a .kinds) (a .kind) (a .role) (a .left) (a .right) allowed (c .before .before .if2 .left) (c .before .if3 .taken))
 
-only-requires-3 : tie.Need-only-requires-3
-only-requires-3 c κs = search needs
-
 returns-4 : tie.Need-returns-4
 returns-4 c =
-    let a = c .before .before .before .before .before .before .args in
+    let begun : tie.Start = search in
+    let a = begun .args in
     let allowed = sym (c .before .before .before .before .before .allowed .ensures) ∙ not-false _ (c .before .before .before .before .if1 .left) in
     c .only3 .ensures
     ∙ sym (named-modal (a .kinds) (a .kind) (a .role) (a .left) (a .right) allowed (c .before .before .before .if2 .left) (c .before .before .if3 .left) (c .before .if4 .taken))
 
 returns-5 : tie.Need-returns-5
 returns-5 c =
-    let a = c .before .before .before .before .before .args in
+    let begun : tie.Start = search in
+    let a = begun .args in
     let allowed = sym (c .before .before .before .before .allowed .ensures) ∙ not-false _ (c .before .before .before .if1 .left) in
     sym (named-unknown (a .kinds) (a .kind) (a .role) (a .left) (a .right) allowed (c .before .before .if2 .left) (c .before .if3 .left) (c .if4 .left))
 
 pub decode-spec : {M : Type 1} → statement M
 decode-spec =
-    tie.close
-    (tie.spec
-    allowed-requires
-    returns
-    only-requires
-    returns-2
-    only-requires-2
-    returns-3
-    only-requires-3
-    returns-4
-    returns-5)
+    tie.close (tie.spec
+    (λ c κs. search needs) returns (λ c κs. search needs) returns-2 (λ c κs. search needs) returns-3 (λ c κs. search needs) returns-4 returns-5)

@@ -7,13 +7,12 @@ use Rattle.rulefile.specs.ReadLaws.{take-textOf}
 use Rattle.engine.proofs.gumbyra_text.Statement.{statement}
 use Rattle.engine.proofs.gumbyra_text.Tie as tie
 
-text-requires : tie.Need-text-requires
-text-requires c κs = search needs
-
 returns : tie.Need-returns
 returns c =
     let text = c .text .ensures .0 in
     (ap length text, rw text (take-textOf ruleKinds (c .before .before .args .file .now)))
 
 pub gumbyra-text-spec : {M : Type 1} → statement M
-gumbyra-text-spec = tie.close (tie.spec text-requires returns)
+gumbyra-text-spec =
+    tie.close (tie.spec
+    (λ c κs. search needs) returns)

@@ -6,16 +6,12 @@ use borrow.Author.Needs.{needs}
 use Rattle.printing.proofs.byte_of.Statement.{statement}
 use Rattle.printing.proofs.byte_of.Tie as tie
 
-shared-slice-read-result : tie.Need-shared-slice-read-result
-shared-slice-read-result c = search needs
-
-returns : tie.Need-returns
-returns c = search needs
-
 returns-2 : tie.Need-returns-2
 returns-2 c =
     let a = c .before .args in
     sym (List·getD-eq-default (a .area .now) 0 (c .if1 .left))
 
 pub byte-of-spec : {M : Type 1} → statement M
-byte-of-spec = tie.close (tie.spec shared-slice-read-result returns returns-2)
+byte-of-spec =
+    tie.close (tie.spec
+    (λ c. search needs) (λ c. search needs) returns-2)

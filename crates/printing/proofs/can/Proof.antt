@@ -6,24 +6,6 @@ use borrow.Author.Needs.{needs}
 use Rattle.printing.proofs.can.Statement.{statement}
 use Rattle.printing.proofs.can.Tie as tie
 
-slice-aggregate-line-of-two : tie.Need-slice-aggregate-line-of-two
-slice-aggregate-line-of-two c = search needs
-
-line-of-two-requires : tie.Need-line-of-two-requires
-line-of-two-requires c κs = search needs
-
-used-line-requires : tie.Need-used-line-requires
-used-line-requires c κs = search needs
-
-element-lines-requires : tie.Need-element-lines-requires
-element-lines-requires c κs = search needs
-
-link-lines-requires : tie.Need-link-lines-requires
-link-lines-requires c κs = search needs
-
-same-length : tie.Need-same-length
-same-length c = search needs
-
 returns : tie.Need-returns
 returns c =
     let at-link-lines = c .before .before in
@@ -37,12 +19,5 @@ returns c =
 
 pub can-spec : {M : Type 1} → statement M
 can-spec =
-    tie.close
-    (tie.spec
-    slice-aggregate-line-of-two
-    line-of-two-requires
-    used-line-requires
-    element-lines-requires
-    link-lines-requires
-    same-length
-    returns)
+    tie.close (tie.spec
+    (λ c. search needs) (λ c κs. search needs) (λ c κs. search needs) (λ c κs. search needs) (λ c κs. search needs) (λ c. search needs) returns)

@@ -6,18 +6,6 @@ use borrow.Author.Needs.{needs}
 use Rattle.printing.proofs.cannot.Statement.{statement}
 use Rattle.printing.proofs.cannot.Tie as tie
 
-slice-aggregate-word : tie.Need-slice-aggregate-word
-slice-aggregate-word c = search needs
-
-word-requires : tie.Need-word-requires
-word-requires c κs = search needs
-
-used-line-requires : tie.Need-used-line-requires
-used-line-requires c κs = search needs
-
-same-length : tie.Need-same-length
-same-length c = search needs
-
 returns : tie.Need-returns
 returns c =
     let at-used-line = c .before .before in
@@ -27,4 +15,5 @@ returns c =
 
 pub cannot-spec : {M : Type 1} → statement M
 cannot-spec =
-    tie.close (tie.spec slice-aggregate-word word-requires used-line-requires same-length returns)
+    tie.close (tie.spec
+    (λ c. search needs) (λ c κs. search needs) (λ c κs. search needs) (λ c. search needs) returns)

@@ -6,30 +6,6 @@ use borrow.Author.Needs.{needs}
 use Rattle.printing.proofs.element_line.Statement.{statement}
 use Rattle.printing.proofs.element_line.Tie as tie
 
-mul-word-of : tie.Need-mul-word-of
-mul-word-of c = search needs
-
-word-of-requires : tie.Need-word-of-requires
-word-of-requires c κs = search needs
-
-put-requires : tie.Need-put-requires
-put-requires c κs = search needs
-
-number-requires : tie.Need-number-requires
-number-requires c κs = search needs
-
-put-requires-2 : tie.Need-put-requires-2
-put-requires-2 c κs = search needs
-
-hexadecimal-requires : tie.Need-hexadecimal-requires
-hexadecimal-requires c κs = search needs
-
-put-requires-3 : tie.Need-put-requires-3
-put-requires-3 c κs = search needs
-
-same-length : tie.Need-same-length
-same-length c = search needs
-
 returns : tie.Need-returns
 returns c =
     let at-put3 = c .before .before in
@@ -45,14 +21,6 @@ returns c =
 
 pub element-line-spec : {M : Type 1} → statement M
 element-line-spec =
-    tie.close
-    (tie.spec
-    mul-word-of
-    word-of-requires
-    put-requires
-    number-requires
-    put-requires-2
-    hexadecimal-requires
-    put-requires-3
-    same-length
-    returns)
+    tie.close (tie.spec
+    (λ c. search needs) (λ c κs. search needs) (λ c κs. search needs) (λ c κs. search needs) (λ c κs. search needs) (λ c κs. search needs)
+    (λ c κs. search needs) (λ c. search needs) returns)

@@ -24,12 +24,6 @@ element-line-requires : tie.Need-element-line-requires Inv-loop μ-loop
 element-line-requires c κs =
     omega (arith, c .before .before .loop .inv .wrote .after, c .before .before .loop .inv .wrote .bounded)
 
-add-d : tie.Need-add-d Inv-loop μ-loop
-add-d c = omega arith
-
-loop-less : tie.Need-loop-less Inv-loop μ-loop
-loop-less c = omega arith
-
 loop-again : tie.Need-loop-again Inv-loop μ-loop
 loop-again c =
     let at-element-line = c .before .before in
@@ -45,19 +39,11 @@ same-length c = wrote-size (c .before .loop .inv .wrote)
 
 returns : tie.Need-returns Inv-loop μ-loop
 returns c =
-    let a = c .before .before .before .before .args in
+    let begun : tie.Start Inv-loop μ-loop = search in
+    let a = begun .args in
     pieces-all (elementLines (a .elements .now)) 30 (a .count) (c .before .loop .inv) (c .loop-test .left)
 
 pub element-lines-spec : {M : Type 1} → statement M
 element-lines-spec =
-    tie.close
-    (tie.spec
-    Inv-loop
-    μ-loop
-    loop-holds
-    element-line-requires
-    add-d
-    loop-less
-    loop-again
-    same-length
-    returns)
+    tie.close (tie.spec
+    Inv-loop μ-loop loop-holds element-line-requires (λ c. omega arith) (λ c. omega arith) loop-again same-length returns)

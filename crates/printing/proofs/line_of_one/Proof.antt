@@ -5,18 +5,6 @@ use borrow.Author.Needs.{needs}
 use Rattle.printing.proofs.line_of_one.Statement.{statement}
 use Rattle.printing.proofs.line_of_one.Tie as tie
 
-word-requires : tie.Need-word-requires
-word-requires c κs = search needs
-
-number-requires : tie.Need-number-requires
-number-requires c κs = search needs
-
-put-requires : tie.Need-put-requires
-put-requires c κs = search needs
-
-same-length : tie.Need-same-length
-same-length c = search needs
-
 returns : tie.Need-returns
 returns c =
     let at-put = c .before .before in
@@ -28,4 +16,5 @@ returns c =
 
 pub line-of-one-spec : {M : Type 1} → statement M
 line-of-one-spec =
-    tie.close (tie.spec word-requires number-requires put-requires same-length returns)
+    tie.close (tie.spec
+    (λ c κs. search needs) (λ c κs. search needs) (λ c κs. search needs) (λ c. search needs) returns)

@@ -5,24 +5,6 @@ use borrow.Author.Needs.{needs}
 use Rattle.printing.proofs.line_of_three.Statement.{statement}
 use Rattle.printing.proofs.line_of_three.Tie as tie
 
-word-requires : tie.Need-word-requires
-word-requires c κs = search needs
-
-number-requires : tie.Need-number-requires
-number-requires c κs = search needs
-
-number-requires-2 : tie.Need-number-requires-2
-number-requires-2 c κs = search needs
-
-number-requires-3 : tie.Need-number-requires-3
-number-requires-3 c κs = search needs
-
-put-requires : tie.Need-put-requires
-put-requires c κs = search needs
-
-same-length : tie.Need-same-length
-same-length c = search needs
-
 returns : tie.Need-returns
 returns c =
     let at-put = c .before .before in
@@ -36,12 +18,5 @@ returns c =
 
 pub line-of-three-spec : {M : Type 1} → statement M
 line-of-three-spec =
-    tie.close
-    (tie.spec
-    word-requires
-    number-requires
-    number-requires-2
-    number-requires-3
-    put-requires
-    same-length
-    returns)
+    tie.close (tie.spec
+    (λ c κs. search needs) (λ c κs. search needs) (λ c κs. search needs) (λ c κs. search needs) (λ c κs. search needs) (λ c. search needs) returns)

@@ -24,12 +24,6 @@ link-line-requires : tie.Need-link-line-requires Inv-loop μ-loop
 link-line-requires c κs =
     omega (arith, c .before .before .loop .inv .wrote .after, c .before .before .loop .inv .wrote .bounded)
 
-add-i : tie.Need-add-i Inv-loop μ-loop
-add-i c = omega arith
-
-loop-less : tie.Need-loop-less Inv-loop μ-loop
-loop-less c = omega arith
-
 loop-again : tie.Need-loop-again Inv-loop μ-loop
 loop-again c =
     let at-link-line = c .before .before in
@@ -44,19 +38,11 @@ same-length c = wrote-size (c .before .loop .inv .wrote)
 
 returns : tie.Need-returns Inv-loop μ-loop
 returns c =
-    let a = c .before .before .before .before .args in
+    let begun : tie.Start Inv-loop μ-loop = search in
+    let a = begun .args in
     pieces-all (linkLines (a .links .now)) 35 (a .count) (c .before .loop .inv) (c .loop-test .left)
 
 pub link-lines-spec : {M : Type 1} → statement M
 link-lines-spec =
-    tie.close
-    (tie.spec
-    Inv-loop
-    μ-loop
-    loop-holds
-    link-line-requires
-    add-i
-    loop-less
-    loop-again
-    same-length
-    returns)
+    tie.close (tie.spec
+    Inv-loop μ-loop loop-holds link-line-requires (λ c. omega arith) (λ c. omega arith) loop-again same-length returns)

@@ -5,18 +5,11 @@ use borrow.Author.Needs.{needs}
 use Rattle.printing.proofs.number.Statement.{statement}
 use Rattle.printing.proofs.number.Tie as tie
 
-put-requires : tie.Need-put-requires
-put-requires c κs = search needs
-
-decimal-requires : tie.Need-decimal-requires
-decimal-requires c κs = search needs
-
-same-length : tie.Need-same-length
-same-length c = search needs
-
 returns : tie.Need-returns
 returns c =
     wrote-then (c .before .before .before .before .before .before .put .ensures) (c .before .before .decimal .ensures)
 
 pub number-spec : {M : Type 1} → statement M
-number-spec = tie.close (tie.spec put-requires decimal-requires same-length returns)
+number-spec =
+    tie.close (tie.spec
+    (λ c κs. search needs) (λ c κs. search needs) (λ c. search needs) returns)

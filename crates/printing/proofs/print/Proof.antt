@@ -7,35 +7,19 @@ use borrow.Author.Needs.{needs}
 use Rattle.printing.proofs.print.Statement.{statement}
 use Rattle.printing.proofs.print.Tie as tie
 
-can-requires : tie.Need-can-requires
-can-requires c κs = search needs
-
-same-length : tie.Need-same-length
-same-length c = search needs
-
 returns : tie.Need-returns
 returns c =
-    let a = c .before .before .before .before .before .before .before .before .before .args in
+    let begun : tie.Start = search in
+    let a = begun .args in
     let choice = printed-can (numbersOf (a .answer)) (a .elements .now) (a .links .now) (c .before .before .before .before .if1 .taken) in
     wrote-whole (c .before .before .can .ensures) choice (omega arith) (λ other. absurd (other (c .before .before .before .before .if1 .taken)))
 
-cannot-requires : tie.Need-cannot-requires
-cannot-requires c κs = search needs
-
-same-length-2 : tie.Need-same-length-2
-same-length-2 c = search needs
-
 returns-2 : tie.Need-returns-2
 returns-2 c =
-    let a = c .before .before .before .before .before .before .before .before .before .before .before .args in
+    let begun : tie.Start = search in
+    let a = begun .args in
     let choice = printed-cannot (numbersOf (a .answer)) (a .elements .now) (a .links .now) (c .before .before .before .before .if2 .taken) in
     wrote-whole (c .before .before .cannot .ensures) choice (omega arith) (λ other. omega arith)
-
-refused-requires : tie.Need-refused-requires
-refused-requires c κs = search needs
-
-same-length-3 : tie.Need-same-length-3
-same-length-3 c = search needs
 
 returns-3 : tie.Need-returns-3
 returns-3 c =
@@ -49,14 +33,6 @@ returns-3 c =
 
 pub print-spec : {M : Type 1} → statement M
 print-spec =
-    tie.close
-    (tie.spec
-    can-requires
-    same-length
-    returns
-    cannot-requires
-    same-length-2
-    returns-2
-    refused-requires
-    same-length-3
+    tie.close (tie.spec
+    (λ c κs. search needs) (λ c. search needs) returns (λ c κs. search needs) (λ c. search needs) returns-2 (λ c κs. search needs) (λ c. search needs)
     returns-3)

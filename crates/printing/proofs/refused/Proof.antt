@@ -6,30 +6,12 @@ use borrow.Author.Needs.{needs}
 use Rattle.printing.proofs.refused.Statement.{statement}
 use Rattle.printing.proofs.refused.Tie as tie
 
-slice-aggregate-line-of-three : tie.Need-slice-aggregate-line-of-three
-slice-aggregate-line-of-three c = search needs
-
-line-of-three-requires : tie.Need-line-of-three-requires
-line-of-three-requires c κs = search needs
-
-same-length : tie.Need-same-length
-same-length c = search needs
-
 returns : tie.Need-returns
 returns c =
     let at-line-of-three = c .before .before in
     let at-if1 = at-line-of-three .before .before .before in
     let start = at-if1 .before .before .before in
     wrote-too-long (numbersOf (start .args .answer)) (at-if1 .if1 .taken) (at-line-of-three .line-of-three .ensures)
-
-slice-aggregate-line-of-one : tie.Need-slice-aggregate-line-of-one
-slice-aggregate-line-of-one c = search needs
-
-line-of-one-requires : tie.Need-line-of-one-requires
-line-of-one-requires c κs = search needs
-
-same-length-2 : tie.Need-same-length-2
-same-length-2 c = search needs
 
 returns-2 : tie.Need-returns-2
 returns-2 c =
@@ -40,13 +22,5 @@ returns-2 c =
 
 pub refused-spec : {M : Type 1} → statement M
 refused-spec =
-    tie.close
-    (tie.spec
-    slice-aggregate-line-of-three
-    line-of-three-requires
-    same-length
-    returns
-    slice-aggregate-line-of-one
-    line-of-one-requires
-    same-length-2
-    returns-2)
+    tie.close (tie.spec
+    (λ c. search needs) (λ c κs. search needs) (λ c. search needs) returns (λ c. search needs) (λ c κs. search needs) (λ c. search needs) returns-2)

@@ -6,19 +6,11 @@ use borrow.Author.Needs.{needs}
 use Rattle.printing.proofs.used_line.Statement.{statement}
 use Rattle.printing.proofs.used_line.Tie as tie
 
-slice-aggregate-line-of-three : tie.Need-slice-aggregate-line-of-three
-slice-aggregate-line-of-three c = search needs
-
-line-of-three-requires : tie.Need-line-of-three-requires
-line-of-three-requires c κs = search needs
-
-same-length : tie.Need-same-length
-same-length c = search needs
-
 returns : tie.Need-returns
 returns c =
     wrote-used (numbersOf (c .before .before .before .before .before .before .args .answer)) (c .before .before .line-of-three .ensures)
 
 pub used-line-spec : {M : Type 1} → statement M
 used-line-spec =
-    tie.close (tie.spec slice-aggregate-line-of-three line-of-three-requires same-length returns)
+    tie.close (tie.spec
+    (λ c. search needs) (λ c κs. search needs) (λ c. search needs) returns)

@@ -21,18 +21,9 @@ loop-holds c =
     let a = c .before .before .args in
     pieces-none (λ (i : ℕ). take i (a .w .now)) 1 (length (a .w .now)) (a .out .now) (a .at) refl
 
-shared-slice-read-put : tie.Need-shared-slice-read-put Inv-loop μ-loop
-shared-slice-read-put c = search needs
-
 put-requires : tie.Need-put-requires Inv-loop μ-loop
 put-requires c κs =
     omega (arith, c .before .before .before .loop .inv .wrote .after, c .before .before .before .loop .inv .wrote .bounded)
-
-add-i : tie.Need-add-i Inv-loop μ-loop
-add-i c = omega arith
-
-loop-less : tie.Need-loop-less Inv-loop μ-loop
-loop-less c = omega arith
 
 loop-again : tie.Need-loop-again Inv-loop μ-loop
 loop-again c =
@@ -51,15 +42,5 @@ returns c =
 
 pub word-spec : {M : Type 1} → statement M
 word-spec =
-    tie.close
-    (tie.spec
-    Inv-loop
-    μ-loop
-    loop-holds
-    shared-slice-read-put
-    put-requires
-    add-i
-    loop-less
-    loop-again
-    same-length
-    returns)
+    tie.close (tie.spec
+    Inv-loop μ-loop loop-holds (λ c. search needs) put-requires (λ c. omega arith) (λ c. omega arith) loop-again same-length returns)

@@ -23,15 +23,6 @@ from-list-requires-2 c κs =
     let (ok, rules-listed, wanted-listed, enough) = c .before .before .before .before .before .pre in
     lists-rows ok wanted-listed
 
-put-rows-requires : tie.Need-put-rows-requires
-put-rows-requires c κs = search needs
-
-put-singles-requires : tie.Need-put-singles-requires
-put-singles-requires c κs = search needs
-
-same-length : tie.Need-same-length
-same-length c = search needs
-
 returns : tie.Need-returns
 returns c =
     let end = c .before .before in
@@ -46,11 +37,5 @@ returns c =
 
 pub decode-spec : {M : Type 1} → statement M
 decode-spec =
-    tie.close
-    (tie.spec
-    from-list-requires
-    from-list-requires-2
-    put-rows-requires
-    put-singles-requires
-    same-length
-    returns)
+    tie.close (tie.spec
+    from-list-requires from-list-requires-2 (λ c κs. search needs) (λ c κs. search needs) (λ c. search needs) returns)

@@ -4,16 +4,12 @@ use borrow.Author.Needs.{needs}
 use Rattle.problem.proofs.of_kind.Statement.{statement}
 use Rattle.problem.proofs.of_kind.Tie as tie
 
-add-load : tie.Need-add-load
-add-load c = search needs
-
-load-requires : tie.Need-load-requires
-load-requires c κs = search needs
-
 returns : tie.Need-returns
 returns c =
     let (ok, h) = c .before .before .pre in
     rw (c .load .ensures) (ok .kinds (c .before .before .args .kind) h)
 
 pub of-kind-spec : {M : Type 1} → statement M
-of-kind-spec = tie.close (tie.spec add-load load-requires returns)
+of-kind-spec =
+    tie.close (tie.spec
+    (λ c. search needs) (λ c κs. search needs) returns)

@@ -31,12 +31,6 @@ put-row-requires c κs =
     let s = at-loop .before .before .before .before .before .before .before in
     (s .pre .0, omega arith, at-loop .loop .inv .2 .enough)
 
-add-k : tie.Need-add-k Inv-loop μ-loop
-add-k c = omega arith
-
-loop-less : tie.Need-loop-less Inv-loop μ-loop
-loop-less c = omega arith
-
 loop-again : tie.Need-loop-again Inv-loop μ-loop
 loop-again c =
     let put = c .before .before in
@@ -52,21 +46,11 @@ same-length c = c .before .loop .inv .0 ∙ c .before .before .before .before .c
 returns : tie.Need-returns Inv-loop μ-loop
 returns c =
     let l = c .before .loop in
-    let s = c .before .before .before .before .before .before .before .before in
+    let s : tie.Start Inv-loop μ-loop = search in
     let all : l .k ≡ rowCount (s .args .rows .now) = omega arith in
     rw all at (l .inv .2)
 
 pub put-rows-spec : {M : Type 1} → statement M
 put-rows-spec =
-    tie.close
-    (tie.spec
-    Inv-loop
-    μ-loop
-    clear-requires
-    loop-holds
-    put-row-requires
-    add-k
-    loop-less
-    loop-again
-    same-length
-    returns)
+    tie.close (tie.spec
+    Inv-loop μ-loop clear-requires loop-holds put-row-requires (λ c. omega arith) (λ c. omega arith) loop-again same-length returns)

@@ -6,18 +6,6 @@ use borrow.Author.Needs.{needs}
 use Rattle.problem.proofs.role_at.Statement.{statement}
 use Rattle.problem.proofs.role_at.Tie as tie
 
-add-result : tie.Need-add-result
-add-result c = search needs
-
-mul-result : tie.Need-mul-result
-mul-result c = search needs
-
-shared-slice-read-result : tie.Need-shared-slice-read-result
-shared-slice-read-result c = search needs
-
-cast-result : tie.Need-cast-result
-cast-result c = search needs
-
 returns : tie.Need-returns
 returns c =
     let (ok, h) = c .before .pre in
@@ -25,4 +13,5 @@ returns c =
 
 pub role-at-spec : {M : Type 1} → statement M
 role-at-spec =
-    tie.close (tie.spec add-result mul-result shared-slice-read-result cast-result returns)
+    tie.close (tie.spec
+    (λ c. search needs) (λ c. search needs) (λ c. search needs) (λ c. search needs) returns)

@@ -5,22 +5,15 @@ use borrow.Author.Needs.{needs}
 use Rattle.problem.proofs.universal.Statement.{statement}
 use Rattle.problem.proofs.universal.Tie as tie
 
-add-load : tie.Need-add-load
-add-load c = search needs
-
-load-requires : tie.Need-load-requires
-load-requires c κs = search needs
-
 returns : tie.Need-returns
 returns c =
     rw (c .load .ensures) (c .before .before .before .pre .universals (c .before .before .before .args .role) (search needs))
-
-empty-requires : tie.Need-empty-requires
-empty-requires c κs = search needs
 
 returns-2 : tie.Need-returns-2
 returns-2 c =
     no-universals (c .before .before .before .pre) (search needs) (c .empty .ensures)
 
 pub universal-spec : {M : Type 1} → statement M
-universal-spec = tie.close (tie.spec add-load load-requires returns empty-requires returns-2)
+universal-spec =
+    tie.close (tie.spec
+    (λ c. search needs) (λ c κs. search needs) returns (λ c κs. search needs) returns-2)

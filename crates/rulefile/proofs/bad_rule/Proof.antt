@@ -6,19 +6,11 @@ use Rattle.rulefile.specs.Read.{extent, foundAt}
 use Rattle.rulefile.proofs.bad_rule.Statement.{statement}
 use Rattle.rulefile.proofs.bad_rule.Tie as tie
 
-found-requires : tie.Need-found-requires
-found-requires c κs = search needs
-
-row-count-requires : tie.Need-row-count-requires
-row-count-requires c κs = search needs
-
-wanted-row-requires : tie.Need-wanted-row-requires
-wanted-row-requires c κs = search needs
-
 returns : tie.Need-returns
 unfolding badRule extent foundAt
 returns c = cc
 
 pub bad-rule-spec : {M : Type 1} → statement M
 bad-rule-spec =
-    tie.close (tie.spec found-requires row-count-requires wanted-row-requires returns)
+    tie.close (tie.spec
+    (λ c κs. search needs) (λ c κs. search needs) (λ c κs. search needs) returns)

@@ -16,18 +16,6 @@ use Rattle.rulefile.proofs.extent.Tie as tie
 enum-told : tie.Need-enum-told
 enum-told c = search needs
 
-rule-count-requires : tie.Need-rule-count-requires
-rule-count-requires c κs = search needs
-
-cast-result : tie.Need-cast-result
-cast-result c = search needs
-
-row-count-requires : tie.Need-row-count-requires
-row-count-requires c κs = search needs
-
-cast-result-2 : tie.Need-cast-result-2
-cast-result-2 c = search needs
-
 returns : tie.Need-returns
 unfolding extent
 returns c = rw (c .before .enum-told .given .1) (c .rule-count .ensures)
@@ -47,12 +35,5 @@ returns-2 c =
 
 pub extent-spec : {M : Type 1} → statement M
 extent-spec =
-    tie.close
-    (tie.spec
-    enum-told
-    rule-count-requires
-    cast-result
-    row-count-requires
-    cast-result-2
-    returns
-    returns-2)
+    tie.close (tie.spec
+    enum-told (λ c κs. search needs) (λ c. search needs) (λ c κs. search needs) (λ c. search needs) returns returns-2)

@@ -21,32 +21,17 @@ bad-row-requires : tie.Need-bad-row-requires
 unfolding extent
 bad-row-requires c κs = within (c .enum-told .given .1) (c .before .before .before .pre)
 
-enum-told-2 : tie.Need-enum-told-2
-enum-told-2 c = search needs
-
 bad-argument-requires : tie.Need-bad-argument-requires
 unfolding extent
 bad-argument-requires c κs = within (c .enum-told2 .given .1) (c .before .before .before .pre)
-
-enum-told-3 : tie.Need-enum-told-3
-enum-told-3 c = search needs
 
 repeated-requires : tie.Need-repeated-requires
 unfolding extent
 repeated-requires c κs = within (c .enum-told3 .given .1) (c .before .before .before .pre)
 
-enum-told-4 : tie.Need-enum-told-4
-enum-told-4 c = search needs
-
-row-count-requires : tie.Need-row-count-requires
-row-count-requires c κs = search needs
-
 rule-requires : tie.Need-rule-requires
 unfolding extent
 rule-requires c κs = within (c .before .enum-told4 .given .1) (c .before .before .before .before .pre)
-
-enum-told-5 : tie.Need-enum-told-5
-enum-told-5 c = search needs
 
 is-name-requires : tie.Need-is-name-requires
 unfolding extent
@@ -74,21 +59,6 @@ returns-5 c = rw (c .before .enum-told5 .given .1) (c .is-name .ensures)
 
 pub found-at-spec : {M : Type 1} → statement M
 found-at-spec =
-    tie.close
-    (tie.spec
-    enum-told
-    bad-row-requires
-    enum-told-2
-    bad-argument-requires
-    enum-told-3
-    repeated-requires
-    enum-told-4
-    row-count-requires
-    rule-requires
-    enum-told-5
-    is-name-requires
-    returns
-    returns-2
-    returns-3
-    returns-4
-    returns-5)
+    tie.close (tie.spec
+    enum-told bad-row-requires (λ c. search needs) bad-argument-requires (λ c. search needs) repeated-requires (λ c. search needs)
+    (λ c κs. search needs) rule-requires (λ c. search needs) is-name-requires returns returns-2 returns-3 returns-4 returns-5)

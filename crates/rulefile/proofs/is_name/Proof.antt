@@ -5,12 +5,11 @@ use Rattle.rulefile.specs.Format.{isName}
 use Rattle.rulefile.proofs.is_name.Statement.{statement}
 use Rattle.rulefile.proofs.is_name.Tie as tie
 
-row-byte-requires : tie.Need-row-byte-requires
-row-byte-requires c κs = search needs
-
 returns : tie.Need-returns
 unfolding isName
 returns c = cc
 
 pub is-name-spec : {M : Type 1} → statement M
-is-name-spec = tie.close (tie.spec row-byte-requires returns)
+is-name-spec =
+    tie.close (tie.spec
+    (λ c κs. search needs) returns)

@@ -16,9 +16,6 @@ use Rattle.rulefile.proofs.number.Tie as tie
 abbrev numbers : List ℕ
 numbers = 1 ∷ 2 ∷ 3 ∷ 4 ∷ 5 ∷ 6 ∷ 7 ∷ 8 ∷ 9 ∷ []
 
-array-read-result : tie.Need-array-read-result
-array-read-result c = search needs
-
 returns : tie.Need-returns
 unfolding range every checks
 returns c kinds =
@@ -27,4 +24,6 @@ returns c kinds =
     (every-mem (λ k. eqb (getD numbers k 0) (checkAt kinds k .number)) (range 0 9) i tt (mem-range 0 9 i (omega arith) (c .pre)))
 
 pub number-spec : {M : Type 1} → statement M
-number-spec = tie.close (tie.spec array-read-result returns)
+number-spec =
+    tie.close (tie.spec
+    (λ c. search needs) returns)

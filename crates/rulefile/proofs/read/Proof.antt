@@ -30,19 +30,14 @@ number-requires c κs = omega (arith, c .before .before .loop-test .taken)
 returns : tie.Need-returns Inv-loop μ-loop
 unfolding readOf
 returns c =
-    let a = c .before .before .before .before .before .before .args in
+    let begun : tie.Start Inv-loop μ-loop = search in
+    let a = begun .args in
     let l = c .before .before .before .before .loop in
     ap Refused (c .number .ensures (a .kinds))
     ∙ ap readOf
     (sym
     (reading-refused (a .kinds) (a .file .now) (l .i) (omega (arith, c .before .before .before .loop-test .taken)) (l .inv .1)
     (sym (c .before .before .refuses .ensures) ∙ c .before .if1 .taken)))
-
-add-i : tie.Need-add-i Inv-loop μ-loop
-add-i c = omega arith
-
-loop-less : tie.Need-loop-less Inv-loop μ-loop
-loop-less c = omega arith
 
 loop-again : tie.Need-loop-again Inv-loop μ-loop
 loop-again c =
@@ -65,16 +60,5 @@ returns-2 c =
 
 pub read-spec : {M : Type 1} → statement M
 read-spec =
-    tie.close
-    (tie.spec
-    Inv-loop
-    μ-loop
-    loop-holds
-    refuses-requires
-    number-requires
-    returns
-    add-i
-    loop-less
-    loop-again
-    layout-of-requires
-    returns-2)
+    tie.close (tie.spec
+    Inv-loop μ-loop loop-holds refuses-requires number-requires returns (λ c. omega arith) (λ c. omega arith) loop-again layout-of-requires returns-2)

@@ -25,9 +25,6 @@ last-arm i l r =
     last i (past-three i (r .0 .0 .0 .0 .0 .0 .0 .1) (r .0 .0 .0 .0 .0 .0 .1) (r .0 .0 .0 .0 .0 .1) (r .0 .0 .0 .0 .1)) l
     (r .0 .0 .0 .1) (r .0 .0 .1) (r .0 .1) (r .1)
 
-bad-length-requires : tie.Need-bad-length-requires
-bad-length-requires c κs = search needs
-
 bad-mark-requires : tie.Need-bad-mark-requires
 bad-mark-requires c κs = long (c .before .before .args .kinds) (c .before .before .args .file .now) (c .before .before .pre .1) (omega (arith, c .match))
 
@@ -94,23 +91,6 @@ returns-9 c =
 
 pub refuses-spec : {M : Type 1} → statement M
 refuses-spec =
-    tie.close
-    (tie.spec
-    bad-length-requires
-    bad-mark-requires
-    bad-counts-requires
-    bad-place-requires
-    found-requires
-    found-requires-2
-    found-requires-3
-    bad-rule-requires
-    found-requires-4
-    returns
-    returns-2
-    returns-3
-    returns-4
-    returns-5
-    returns-6
-    returns-7
-    returns-8
-    returns-9)
+    tie.close (tie.spec
+    (λ c κs. search needs) bad-mark-requires bad-counts-requires bad-place-requires found-requires found-requires-2 found-requires-3 bad-rule-requires
+    found-requires-4 returns returns-2 returns-3 returns-4 returns-5 returns-6 returns-7 returns-8 returns-9)

@@ -7,17 +7,8 @@ use Rattle.rulefile.specs.PartLaws.{reads-refused, reads-accepted, laid-
 use Rattle.rulefile.proofs.text.Statement.{statement}
 use Rattle.rulefile.proofs.text.Tie as tie
 
-read-requires : tie.Need-read-requires
-read-requires c κs = search needs
-
 enum-told : tie.Need-enum-told
 enum-told c = search needs
-
-part-requires : tie.Need-part-requires
-part-requires c κs = search needs
-
-enum-known-layout : tie.Need-enum-known-layout
-enum-known-layout c = search needs
 
 part-requires-2 : tie.Need-part-requires-2
 part-requires-2 c κs =
@@ -41,12 +32,5 @@ returns-2 c =
 
 pub text-spec : {M : Type 1} → statement M
 text-spec =
-    tie.close
-    (tie.spec
-    read-requires
-    enum-told
-    part-requires
-    enum-known-layout
-    part-requires-2
-    returns
-    returns-2)
+    tie.close (tie.spec
+    (λ c κs. search needs) enum-told (λ c κs. search needs) (λ c. search needs) part-requires-2 returns returns-2)

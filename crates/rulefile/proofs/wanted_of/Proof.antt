@@ -6,14 +6,10 @@ use Rattle.rulefile.specs.PartLaws.{wanted-part}
 use Rattle.rulefile.proofs.wanted_of.Statement.{statement}
 use Rattle.rulefile.proofs.wanted_of.Tie as tie
 
-sub-part : tie.Need-sub-part
-sub-part c = search needs
-
-part-requires : tie.Need-part-requires
-part-requires c κs = search needs
-
 returns : tie.Need-returns
 returns c = let s : tie.Start = search in c .part .ensures .0 ∙ wanted-part (s .pre)
 
 pub wanted-of-spec : {M : Type 1} → statement M
-wanted-of-spec = tie.close (tie.spec sub-part part-requires returns)
+wanted-of-spec =
+    tie.close (tie.spec
+    (λ c. search needs) (λ c κs. search needs) returns)

@@ -7,12 +7,6 @@ use borrow.Author.Needs.{needs}
 use Rattle.settests.proofs.box_along.Statement.{statement}
 use Rattle.settests.proofs.box_along.Tie as tie
 
-universal-requires : tie.Need-universal-requires
-universal-requires c κs = search needs
-
-common-requires : tie.Need-common-requires
-common-requires c κs = search needs
-
 gather-requires : tie.Need-gather-requires
 gather-requires c κs =
     let s = c .before .before .before in
@@ -20,8 +14,11 @@ gather-requires c κs =
 
 returns : tie.Need-returns
 returns c =
-    let a = c .before .before .before .before .args in
+    let begun : tie.Start = search in
+    let a = begun .args in
     cc (box-masked (valueOf (a .s)) (a .role) (c .before .before .universal .ensures))
 
 pub box-along-spec : {M : Type 1} → statement M
-box-along-spec = tie.close (tie.spec universal-requires common-requires gather-requires returns)
+box-along-spec =
+    tie.close (tie.spec
+    (λ c κs. search needs) (λ c κs. search needs) gather-requires returns)

@@ -9,30 +9,15 @@ use borrow.Author.Needs.{needs}
 use Rattle.settests.proofs.clash.Statement.{statement}
 use Rattle.settests.proofs.clash.Tie as tie
 
-of-kind-requires : tie.Need-of-kind-requires
-of-kind-requires c κs = search needs
-
-common-requires : tie.Need-common-requires
-common-requires c κs = search needs
-
 gather-requires : tie.Need-gather-requires
 gather-requires c κs =
     let s = c .before .before .before in
     (s .pre, common-count (s .args .problem .now) (valueOf (s .args .s)) (c .before .of-kind .ensures) (c .common .ensures))
 
-of-kind-requires-2 : tie.Need-of-kind-requires-2
-of-kind-requires-2 c κs = search needs
-
-common-requires-2 : tie.Need-common-requires-2
-common-requires-2 c κs = search needs
-
 gather-requires-2 : tie.Need-gather-requires-2
 gather-requires-2 c κs =
-    let s = c .before .before .before .before .before .before in
+    let s : tie.Start = search in
     (s .pre, common-count (s .args .problem .now) (valueOf (s .args .s)) (c .before .of-kind2 .ensures) (c .common2 .ensures))
-
-meets-requires : tie.Need-meets-requires
-meets-requires c κs = search needs
 
 returns : tie.Need-returns
 returns c =
@@ -43,13 +28,6 @@ returns c =
 
 pub clash-spec : {M : Type 1} → statement M
 clash-spec =
-    tie.close
-    (tie.spec
-    of-kind-requires
-    common-requires
-    gather-requires
-    of-kind-requires-2
-    common-requires-2
-    gather-requires-2
-    meets-requires
-    returns)
+    tie.close (tie.spec
+    (λ c κs. search needs) (λ c κs. search needs) gather-requires (λ c κs. search needs) (λ c κs. search needs) gather-requires-2
+    (λ c κs. search needs) returns)

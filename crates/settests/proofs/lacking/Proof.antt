@@ -7,16 +7,12 @@ use borrow.Author.Needs.{needs}
 use Rattle.settests.proofs.lacking.Statement.{statement}
 use Rattle.settests.proofs.lacking.Tie as tie
 
-box-along-requires : tie.Need-box-along-requires
-box-along-requires c κs = search needs
-
-minus-requires : tie.Need-minus-requires
-minus-requires c κs = search needs
-
 returns : tie.Need-returns
 returns c =
     let a = c .before .before .before .args in
     cc (minus-lacking (tableOf (a .problem .now)) (valueOf (a .s)) (a .role) (valueOf (a .above)))
 
 pub lacking-spec : {M : Type 1} → statement M
-lacking-spec = tie.close (tie.spec box-along-requires minus-requires returns)
+lacking-spec =
+    tie.close (tie.spec
+    (λ c κs. search needs) (λ c κs. search needs) returns)
