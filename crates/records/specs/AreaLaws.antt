@@ -1,12 +1,13 @@
 -- Laws of Areas, for every kind of record.
 --
--- In order: the room of an area; the list of an area's records; a record stored; fields; a record written by its fields; a search; the elements that pass, from a place on.
+-- In order: the room of an area; the list of an area's records; a record stored; fields; what is kept beside bytes that are written; a record written by its
+-- fields; the elements that pass, from a place on.
 -- Assumes nothing.
 use mathlib.Core.Path.{_≡_, refl, sym, ap, _∙_, subst}
 use mathlib.Core.Bool.{Bool, true, false}
 use mathlib.Core.List.{List, [], _∷_, _++_, map}
 use mathlib.Core.Logic.{_≢_, _⊎_, inl, inr}
-use Prim.Native.Nat.{ℕ, zero, suc, _+_, _*_, _/_, _-_, _≤_, _<_}
+use Prim.Native.Nat.{ℕ, zero, suc, _+_, _*_, _^_, _/_, _-_, _≤_, _<_}
 use native.Mathlib.Nat.{mul-le-mul-left, mul-suc, mul-div-le, le-trans, not-suc-le-zero, le-of-suc-le-suc}
 use native.Mathlib.Decide.{ℕ-discrete, decLt}
 use native.Mathlib.Omega.{arith}
@@ -15,10 +16,10 @@ use lib.Seq.{take-append-le, take-all, getD-set-same, getD-set-other, getD-at, e
 use Rattle.concepts.specs.Lists.{select}
 use Rattle.concepts.specs.ListLaws.{length-map-range, getD-map-range, take-map-range}
 use Rattle.words.specs.Words.{putLe}
-use Rattle.words.specs.WordLaws.{leAt-same, below-putLe, above-putLe}
+use Rattle.words.specs.WordLaws.{length-putLe, leAt-same, leAt-putLe, below-putLe, above-putLe}
 use Rattle.words.specs.Fields.{Field, putFields, Holds, Apart}
 use Rattle.words.specs.FieldLaws.{length-putFields, below-putFields, above-putFields, holds-putFields}
-use Rattle.records.specs.Areas.{Bytes, roomOf, Fits, field, recordsIn, Stored, FirstAt, chosenFrom}
+use Rattle.records.specs.Areas.{Bytes, roomOf, Fits, field, recordsIn, Stored, Within, Beside, Written, FirstAt, chosenFrom}
 
 -- ---- the room of an area
 
@@ -26,6 +27,13 @@ pub room-fits : (size : ℕ) (b : Bytes) {count i : ℕ} → count ≤ roomOf si
 room-fits size b {count} {i} h l =
     let m : suc i ≤ length b / size = omega arith in
     (omega arith, omega (arith, le-trans (mul-le-mul-left size m) (mul-div-le (length b) size), mul-suc size i))
+
+mul-step : (size x y : ℕ) → x < y → size * x + size ≤ size * y
+mul-step size x y h = omega (arith, mul-le-mul-left size h, mul-suc size x)
+
+-- an area that has a record has those before it
+pub fits-before : (size : ℕ) (b : Bytes) {i j : ℕ} → Fits size b i → j < i → Fits size b j
+fits-before size b {i} {j} (p, q) h = (omega arith, omega (arith, mul-step size j i h))
 
 module _ {A : Type 0} (read : Bytes → ℕ → A) where
   -- ---- the list of an area's records
@@ -40,7 +48,17 @@ module _ {A : Type 0} (read : Bytes → ℕ → A) where
   pub records-kept : (b : Bytes) (n m : ℕ) (xs more : List A) → length xs ≡ n → n ≤ m → recordsIn read b m ≡ xs ++ more → recordsIn read b n ≡ xs
   records-kept b n m xs more l h q = sym (take-map-range (read b) 0 m n h) ∙ ap (take n) q ∙ take-append-le n xs more (omega arith) ∙ take-all n xs (omega arith)
 
+  -- records that all read as before
+  pub records-same : {b b′ : Bytes} → ((z : ℕ) → read b′ z ≡ read b z) → (n : ℕ) → recordsIn read b′ n ≡ recordsIn read b n
+  records-same {b} {b′} same n =
+      ext-getD (read b 0) (recordsIn read b′ n) (recordsIn read b n) (length-records b′ n ∙ sym (length-records b n)) (λ i p.
+      let q : i < n = omega (arith, length-records b′ n) in
+      getD-records b′ n i (read b 0) q ∙ same i ∙ sym (getD-records b n i (read b 0) q))
+
   -- ---- a record stored
+
+  pub stored-then : {b b′ b″ : Bytes} {x : ℕ} {v : A} → Stored read b b′ x v → length b″ ≡ length b′ → ((z : ℕ) → read b″ z ≡ read b′ z) → Stored read b b″ x v
+  stored-then {x = x} s l same = record { size = l ∙ s .size; here = same x ∙ s .here; others = λ y d. same y ∙ s .others y d }
 
   pub records-set : {b b′ : Bytes} {x : ℕ} {v : A} → Stored read b b′ x v → (n : ℕ) → x < n → recordsIn read b′ n ≡ set (recordsIn read b n) x v
   records-set {b} {b′} {x} {v} s n h =
@@ -84,15 +102,77 @@ pub field-other : (size : ℕ) (b : Bytes) (x o n p m v : ℕ) → (o + n ≤ p)
 field-other size b x o n p m v (inl h) = leAt-same _ b (size * x + o) n (λ j l u. below-putLe b (size * x + p) m v j (omega arith))
 field-other size b x o n p m v (inr h) = leAt-same _ b (size * x + o) n (λ j l u. above-putLe b (size * x + p) m v j (omega arith))
 
--- ---- a record written by its fields
+-- ---- what is kept beside bytes that are written
 
-mul-step : (size x y : ℕ) → x < y → size * x + size ≤ size * y
-mul-step size x y h = omega (arith, mul-le-mul-left size h, mul-suc size x)
+-- where every byte but those from lo to hi of record x is as it was
+within-bytes : (size x lo hi : ℕ) (b b′ : Bytes) → hi ≤ size → length b′ ≡ length b
+    → ((j : ℕ) → (j < size * x + lo) ⊎ (size * x + hi ≤ j) → getD b′ j 0 ≡ getD b j 0) → Within size x lo hi b b′
+within-bytes size x lo hi b b′ h l same = record {
+  long = l;
+  elsewhere = λ y o w d f. leAt-same b′ b (size * y + o) w (λ j p q. same j (side y o w d f j p q (decLt y x)));
+  beside = λ o w d f. leAt-same b′ b (size * x + o) w (λ j p q. same j (elim d [ inl k ↦ inl (omega arith) | inr k ↦ inr (omega arith) ]));
+}
+  where
+    side : (y o w : ℕ) → y ≢ x → o + w ≤ size → (j : ℕ) → size * y + o ≤ j → j < size * y + o + w → Dec (y < x) → (j < size * x + lo) ⊎ (size * x + hi ≤ j)
+    side y o w d f j p q (yes k) = inl (omega (arith, mul-step size y x k))
+    side y o w d f j p q (no k) = inr (omega (arith, mul-step size x y (omega arith)))
+
+pub within-put : (size : ℕ) (b : Bytes) (x p u v : ℕ) → p + u ≤ size → Within size x p (p + u) b (putLe b (size * x + p) u v)
+within-put size b x p u v h = within-bytes size x p (p + u) b (putLe b (size * x + p) u v) h (length-putLe b (size * x + p) u v) (λ j s. elim s [
+  | inl k ↦ below-putLe b (size * x + p) u v j k
+  | inr k ↦ above-putLe b (size * x + p) u v j (omega arith)
+])
+
+pub within-fields : (size : ℕ) (b c : Bytes) (x : ℕ) {lo hi : ℕ} (fs : List Field) → hi ≤ size → c ≡ putFields b (size * x) fs → Apart lo hi fs → Within size x lo hi b c
+within-fields size b c x {lo} {hi} fs h e s = rw e (within-bytes size x lo hi b (putFields b (size * x) fs) h (length-putFields b (size * x) fs) (λ j t. elim t [
+  | inl k ↦ below-putFields b (size * x) lo hi fs j s k
+  | inr k ↦ above-putFields b (size * x) lo hi fs j s k
+]))
+
+-- what was written stands there
+pub field-put : (size : ℕ) (b : Bytes) (x p u v : ℕ) → size * x + size ≤ length b → p + u ≤ size → v < 256 ^ u → field size (putLe b (size * x + p) u v) x p u ≡ v
+field-put size b x p u v h f small = leAt-putLe b (size * x + p) u v (omega arith) small
+
+module _ {size x lo hi : ℕ} {b b′ : Bytes} where
+  pub within-beside : Within size x lo hi b b′ → Beside size lo hi b b′
+  within-beside W = record {
+    long = W .long;
+    kept = λ y o w s f. elim (ℕ-discrete y x) [
+      | yes p ↦ ap (λ (k : ℕ). field size b′ k o w) p ∙ W .beside o w s f ∙ sym (ap (λ (k : ℕ). field size b k o w) p)
+      | no d ↦ W .elsewhere y o w d f
+    ];
+  }
+
+  pub within-wider : (lo′ hi′ : ℕ) → lo′ ≤ lo → hi ≤ hi′ → Within size x lo hi b b′ → Within size x lo′ hi′ b b′
+  within-wider lo′ hi′ p q W = record {
+    long = W .long;
+    elsewhere = W .elsewhere;
+    beside = λ o w s f. W .beside o w (elim s [ inl k ↦ inl (omega arith) | inr k ↦ inr (omega arith) ]) f;
+  }
+
+  pub within-then : {b″ : Bytes} → Within size x lo hi b b′ → Within size x lo hi b′ b″ → Within size x lo hi b b″
+  within-then A W = record {
+    long = W .long ∙ A .long;
+    elsewhere = λ y o w d f. W .elsewhere y o w d f ∙ A .elsewhere y o w d f;
+    beside = λ o w s f. W .beside o w s f ∙ A .beside o w s f;
+  }
+
+pub beside-refl : {size lo hi : ℕ} {b : Bytes} → Beside size lo hi b b
+beside-refl = record { long = refl; kept = λ _ _ _ _ _. refl }
+
+module _ {size lo hi : ℕ} {b b′ : Bytes} where
+  pub beside-wider : (lo′ hi′ : ℕ) → lo′ ≤ lo → hi ≤ hi′ → Beside size lo hi b b′ → Beside size lo′ hi′ b b′
+  beside-wider lo′ hi′ p q B = record { long = B .long; kept = λ y o w s f. B .kept y o w (elim s [ inl k ↦ inl (omega arith) | inr k ↦ inr (omega arith) ]) f }
+
+  pub beside-then : {b″ : Bytes} → Beside size lo hi b b′ → Beside size lo hi b′ b″ → Beside size lo hi b b″
+  beside-then A B = record { long = B .long ∙ A .long; kept = λ y o w s f. B .kept y o w s f ∙ A .kept y o w s f }
+
+-- ---- a record written by its fields
 
 -- where a kind's records are made of their own bytes alone, writing fields into record x stores what is then read there
 module _ {A : Type 0} (size : ℕ) (read : Bytes → ℕ → A) (local : (b c : Bytes) (x : ℕ) → Same size b c x → read b x ≡ read c x) where
-  pub stored-put : (b c : Bytes) (x : ℕ) (fs : List Field) (v : A) → c ≡ putFields b (size * x) fs → Apart 0 size fs → read c x ≡ v → Stored read b c x v
-  stored-put b c x fs v e s here =
+  pub stored-put : (b c : Bytes) (x lo hi : ℕ) (fs : List Field) (v : A) → hi ≤ size → c ≡ putFields b (size * x) fs → Apart lo hi fs → read c x ≡ v → Stored read b c x v
+  stored-put b c x lo hi fs v m e s here =
       record {
         size = ap length e ∙ length-putFields b (size * x) fs;
         here = here;
@@ -100,17 +180,17 @@ module _ {A : Type 0} (size : ℕ) (read : Bytes → ℕ → A) (local : (b c : 
       }
     where
       side : (y : ℕ) → y ≢ x → (j : ℕ) → size * y ≤ j → j < size * y + size → Dec (y < x) → getD (putFields b (size * x) fs) j 0 ≡ getD b j 0
-      side y d j l u (yes h) = below-putFields b (size * x) 0 size fs j s (omega (arith, mul-step size y x h))
-      side y d j l u (no h) = above-putFields b (size * x) 0 size fs j s (omega (arith, mul-step size x y (omega arith)))
+      side y d j l u (yes h) = below-putFields b (size * x) lo hi fs j s (omega (arith, mul-step size y x h))
+      side y d j l u (no h) = above-putFields b (size * x) lo hi fs j s (omega (arith, mul-step size x y (omega arith)))
+
+  pub written-put : (b c : Bytes) (x extent : ℕ) (fs : List Field) (v : A) → extent ≤ size → c ≡ putFields b (size * x) fs → Apart 0 extent fs → read c x ≡ v
+      → Written read size extent b c x v
+  written-put b c x extent fs v m e s here = record { stored = stored-put b c x 0 extent fs v m e s here; within = within-fields size b c x fs m e s }
 
 -- what is written in the fields of a record stands there
-pub holds-put : (size : ℕ) (b c : Bytes) (x : ℕ) (fs : List Field) → c ≡ putFields b (size * x) fs → Apart 0 size fs → size * x + size ≤ length b → Holds c (size * x) fs
-holds-put size b c x fs e s h = subst (λ (k : Bytes). Holds k (size * x) fs) (sym e) (holds-putFields b (size * x) 0 size fs s h)
-
--- ---- a search that has come one further
-
-pub before-more : (f : ℕ → Bool) (from i : ℕ) → ((k : ℕ) → from ≤ k → k < i → f k ≡ false) → f i ≡ false → (k : ℕ) → from ≤ k → k < i + 1 → f k ≡ false
-before-more f from i all here k l u = elim (ℕ-discrete k i) [ yes e ↦ ap f e ∙ here | no d ↦ all k l (omega arith) ]
+pub holds-put : (size : ℕ) (b c : Bytes) (x lo hi : ℕ) (fs : List Field) → hi ≤ size → c ≡ putFields b (size * x) fs → Apart lo hi fs → size * x + size ≤ length b
+    → Holds c (size * x) fs
+holds-put size b c x lo hi fs m e s h = subst (λ (k : Bytes). Holds k (size * x) fs) (sym e) (holds-putFields b (size * x) lo hi fs s (omega arith))
 
 -- ---- the elements that pass, from a place on
 

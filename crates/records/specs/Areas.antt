@@ -1,11 +1,12 @@
 -- An area of bytes as a list of records, whatever the kind of record. Laws are in AreaLaws.
+--
+-- In order: the room of an area; a number in a record; the list of records; one record written, and what is kept beside it; a search; the records that pass.
 -- Assumes nothing.
 use mathlib.Core.Path.{_≡_}
 use mathlib.Core.Bool.{Bool, true, false}
 use mathlib.Core.List.{List, map}
-use mathlib.Core.Logic.{_≢_}
+use mathlib.Core.Logic.{_≢_, _⊎_}
 use Prim.Native.Nat.{ℕ, _+_, _*_, _/_, _≤_, _<_, min}
-use lib.Dec.{eqb}
 use lib.ListN.{length, drop}
 use Rattle.concepts.specs.Lists.{range, select}
 use Rattle.words.specs.Words.{leAt}
@@ -37,9 +38,21 @@ module _ {A : Type 0} (read : Bytes → ℕ → A) where
     pub here : read b′ x ≡ v
     pub others : (y : ℕ) → y ≢ x → read b′ y ≡ read b y
 
--- the number at place o of record i is x
-unfoldable pub numberIs : ℕ → Bytes → ℕ → ℕ → ℕ → Bool
-numberIs size b o x i = eqb (field size b i o 2) x
+-- b′ is b but for bytes lo to hi of record x
+pub record Within (size x lo hi : ℕ) (b b′ : Bytes) : Type 0 where
+  pub long : length b′ ≡ length b
+  pub elsewhere : (y o w : ℕ) → y ≢ x → o + w ≤ size → field size b′ y o w ≡ field size b y o w
+  pub beside : (o w : ℕ) → (o + w ≤ lo) ⊎ (hi ≤ o) → o + w ≤ size → field size b′ x o w ≡ field size b x o w
+
+-- b′ is b but for bytes lo to hi of records
+pub record Beside (size lo hi : ℕ) (b b′ : Bytes) : Type 0 where
+  pub long : length b′ ≡ length b
+  pub kept : (y o w : ℕ) → (o + w ≤ lo) ⊎ (hi ≤ o) → o + w ≤ size → field size b′ y o w ≡ field size b y o w
+
+-- b′ is b with v as record x, which is written in its first `extent` bytes
+pub record Written {A : Type 0} (read : Bytes → ℕ → A) (size extent : ℕ) (b b′ : Bytes) (x : ℕ) (v : A) : Type 0 where
+  pub stored : Stored read b b′ x v
+  pub within : Within size x 0 extent b b′
 
 -- i is the first number from `from` on that passes, or none below n does
 pub record FirstAt (f : ℕ → Bool) (from n i : ℕ) : Type 0 where

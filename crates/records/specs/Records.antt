@@ -1,4 +1,7 @@
 -- The records as bytes: what the code's values mean, and where each number stands in a record (01, Areas). Laws are in RecordLaws.
+--
+-- A node, an edge and an alternative stand in the first bytes of their records, as far as their extent. Behind it there is place for what belongs to no
+-- graph: the chains (crate chains) and the marks of the walk (crate marks).
 -- Assumes nothing.
 use mathlib.Core.Bool.{Bool}
 use mathlib.Core.List.{List, [], _∷_}
@@ -19,7 +22,10 @@ use Rattle.records.specs.declared.Alternative.{Alternative}
 abbrev pub nodeOf : Node → G.Node
 nodeOf n = record { rows = valueOf (n .rows); status = statusOf (n .status); isState = n .«is_state»; pst = n .pst; prl = n .prl; link = linkOf (n .link) }
 
--- node x of an area: the place and the width of each number. Bytes 16 to 63 are spare
+abbrev pub nodeExtent : ℕ
+nodeExtent = 16
+
+-- node x of an area: the place and the width of each number. Bytes 16 to 19 are for marks, 20 to 31 for chains, 32 to 63 are spare
 unfoldable pub nodeIn : Bytes → ℕ → G.Node
 nodeIn b x =
     record {
@@ -51,7 +57,10 @@ isUnsetAt n x = isUnset (nodeIn n x .status)
 abbrev pub edgeOf : Edge → G.Edge
 edgeOf d = record { from = d .from; to = d .to }
 
--- edge i of an area. Bytes 4 to 15 are spare
+abbrev pub edgeExtent : ℕ
+edgeExtent = 4
+
+-- edge i of an area. Bytes 4 to 9 are for marks, 10 to 13 for chains, 14 and 15 are spare
 unfoldable pub edgeIn : Bytes → ℕ → G.Edge
 edgeIn b i = record { from = field edgeSize b i 0 2; to = field edgeSize b i 2 2 }
 
@@ -63,7 +72,10 @@ edgeFields d = (0, 2, d .from) ∷ (2, 2, d .to) ∷ []
 abbrev pub alternativeOf : Alternative → G.Alternative
 alternativeOf d = record { owner = d .owner; rows = valueOf (d .rows) }
 
--- alternative i of an area. Bytes 10 to 15 are spare
+abbrev pub alternativeExtent : ℕ
+alternativeExtent = 10
+
+-- alternative i of an area. Bytes 10 and 11 are for its chain, 12 to 15 are spare
 unfoldable pub alternativeIn : Bytes → ℕ → G.Alternative
 alternativeIn b i = record { owner = field alternativeSize b i 8 2; rows = field alternativeSize b i 0 setSize }
 

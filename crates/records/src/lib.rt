@@ -1,15 +1,15 @@
 // The records of the graph in lent areas of bytes: "nodes (64 bytes each), graph edges (16) and alternatives (16)" (01, Areas).
 //
 // In order: the values; tests of a status; codes of one byte; how many records an area holds; a record read and written; one part of a
-// node; a search for a number; an area cleared. The graph that three areas hold is in crate graph.
+// node; an area cleared. The graph that three areas hold is in crate graph.
 ghost use mathlib.Core.Path.{_≡_};
-ghost use Prim.Native.Nat.{_+_, _/_, _≤_, _<_, min};
+ghost use Prim.Native.Nat.{_/_, _<_, min};
 ghost use lib.ListN.{length, replicate};
 ghost use Rattle.procedure.specs.Status.{isOpen, isLive};
 ghost use Rattle.procedure.specs.Graph.{withStatus, withLink};
 ghost use Rattle.words.specs.Sizes.{nodeSize, edgeSize, alternativeSize, mostRecords};
 ghost use Rattle.records.specs.Codes as Codes;
-ghost use Rattle.records.specs.Areas.{roomOf, Fits, Stored, FirstAt, numberIs};
+ghost use Rattle.records.specs.Areas.{Fits, Written};
 ghost use Rattle.records.specs.Records as Records;
 use rowset::RowSet;
 use words::get1;
@@ -191,7 +191,7 @@ pub fn load_node(nodes: &[u8], x: usize) -> Node
 // Writes n as node x of the area.
 pub fn store_node(nodes: &mut [u8], x: usize, n: Node)
     requires { ⌜ Fits nodeSize (now nodes) x ⌝ }
-    ensures { λ _. ⌜ Stored Records.nodeIn (now (nodes .entry)) (now (nodes .exit)) x (Records.nodeOf n) ⌝ }
+    ensures { λ _. ⌜ Written Records.nodeIn nodeSize Records.nodeExtent (now (nodes .entry)) (now (nodes .exit)) x (Records.nodeOf n) ⌝ }
 {
     let at = NODE_BYTES * x;
     let rows = n.rows;
@@ -221,7 +221,7 @@ pub fn load_edge(edges: &[u8], i: usize) -> Edge
 // Writes d as edge i of the area.
 pub fn store_edge(edges: &mut [u8], i: usize, d: Edge)
     requires { ⌜ Fits edgeSize (now edges) i ⌝ }
-    ensures { λ _. ⌜ Stored Records.edgeIn (now (edges .entry)) (now (edges .exit)) i (Records.edgeOf d) ⌝ }
+    ensures { λ _. ⌜ Written Records.edgeIn edgeSize Records.edgeExtent (now (edges .entry)) (now (edges .exit)) i (Records.edgeOf d) ⌝ }
 {
     let at = EDGE_BYTES * i;
     put2(edges, at + FROM, d.from);
@@ -243,7 +243,7 @@ pub fn load_alternative(alternatives: &[u8], i: usize) -> Alternative
 // Writes d as alternative i of the area.
 pub fn store_alternative(alternatives: &mut [u8], i: usize, d: Alternative)
     requires { ⌜ Fits alternativeSize (now alternatives) i ⌝ }
-    ensures { λ _. ⌜ Stored Records.alternativeIn (now (alternatives .entry)) (now (alternatives .exit)) i (Records.alternativeOf d) ⌝ }
+    ensures { λ _. ⌜ Written Records.alternativeIn alternativeSize Records.alternativeExtent (now (alternatives .entry)) (now (alternatives .exit)) i (Records.alternativeOf d) ⌝ }
 {
     let at = ALTERNATIVE_BYTES * i;
     let rows = d.rows;
@@ -262,7 +262,7 @@ pub fn is_unset(nodes: &[u8], x: usize) -> bool
 // Gives node x of the area a status.
 pub fn store_status(nodes: &mut [u8], x: usize, status: Status)
     requires { ⌜ Fits nodeSize (now nodes) x ⌝ }
-    ensures { λ _. ⌜ Stored Records.nodeIn (now (nodes .entry)) (now (nodes .exit)) x (withStatus (Codes.statusOf status) (Records.nodeIn (now (nodes .entry)) x)) ⌝ }
+    ensures { λ _. ⌜ Written Records.nodeIn nodeSize Records.nodeExtent (now (nodes .entry)) (now (nodes .exit)) x (withStatus (Codes.statusOf status) (Records.nodeIn (now (nodes .entry)) x)) ⌝ }
 {
     put1(nodes, NODE_BYTES * x + 8, status_code(status));
 }
@@ -270,26 +270,11 @@ pub fn store_status(nodes: &mut [u8], x: usize, status: Status)
 // Gives node x of the area a link.
 pub fn store_link(nodes: &mut [u8], x: usize, link: Link)
     requires { ⌜ Fits nodeSize (now nodes) x ⌝ }
-    ensures { λ _. ⌜ Stored Records.nodeIn (now (nodes .entry)) (now (nodes .exit)) x (withLink (Codes.linkOf link) (Records.nodeIn (now (nodes .entry)) x)) ⌝ }
+    ensures { λ _. ⌜ Written Records.nodeIn nodeSize Records.nodeExtent (now (nodes .entry)) (now (nodes .exit)) x (withLink (Codes.linkOf link) (Records.nodeIn (now (nodes .entry)) x)) ⌝ }
 {
     let at = NODE_BYTES * x;
     put1(nodes, at + 13, link_kind(link));
     put2(nodes, at + 14, link_number(link));
-}
-
-// The first record of a size from `from` on whose number at place o is x; if there is none, a number that no record has.
-pub fn next_with(area: &[u8], size: usize, count: usize, o: usize, x: u16, from: usize) -> usize
-    requires { ⌜ (o + 2 ≤ size) × (count ≤ roomOf size (now area)) ⌝ }
-    ensures { λ i. ⌜ FirstAt (numberIs size (now (area .entry)) o x) from count i ⌝ }
-{
-    let mut i = from;
-    while i < count {
-        if get2(area, size * i + o) == x {
-            return i;
-        }
-        i += 1;
-    }
-    i
 }
 
 // Every byte of the area becomes zero.

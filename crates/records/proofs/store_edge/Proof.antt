@@ -3,8 +3,7 @@
 use native.Mathlib.Omega.{arith}
 use borrow.Author.Needs.{needs}
 use Rattle.words.specs.Fields.{Apart}
-use Rattle.words.specs.Sizes.{edgeSize}
-use Rattle.records.specs.Records.{edgeFields}
+use Rattle.records.specs.Records.{edgeExtent, edgeFields}
 use Rattle.records.specs.RecordLaws.{edge-stored}
 use Rattle.records.proofs.store_edge.Statement.{statement}
 use Rattle.records.proofs.store_edge.Tie as tie
@@ -13,7 +12,7 @@ returns : tie.Need-returns
 returns c =
     let s : tie.Start = search in
     let d = s .args .d in
-    let apart : Apart 0 edgeSize (edgeFields d) = (omega arith, search needs, (omega arith, search needs, omega arith)) in
+    let apart : Apart 0 edgeExtent (edgeFields d) = (omega arith, search needs, (omega arith, search needs, omega arith)) in
     edge-stored _ _ (s .args .i) d (s .pre) apart (cc)
 
 pub store-edge-spec : {M : Type 1} → statement M

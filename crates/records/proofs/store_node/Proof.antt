@@ -7,12 +7,12 @@ use borrow.Author.Needs.{needs}
 use Rattle.words.specs.Fields.{Apart}
 use Rattle.words.specs.Sizes.{nodeSize}
 use Rattle.records.specs.Codes.{linkNumber}
-use Rattle.records.specs.Records.{nodeFields}
+use Rattle.records.specs.Records.{nodeExtent, nodeFields}
 use Rattle.records.specs.RecordLaws.{node-apart, node-stored}
 use Rattle.records.proofs.store_node.Statement.{statement}
 use Rattle.records.proofs.store_node.Tie as tie
 
-apart : (s : tie.Start) → linkNumber (s .args .n .link) < 65536 → Apart 0 nodeSize (nodeFields (s .args .n))
+apart : (s : tie.Start) → linkNumber (s .args .n .link) < 65536 → Apart 0 nodeExtent (nodeFields (s .args .n))
 apart s number = node-apart (s .args .n) (search needs) (search needs) (search needs) number
 
 returns : tie.Need-returns
