@@ -1,6 +1,6 @@
--- The graph that the work areas hold, and how code on the areas refines a definition on the graph. Laws are in GraphLaws, SearchLaws and RefineLaws.
+-- The graph that the work areas hold, and how code on the areas refines a definition on the graph. Laws are in GraphLaws, AddLaws, SearchLaws and RefineLaws.
 --
--- In order: the work areas; refinement (`Refines`, `Changes`); one area, whatever the others hold; searches; the records of a node, from a place on.
+-- In order: the work areas; refinement (`Refines`, `Changes`); some areas, whatever the others hold; searches; the records of a node, from a place on.
 -- Assumes nothing.
 use mathlib.Core.Path.{_≡_}
 use mathlib.Core.Bool.{Bool, _&&_}
@@ -8,13 +8,16 @@ use mathlib.Core.List.{List, [], _∷_}
 use mathlib.Core.Option.{Option, none, some}
 use Prim.Native.Nat.{ℕ, _+_, _≤_, _<_}
 use lib.Dec.{eqb, ltb}
-use lib.ListN.{length}
-use Rattle.concepts.specs.RowSet.{RowSet}
+use lib.ListN.{length, getD}
+use Rattle.concepts.specs.Lists.{NoneBelow}
+use Rattle.concepts.specs.RowSet.{RowSet, empty}
 use Rattle.procedure.specs.Graph as G
 use Rattle.words.specs.Sizes.{nodeSize, edgeSize, alternativeSize}
 use Rattle.rowset.specs.Value.{valueOf}
 use Rattle.records.specs.Areas.{Bytes, roomOf, recordsIn, chosenFrom}
 use Rattle.records.specs.Records.{nodeIn, edgeIn, alternativeIn}
+use Rattle.chains.specs.Chain.{Behind}
+use Rattle.graph.specs.Chains.{Chained}
 use Rattle.graph.specs.declared.Counts.{Counts}
 use Rattle.graph.specs.declared.Area.{Area}
 use Rattle.graph.specs.declared.Area.the-variants.{Nodes, Edges, Alternatives}
@@ -49,11 +52,12 @@ graphOf w c =
 abbrev pub capacityOf : Work → G.Capacity
 capacityOf w = record { nodeRoom = roomOf nodeSize (w .nodes); edgeRoom = roomOf edgeSize (w .edges); alternativeRoom = roomOf alternativeSize (w .alternatives) }
 
--- the areas have the records that the counts count
+-- the areas have the records that the counts count, and their chains
 pub record Held (w : Work) (c : Counts) : Type 0 where
   pub nodes : c .nodes ≤ roomOf nodeSize (w .nodes)
   pub edges : c .edges ≤ roomOf edgeSize (w .edges)
   pub alternatives : c .alternatives ≤ roomOf alternativeSize (w .alternatives)
+  pub chains : Chained (w .nodes) (w .edges) (w .alternatives) c
 
 -- no count is less than before
 pub record Grown (c d : Counts) : Type 0 where
@@ -98,36 +102,41 @@ pub record Changes (w : Work) (c : Counts) (w′ : Work) (f : G.Graph → G.Grap
   pub held : Held w′ c
   pub sized : Sized w w′
 
--- ---- one area, whatever the two others hold
+-- ---- some areas, whatever the others hold
 
--- of the graph with these nodes, P holds; and so with these edges, with these alternatives
+-- of the graph with these nodes, P holds
 abbrev pub WithNodes : Bytes → Counts → (G.Graph → Type 0) → Type 0
 WithNodes n c P = (e a : Bytes) → Held (work n e a) c → P (graphOf (work n e a) c)
 
-abbrev pub WithEdges : Bytes → Counts → (G.Graph → Type 0) → Type 0
-WithEdges e c P = (n a : Bytes) → Held (work n e a) c → P (graphOf (work n e a) c)
+-- of the graph that these nodes and edges have with counts c, P holds; and so with these alternatives. By now the areas may hold more
+abbrev pub WithEdges : Bytes → Bytes → Counts → (G.Graph → Type 0) → Type 0
+WithEdges n e c P = (a : Bytes) (d : Counts) → Held (work n e a) d → Grown c d → P (graphOf (work n e a) c)
 
-abbrev pub WithAlternatives : Bytes → Counts → (G.Graph → Type 0) → Type 0
-WithAlternatives a c P = (n e : Bytes) → Held (work n e a) c → P (graphOf (work n e a) c)
+abbrev pub WithAlternatives : Bytes → Bytes → Counts → (G.Graph → Type 0) → Type 0
+WithAlternatives n a c P = (e : Bytes) (d : Counts) → Held (work n e a) d → Grown c d → P (graphOf (work n e a) c)
 
--- a step from counts c made the area b′ of b, and answered r, as f does with the graph
+-- a step from counts c made the nodes n′ of n, and answered r, as f does with the graph
 abbrev pub AddsNode : Bytes → Bytes → Counts → Step → Operation → Type 0
-AddsNode b b′ c r f = (e a : Bytes) → Held (work b e a) c → Refines (work b e a) c r (work b′ e a) f
+AddsNode n n′ c r f = (e a : Bytes) → Held (work n e a) c → Refines (work n e a) c r (work n′ e a) f
 
-abbrev pub AddsEdge : Bytes → Bytes → Counts → Step → Operation → Type 0
-AddsEdge b b′ c r f = (n a : Bytes) → Held (work n b a) c → Refines (work n b a) c r (work n b′ a) f
+-- .. and the edges e′ of e; .. and the alternatives a′ of a
+abbrev pub AddsEdge : Bytes → Bytes → Bytes → Bytes → Counts → Step → Operation → Type 0
+AddsEdge n n′ e e′ c r f = (a : Bytes) → Held (work n e a) c → Refines (work n e a) c r (work n′ e′ a) f
 
-abbrev pub AddsAlternative : Bytes → Bytes → Counts → Step → Operation → Type 0
-AddsAlternative b b′ c r f = (n e : Bytes) → Held (work n e b) c → Refines (work n e b) c r (work n e b′) f
+abbrev pub AddsAlternative : Bytes → Bytes → Bytes → Bytes → Counts → Step → Operation → Type 0
+AddsAlternative n n′ a a′ c r f = (e : Bytes) → Held (work n e a) c → Refines (work n e a) c r (work n′ e a′) f
 
--- nodes b became b′, as f does with the graph
+-- nodes n became n′, as f does with the graph
 abbrev pub ChangesNodes : Bytes → Bytes → Counts → (G.Graph → G.Graph) → Type 0
-ChangesNodes b b′ c f = (e a : Bytes) → Held (work b e a) c → Changes (work b e a) c (work b′ e a) f
+ChangesNodes n n′ c f = (e a : Bytes) → Held (work n e a) c → Changes (work n e a) c (work n′ e a) f
+
+-- these nodes and alternatives, with some edges, hold a graph that has the node x
+pub record Owns (n a : Bytes) (c : Counts) (x : ℕ) : Type 0 where
+  pub edges : Bytes
+  pub held : Held (work n edges a) c
+  pub node : x < c .nodes
 
 -- ---- searches
-
-unfoldable pub isAlternative : ℕ → RowSet → G.Alternative → Bool
-isAlternative x s d = eqb (d .owner) x && eqb (d .rows) s
 
 -- node x of an area is a state with the set s, and not the root
 unfoldable pub isStateWith : Bytes → RowSet → ℕ → Bool
@@ -136,6 +145,11 @@ isStateWith n s x = ltb 0 x && (nodeIn n x .isState && eqb (nodeIn n x .rows) s)
 abbrev pub foundOf : FoundNode → Option ℕ
 foundOf (Found.At x) = some x
 foundOf Found.Nothing = none
+
+-- no node below the one that was found passes
+abbrev pub PassedOver : FoundNode → (ℕ → Bool) → Type 0
+PassedOver (Found.At x) f = NoneBelow f x
+PassedOver Found.Nothing f = Unit {0}
 
 -- ---- the records of a node, from a place on
 
@@ -148,11 +162,38 @@ parentsFrom g x i = chosenFrom (λ (d : G.Edge). eqb (d .to) x) (λ (d : G.Edge)
 unfoldable pub alternativesFrom : G.Graph → ℕ → ℕ → List RowSet
 alternativesFrom g x i = chosenFrom (λ (d : G.Alternative). eqb (d .owner) x) (λ (d : G.Alternative). d .rows) (g .alternatives) i
 
--- the answer is the first of `rest from`, which are from records below n, or there is none
-abbrev pub IsNext : Next → ℕ → ℕ → (ℕ → List ℕ) → Type 0
-IsNext (Node.At i y) from n rest = (from ≤ i) × (i < n) × (rest from ≡ y ∷ rest (i + 1))
-IsNext Node.End from n rest = rest from ≡ []
+-- where edge i starts, and where it ends; whose alternative i is
+abbrev pub startOf : G.Graph → ℕ → ℕ
+startOf g i = getD (g .edges) i (record { from = 0; to = 0 }) .from
 
-abbrev pub IsNextAlternative : NextAlternative → ℕ → ℕ → (ℕ → List RowSet) → Type 0
-IsNextAlternative (Set.At i s) from n rest = (from ≤ i) × (i < n) × (rest from ≡ valueOf s ∷ rest (i + 1))
-IsNextAlternative Set.End from n rest = rest from ≡ []
+abbrev pub endOf : G.Graph → ℕ → ℕ
+endOf g i = getD (g .edges) i (record { from = 0; to = 0 }) .to
+
+abbrev pub ownerOf : G.Graph → ℕ → ℕ
+ownerOf g i = getD (g .alternatives) i (record { owner = 0; rows = empty }) .owner
+
+-- place i is one of the chain of x's children: its start, or behind one of their edges; likewise of its parents, and of its alternatives
+abbrev pub AmongChildren : G.Graph → ℕ → ℕ → Type 0
+AmongChildren g x i = Behind (startOf g) x i
+
+abbrev pub AmongParents : G.Graph → ℕ → ℕ → Type 0
+AmongParents g x i = Behind (endOf g) x i
+
+abbrev pub AmongAlternatives : G.Graph → ℕ → ℕ → Type 0
+AmongAlternatives g x i = Behind (ownerOf g) x i
+
+-- what a step along a chain relies on: node x of m, and place `from` among `count` records of a size
+pub record Walks (size : ℕ) (n b : Bytes) (m count x from : ℕ) : Type 0 where
+  pub node : x < m
+  pub nodes : m ≤ roomOf nodeSize n
+  pub place : from ≤ count
+  pub records : count ≤ roomOf size b
+
+-- the answer is the first of `rest from`, from a record below n, and the place behind it is among those of the chain; or there is none
+abbrev pub IsNext : Next → ℕ → ℕ → (ℕ → List ℕ) → (ℕ → Type 0) → Type 0
+IsNext (Node.At i y) from n rest among = (from ≤ i) × (i < n) × (rest from ≡ y ∷ rest (i + 1)) × among (i + 1)
+IsNext Node.End from n rest among = rest from ≡ []
+
+abbrev pub IsNextAlternative : NextAlternative → ℕ → ℕ → (ℕ → List RowSet) → (ℕ → Type 0) → Type 0
+IsNextAlternative (Set.At i s) from n rest among = (from ≤ i) × (i < n) × (rest from ≡ valueOf s ∷ rest (i + 1)) × among (i + 1)
+IsNextAlternative Set.End from n rest among = rest from ≡ []

@@ -1,72 +1,49 @@
 -- Laws of Graphs: what a search through an area finds in the graph that it holds.
 --
--- In order: searches; the records of a node, from a place on. What a step does to the graph is in GraphLaws.
+-- In order: searches for a node; the records of a node, from a place on; a step along a chain; a search through the alternatives of a state.
 -- Assumes nothing.
-use mathlib.Core.Path.{_≡_, refl, ap, _∙_}
-use mathlib.Core.Bool.{Bool, true, false, _&&_}
-use mathlib.Core.List.{List, _++_}
+use mathlib.Core.Path.{_≡_, refl, sym, ap, subst, _∙_}
+use mathlib.Core.Bool.{Bool, true, false, _&&_, _||_}
+use mathlib.Core.List.{List, [], _∷_, _++_}
 use mathlib.Core.Option.{Option, none, some}
-use Prim.Native.Nat.{ℕ, _≤_, _<_}
+use Prim.Native.Nat.{ℕ, suc, _+_, _≤_, _<_}
 use native.Mathlib.Omega.{arith}
-use lib.Dec.{T-not, not-T, eqb, ltb}
+use lib.Dec.{eqb, ltb}
 use lib.ListN.{getD}
-use Rattle.concepts.specs.Lists.{range, NoneBelow, any}
-use Rattle.concepts.specs.ListLaws.{getD-range, length-range, mem-range, range-mem, any-mem, mem-any, mem-map, map-mem, first-at, first-nowhere}
+use Rattle.concepts.specs.Lists.{range, NoneBelow, any, select}
+use Rattle.concepts.specs.ListLaws.{getD-range, length-range, first-at, first-nowhere}
 use Rattle.concepts.specs.RowSet.{RowSet}
-use Rattle.concepts.specs.Tests.{as-true, as-false, from-true, from-false}
 use Rattle.procedure.specs.Status.{isUnset}
 use Rattle.procedure.specs.Graph as G
 use Rattle.words.specs.Sizes.{edgeSize, alternativeSize}
-use Rattle.records.specs.Areas.{Bytes, recordsIn, FirstAt, numberIs, chosenFrom}
-use Rattle.records.specs.AreaLaws.{records-kept, chosen-found, chosen-end}
+use Rattle.records.specs.Areas.{Bytes, FirstAt, chosenFrom}
+use Rattle.records.specs.AreaLaws.{getD-records, records-kept, chosen-found, chosen-end}
 use Rattle.rowset.specs.Value.{valueOf}
 use Rattle.rowset.specs.declared.RowSet as Rows
-use Rattle.records.specs.Records.{nodeOf, nodeIn, isUnsetAt, edgeIn, alternativeOf, alternativeIn}
+use Rattle.records.specs.Records.{nodeOf, nodeIn, isUnsetAt, edgeIn, alternativeIn}
 use Rattle.records.specs.declared.Node as D
-use Rattle.records.specs.declared.Alternative.{Alternative}
-use Rattle.graph.specs.Graphs.{Work, graphOf, Grown}
-use Rattle.graph.specs.Graphs.{isAlternative, isStateWith, childrenFrom, parentsFrom, alternativesFrom, IsNext, IsNextAlternative}
-use Rattle.graph.specs.GraphLaws.{count-nodes, count-edges, count-alternatives, graph-node, picks-first, picks-second}
+use Rattle.chains.specs.Chain.{First, Behind, following}
+use Rattle.chains.specs.ChainLaws.{chain-follows, first-found, first-end, behind-same}
+use Rattle.chains.specs.Places.{keyIn, nextIn, firstIn, ChainIn}
+use Rattle.chains.specs.declared.Places.{Places}
+use Rattle.graph.specs.Chains.{childPlaces, parentPlaces, alternativePlaces}
+use Rattle.graph.specs.Graphs.{Work, work, graphOf, Held, Grown, isStateWith, childrenFrom, parentsFrom, alternativesFrom}
+use Rattle.graph.specs.Graphs.{startOf, endOf, ownerOf, AmongChildren, AmongParents, AmongAlternatives, Walks, IsNext, IsNextAlternative, WithAlternatives, Owns}
+use Rattle.graph.specs.GraphLaws.{grown-refl, count-nodes, count-edges, count-alternatives, graph-node}
+use Rattle.graph.specs.AddLaws.{picks-first, picks-second}
 use Rattle.graph.specs.declared.Counts.{Counts}
 use Rattle.graph.specs.declared.Next.the-variants as Node
+use Rattle.graph.specs.declared.NextAlternative.{NextAlternative}
 use Rattle.graph.specs.declared.NextAlternative.the-variants as Set
 
--- ---- searches
+-- ---- searches for a node
 
--- the test of a record that was read, where b says whether the sets are the same
-pub alternative-is : (d : Alternative) (x : ℕ) (s : RowSet) {v : G.Alternative} {b : Bool} → alternativeOf d ≡ v → b ≡ eqb (valueOf (d .rows)) s
-    → (eqb (d .owner) x && b) ≡ isAlternative x s v
-unfolding isAlternative
-alternative-is d x s read same = ap (λ (t : Bool). eqb (d .owner) x && t) same ∙ ap (λ (v : G.Alternative). eqb (v .owner) x && eqb (v .rows) s) read
-
+-- the test of a node that was read, where b says whether the sets are the same
 pub state-is : (v : D.Node) (n : Bytes) (x : ℕ) (s : RowSet) {b : Bool} → nodeOf v ≡ nodeIn n x → b ≡ eqb (valueOf (v .rows)) s
     → (ltb 0 x && (v .«is_state» && b)) ≡ isStateWith n s x
 unfolding isStateWith
 state-is v n x s read same =
     ap (λ (t : Bool). ltb 0 x && (v .«is_state» && t)) same ∙ ap (λ (w : G.Node). ltb 0 x && (w .isState && eqb (w .rows) s)) read
-
--- some record passes if the one at i does
-any-found : (f : G.Alternative → Bool) (a : Bytes) (m i : ℕ) → i < m → f (alternativeIn a i) ≡ true → any f (recordsIn alternativeIn a m) ≡ true
-any-found f a m i h t =
-    as-true (any f (recordsIn alternativeIn a m))
-    (any-mem f (recordsIn alternativeIn a m) (alternativeIn a i)
-    (mem-map (alternativeIn a) (range 0 m) i (mem-range 0 m i (omega arith) (omega arith))) (from-true (f (alternativeIn a i)) t))
-
-any-nowhere : (f : G.Alternative → Bool) (a : Bytes) (m : ℕ) → NoneBelow (λ i. f (alternativeIn a i)) m → any f (recordsIn alternativeIn a m) ≡ false
-any-nowhere f a m all = as-false (any f (recordsIn alternativeIn a m)) (not-T (any f (recordsIn alternativeIn a m)) (λ t.
-    let (d, u, p) = mem-any f (recordsIn alternativeIn a m) t in
-    let (i, v, q) = map-mem (alternativeIn a) (range 0 m) d u in
-    let (l, h) = range-mem 0 m i v in
-    T-not (f d) (from-false (f d) (ap f q ∙ all i (omega arith))) p))
-
-module _ (w : Work) (c : Counts) (x : ℕ) (s : RowSet) where
-  pub has-found : (i : ℕ) → i < c .alternatives → isAlternative x s (alternativeIn (w .alternatives) i) ≡ true → G.hasAlternative x s (graphOf w c) ≡ true
-  unfolding graphOf G.hasAlternative isAlternative
-  has-found i h t = any-found (λ d. eqb (d .owner) x && eqb (d .rows) s) (w .alternatives) (c .alternatives) i h t
-
-  pub has-nowhere : NoneBelow (λ i. isAlternative x s (alternativeIn (w .alternatives) i)) (c .alternatives) → G.hasAlternative x s (graphOf w c) ≡ false
-  unfolding graphOf G.hasAlternative isAlternative
-  has-nowhere all = any-nowhere (λ d. eqb (d .owner) x && eqb (d .rows) s) (w .alternatives) (c .alternatives) all
 
 -- what `lowest` asks of a node
 abbrev answer : (ℕ → Bool) → ℕ → Option ℕ
@@ -152,52 +129,164 @@ module _ (w w′ : Work) {c d : Counts} (grown : Grown c d) where
       ap (λ (l : List G.Alternative). chosenFrom (λ (u : G.Alternative). eqb (u .owner) x) (λ (u : G.Alternative). u .rows) l i)
       (records-kept alternativeIn (w′ .alternatives) (c .alternatives) (d .alternatives) (graphOf w c .alternatives) more (count-alternatives w c) (grown .alternatives) q)
 
-module _ (w : Work) (c : Counts) (x from i : ℕ) where
-  module _ (f : FirstAt (numberIs edgeSize (w .edges) 0 x) from (c .edges) i) where
-    pub child-next : (y : ℕ) → y ≡ edgeIn (w .edges) i .to → i < c .edges → IsNext (Node.At i y) from (c .edges) (childrenFrom (graphOf w c) x)
-    unfolding childrenFrom graphOf numberIs edgeIn
-    child-next y p h = (
-      f .start,
-      h,
-      rw p (chosen-found (λ (d : G.Edge). eqb (d .from) x) (λ (d : G.Edge). d .to) edgeIn (w .edges) (c .edges) from i
-          (numberIs edgeSize (w .edges) 0 x) (λ k. refl) f h),
-    )
+-- ---- a step along a chain is what a search finds
 
-    pub child-end : c .edges ≤ i → IsNext Node.End from (c .edges) (childrenFrom (graphOf w c) x)
-    unfolding childrenFrom graphOf numberIs edgeIn
-    child-end h =
-        chosen-end (λ (d : G.Edge). eqb (d .from) x) (λ (d : G.Edge). d .to) edgeIn (w .edges) (c .edges) from i
-        (numberIs edgeSize (w .edges) 0 x) (λ k. refl) f h
+-- the keys by the bytes are those by the graph
+module _ (w : Work) (c : Counts) where
+  start-of : (j : ℕ) → j < c .edges → startOf (graphOf w c) j ≡ keyIn childPlaces (w .edges) j
+  unfolding graphOf edgeIn
+  start-of j l = ap (λ (d : G.Edge). d .from) (getD-records edgeIn (w .edges) (c .edges) j _ l)
 
-  module _ (f : FirstAt (numberIs edgeSize (w .edges) 2 x) from (c .edges) i) where
-    pub parent-next : (y : ℕ) → y ≡ edgeIn (w .edges) i .from → i < c .edges → IsNext (Node.At i y) from (c .edges) (parentsFrom (graphOf w c) x)
-    unfolding parentsFrom graphOf numberIs edgeIn
-    parent-next y p h = (
-      f .start,
-      h,
-      rw p (chosen-found (λ (d : G.Edge). eqb (d .to) x) (λ (d : G.Edge). d .from) edgeIn (w .edges) (c .edges) from i
-          (numberIs edgeSize (w .edges) 2 x) (λ k. refl) f h),
-    )
+  end-of : (j : ℕ) → j < c .edges → endOf (graphOf w c) j ≡ keyIn parentPlaces (w .edges) j
+  unfolding graphOf edgeIn
+  end-of j l = ap (λ (d : G.Edge). d .to) (getD-records edgeIn (w .edges) (c .edges) j _ l)
 
-    pub parent-end : c .edges ≤ i → IsNext Node.End from (c .edges) (parentsFrom (graphOf w c) x)
-    unfolding parentsFrom graphOf numberIs edgeIn
-    parent-end h =
-        chosen-end (λ (d : G.Edge). eqb (d .to) x) (λ (d : G.Edge). d .from) edgeIn (w .edges) (c .edges) from i
-        (numberIs edgeSize (w .edges) 2 x) (λ k. refl) f h
+  owner-of : (j : ℕ) → j < c .alternatives → ownerOf (graphOf w c) j ≡ keyIn alternativePlaces (w .alternatives) j
+  unfolding graphOf alternativeIn
+  owner-of j l = ap (λ (d : G.Alternative). d .owner) (getD-records alternativeIn (w .alternatives) (c .alternatives) j _ l)
 
-  module _ (f : FirstAt (numberIs alternativeSize (w .alternatives) 8 x) from (c .alternatives) i) where
-    pub alternative-next : (s : Rows.RowSet) → valueOf s ≡ alternativeIn (w .alternatives) i .rows → i < c .alternatives
-        → IsNextAlternative (Set.At i s) from (c .alternatives) (alternativesFrom (graphOf w c) x)
-    unfolding alternativesFrom graphOf numberIs alternativeIn
-    alternative-next s p h = (
-      f .start,
-      h,
-      rw p (chosen-found (λ (d : G.Alternative). eqb (d .owner) x) (λ (d : G.Alternative). d .rows) alternativeIn (w .alternatives) (c .alternatives) from i
-          (numberIs alternativeSize (w .alternatives) 8 x) (λ k. refl) f h),
-    )
+-- from place `from` of the chain of x on, among the first `count` records, the chain gives record i
+module _ (p : Places) (n b : Bytes) {m k count x from i : ℕ} (C : ChainIn p n b m k) (h : x < m) (few : count ≤ k) (l : from ≤ count)
+    (key : ℕ → ℕ) (same : (j : ℕ) → j < count → key j ≡ keyIn p b j) (o : Behind key x from) (s : i ≡ following (nextIn p b) (firstIn p n) x from) where
+  along : First (keyIn p b) x from k i
+  along = rw s (chain-follows C h from (omega arith) (behind-same (λ j q. sym (same j q)) x from l o))
 
-    pub alternative-end : c .alternatives ≤ i → IsNextAlternative Set.End from (c .alternatives) (alternativesFrom (graphOf w c) x)
-    unfolding alternativesFrom graphOf numberIs alternativeIn
+  along-found : i < count → FirstAt (λ j. eqb (keyIn p b j) x) from count i
+  along-found q = first-found along (C .few) count few q
+
+  along-end : count ≤ i → FirstAt (λ j. eqb (keyIn p b j) x) from count count
+  along-end q = first-end along (C .few) count few l q
+
+  along-place : i < count → Behind key x (i + 1)
+  along-place q =
+      let e : suc i ≡ i + 1 = omega arith in
+      subst (λ (v : ℕ). Behind key x v) e (same i q ∙ along .found (omega (arith, C .few)) .2)
+
+module _ {n e a : Bytes} {c d : Counts} (H : Held (work n e a) d) (grown : Grown c d) where
+  -- the graph with counts c
+  abbrev g : G.Graph
+  g = graphOf (work n e a) c
+
+  module _ {x from : ℕ} (walks : Walks edgeSize n e (c .nodes) (c .edges) x from) where
+    there : x < d .nodes
+    there = omega (arith, walks .node, grown .nodes)
+
+    module _ {i : ℕ} (o : AmongChildren g x from) (s : i ≡ following (nextIn childPlaces e) (firstIn childPlaces n) x from) where
+      pub child-next : (y : ℕ) → y ≡ edgeIn e i .to → i < c .edges → IsNext (Node.At i y) from (c .edges) (childrenFrom g x) (AmongChildren g x)
+      unfolding childrenFrom graphOf edgeIn
+      child-next y p h =
+          let f = along-found childPlaces n e (H .chains .children) there (grown .edges) (walks .place) (startOf g) (start-of (work n e a) c) o s h in (
+            f .start,
+            h,
+            rw p (chosen-found (λ (d : G.Edge). eqb (d .from) x) (λ (d : G.Edge). d .to) edgeIn e (c .edges) from i _ (λ k. refl) f h),
+            along-place childPlaces n e (H .chains .children) there (grown .edges) (walks .place) (startOf g) (start-of (work n e a) c) o s h,
+          )
+
+      pub child-end : c .edges ≤ i → IsNext Node.End from (c .edges) (childrenFrom g x) (AmongChildren g x)
+      unfolding childrenFrom graphOf edgeIn
+      child-end h =
+          chosen-end (λ (d : G.Edge). eqb (d .from) x) (λ (d : G.Edge). d .to) edgeIn e (c .edges) from (c .edges) _ (λ k. refl)
+          (along-end childPlaces n e (H .chains .children) there (grown .edges) (walks .place) (startOf g) (start-of (work n e a) c) o s h) (omega arith)
+
+    module _ {i : ℕ} (o : AmongParents g x from) (s : i ≡ following (nextIn parentPlaces e) (firstIn parentPlaces n) x from) where
+      pub parent-next : (y : ℕ) → y ≡ edgeIn e i .from → i < c .edges → IsNext (Node.At i y) from (c .edges) (parentsFrom g x) (AmongParents g x)
+      unfolding parentsFrom graphOf edgeIn
+      parent-next y p h =
+          let f = along-found parentPlaces n e (H .chains .parents) there (grown .edges) (walks .place) (endOf g) (end-of (work n e a) c) o s h in (
+            f .start,
+            h,
+            rw p (chosen-found (λ (d : G.Edge). eqb (d .to) x) (λ (d : G.Edge). d .from) edgeIn e (c .edges) from i _ (λ k. refl) f h),
+            along-place parentPlaces n e (H .chains .parents) there (grown .edges) (walks .place) (endOf g) (end-of (work n e a) c) o s h,
+          )
+
+      pub parent-end : c .edges ≤ i → IsNext Node.End from (c .edges) (parentsFrom g x) (AmongParents g x)
+      unfolding parentsFrom graphOf edgeIn
+      parent-end h =
+          chosen-end (λ (d : G.Edge). eqb (d .to) x) (λ (d : G.Edge). d .from) edgeIn e (c .edges) from (c .edges) _ (λ k. refl)
+          (along-end parentPlaces n e (H .chains .parents) there (grown .edges) (walks .place) (endOf g) (end-of (work n e a) c) o s h) (omega arith)
+
+  module _ {x from i : ℕ} (walks : Walks alternativeSize n a (c .nodes) (c .alternatives) x from) (o : AmongAlternatives g x from)
+      (s : i ≡ following (nextIn alternativePlaces a) (firstIn alternativePlaces n) x from) where
+    pub alternative-next : (v : Rows.RowSet) → valueOf v ≡ alternativeIn a i .rows → i < c .alternatives
+        → IsNextAlternative (Set.At i v) from (c .alternatives) (alternativesFrom g x) (AmongAlternatives g x)
+    unfolding alternativesFrom graphOf alternativeIn
+    alternative-next v p h =
+        let t : x < d .nodes = omega (arith, walks .node, grown .nodes) in
+        let f = along-found alternativePlaces n a (H .chains .alternatives) t (grown .alternatives) (walks .place) (ownerOf g) (owner-of (work n e a) c) o s h in (
+          f .start,
+          h,
+          rw p (chosen-found (λ (d : G.Alternative). eqb (d .owner) x) (λ (d : G.Alternative). d .rows) alternativeIn a (c .alternatives) from i _ (λ k. refl) f h),
+          along-place alternativePlaces n a (H .chains .alternatives) t (grown .alternatives) (walks .place) (ownerOf g) (owner-of (work n e a) c) o s h,
+        )
+
+    pub alternative-end : c .alternatives ≤ i → IsNextAlternative Set.End from (c .alternatives) (alternativesFrom g x) (AmongAlternatives g x)
+    unfolding alternativesFrom graphOf alternativeIn
     alternative-end h =
-        chosen-end (λ (d : G.Alternative). eqb (d .owner) x) (λ (d : G.Alternative). d .rows) alternativeIn (w .alternatives) (c .alternatives) from i
-        (numberIs alternativeSize (w .alternatives) 8 x) (λ k. refl) f h
+        let t : x < d .nodes = omega (arith, walks .node, grown .nodes) in
+        chosen-end (λ (d : G.Alternative). eqb (d .owner) x) (λ (d : G.Alternative). d .rows) alternativeIn a (c .alternatives) from (c .alternatives) _ (λ k. refl)
+        (along-end alternativePlaces n a (H .chains .alternatives) t (grown .alternatives) (walks .place) (ownerOf g) (owner-of (work n e a) c) o s h) (omega arith)
+
+-- ---- a search through the alternatives of a state
+
+any-chosen : {A B : Type 0} (pass : A → Bool) (worth : A → B) (test : B → Bool) (xs : List A) → any (λ d. pass d && test (worth d)) xs ≡ any test (chosenFrom pass worth xs 0)
+unfolding any chosenFrom select
+any-chosen pass worth test [] = refl
+any-chosen pass worth test (d ∷ xs) = by (pass d) refl (any-chosen pass worth test xs)
+  where
+    by : (b : Bool) → pass d ≡ b → any (λ d. pass d && test (worth d)) xs ≡ any test (chosenFrom pass worth xs 0)
+        → any (λ d. pass d && test (worth d)) (d ∷ xs) ≡ any test (chosenFrom pass worth (d ∷ xs) 0)
+    by true e rest = rw e (ap (λ (t : Bool). test (worth d) || t) rest)
+    by false e rest = rw e rest
+
+has-among : (x : ℕ) (s : RowSet) (g : G.Graph) → G.hasAlternative x s g ≡ any (λ v. eqb v s) (alternativesFrom g x 0)
+unfolding G.hasAlternative alternativesFrom
+has-among x s g = any-chosen (λ (d : G.Alternative). eqb (d .owner) x) (λ (d : G.Alternative). d .rows) (λ v. eqb v s) (g .alternatives)
+
+-- a search through the alternatives of x: those from place i on have the set exactly if all have. Which edges there are is nothing to them
+pub record Sought (n a : Bytes) (c : Counts) (x : ℕ) (s : RowSet) (i : ℕ) : Type 0 where
+  pub place : i ≤ c .alternatives
+  pub among : AmongAlternatives (graphOf (work n [] a) c) x i
+  pub left : (e : Bytes) → any (λ v. eqb v s) (alternativesFrom (graphOf (work n e a) c) x i) ≡ G.hasAlternative x s (graphOf (work n e a) c)
+
+pub sought-start : (n a : Bytes) (c : Counts) (x : ℕ) (s : RowSet) → Sought n a c x s 0
+sought-start n a c x s = record { place = omega arith; among = tt; left = λ e. sym (has-among x s (graphOf (work n e a) c)) }
+
+module _ {n a : Bytes} {c : Counts} {x : ℕ} {s : RowSet} {i : ℕ} (O : Owns n a c x) (S : Sought n a c x s i) where
+  pub sought-walks : Walks alternativeSize n a (c .nodes) (c .alternatives) x i
+  sought-walks = record { node = O .node; nodes = O .held .nodes; place = S .place; records = O .held .alternatives }
+
+  module _ {r : NextAlternative}
+      (N : WithAlternatives n a c (λ g. AmongAlternatives g x i → IsNextAlternative r i (c .alternatives) (alternativesFrom g x) (AmongAlternatives g x))) where
+    -- the answer, whatever the edges
+    answered : (v : NextAlternative) → r ≡ v → (e : Bytes)
+        → let g = graphOf (work n e a) c in IsNextAlternative v i (c .alternatives) (alternativesFrom g x) (AmongAlternatives g x)
+    unfolding graphOf alternativesFrom
+    answered v q e =
+        let g = graphOf (work n (O .edges) a) c in
+        subst (λ (u : NextAlternative). IsNextAlternative u i (c .alternatives) (alternativesFrom g x) (AmongAlternatives g x)) q
+        (N (O .edges) c (O .held) grown-refl (S .among))
+
+    pub sought-end : r ≡ Set.End → (e : Bytes) → false ≡ G.hasAlternative x s (graphOf (work n e a) c)
+    unfolding any
+    sought-end q e = ap (λ (l : List RowSet). any (λ v. eqb v s) l) (sym (answered Set.End q e)) ∙ S .left e
+
+    module _ {j : ℕ} {v : Rows.RowSet} (q : r ≡ Set.At j v) where
+      pub sought-from : i ≤ j
+      sought-from = answered (Set.At j v) q [] .0
+
+      pub sought-below : j < c .alternatives
+      sought-below = answered (Set.At j v) q [] .1
+
+      -- by whether it is the set
+      by-first : (b : Bool) → eqb (valueOf v) s ≡ b → (e : Bytes)
+          → (b || any (λ v. eqb v s) (alternativesFrom (graphOf (work n e a) c) x (j + 1))) ≡ G.hasAlternative x s (graphOf (work n e a) c)
+      unfolding any
+      by-first b t e =
+          ap (λ (b : Bool). b || any (λ v. eqb v s) (alternativesFrom (graphOf (work n e a) c) x (j + 1))) (sym t)
+          ∙ ap (λ (l : List RowSet). any (λ v. eqb v s) l) (sym (answered (Set.At j v) q e .2)) ∙ S .left e
+
+      pub sought-here : eqb (valueOf v) s ≡ true → (e : Bytes) → true ≡ G.hasAlternative x s (graphOf (work n e a) c)
+      sought-here t e = by-first true t e
+
+      pub sought-more : eqb (valueOf v) s ≡ false → Sought n a c x s (j + 1)
+      sought-more t = record { place = omega (arith, sought-below); among = answered (Set.At j v) q [] .3; left = by-first false t }

@@ -1,16 +1,21 @@
 // The graph of the procedure in three lent areas, of nodes, of edges and of alternatives (01, The procedure; Areas).
 //
-// In order: the values; adding a record; changing a node; searches; the records that belong to a node, one after another.
-// How a record stands in bytes is in crate records.
+// In order: the values; the chains; the records that belong to a node, one after another; adding a record; changing a node; searches.
+// How a record stands in bytes is in crate records, and what a chain is in crate chains.
 ghost use mathlib.Core.Path.{_≡_};
 ghost use Prim.Native.Nat.{_≤_, _<_};
+ghost use Rattle.concepts.specs.Lists.{NoneBelow};
 ghost use Rattle.procedure.specs.Graph.{addNode, addEdge, hasAlternative, addAlternative, setStatus, setLink, findState, lowestUnset};
 ghost use Rattle.words.specs.Sizes.{nodeSize, edgeSize, alternativeSize};
 ghost use Rattle.rowset.specs.Value.{valueOf};
-ghost use Rattle.records.specs.Areas.{roomOf, Fits};
+ghost use Rattle.records.specs.Areas.{Bytes, roomOf, Fits};
 ghost use Rattle.records.specs.Codes as Codes;
 ghost use Rattle.records.specs.Records as Records;
 ghost use Rattle.graph.specs.Graphs as Graphs;
+use chains::Places;
+use chains::append;
+use chains::begin;
+use chains::follow;
 use records::ALTERNATIVE_BYTES;
 use records::Alternative;
 use records::EDGE_BYTES;
@@ -26,7 +31,6 @@ use records::is_unset;
 use records::load_alternative;
 use records::load_edge;
 use records::load_node;
-use records::next_with;
 use records::room;
 use records::store_alternative;
 use records::store_edge;
@@ -73,13 +77,93 @@ pub enum NextAlternative {
     End,
 }
 
-// Adds a node at the end.
+// Where the chains keep their numbers: of the edges from a node, of the edges to it, of a state's alternatives.
+const CHILDREN: Places = Places {
+    size: EDGE_BYTES,
+    key: FROM,
+    next: 10,
+    first: 20,
+};
+
+const PARENTS: Places = Places {
+    size: EDGE_BYTES,
+    key: TO,
+    next: 12,
+    first: 24,
+};
+
+const ALTERNATIVES: Places = Places {
+    size: ALTERNATIVE_BYTES,
+    key: OWNER,
+    next: 10,
+    first: 28,
+};
+
+// The first edge from place `from` on that starts at x, with its end.
+pub fn next_child(nodes: &[u8], edges: &[u8], c: Counts, x: u16, from: usize) -> Next
+    requires { ⌜ Graphs.Walks edgeSize (now nodes) (now edges) (c .nodes) (c .edges) x from ⌝ }
+    ensures { λ r. ⌜ Graphs.WithEdges (now (nodes .entry)) (now (edges .entry)) c
+        (λ g. Graphs.AmongChildren g x from → Graphs.IsNext r from (c .edges) (Graphs.childrenFrom g x) (Graphs.AmongChildren g x)) ⌝ }
+{
+    let index = follow(nodes, edges, CHILDREN, x as usize, from);
+    if index < c.edges {
+        let d = load_edge(edges, index);
+        Next::At { index, node: d.to }
+    } else {
+        Next::End
+    }
+}
+
+// The first edge from place `from` on that ends at x, with its start.
+pub fn next_parent(nodes: &[u8], edges: &[u8], c: Counts, x: u16, from: usize) -> Next
+    requires { ⌜ Graphs.Walks edgeSize (now nodes) (now edges) (c .nodes) (c .edges) x from ⌝ }
+    ensures { λ r. ⌜ Graphs.WithEdges (now (nodes .entry)) (now (edges .entry)) c
+        (λ g. Graphs.AmongParents g x from → Graphs.IsNext r from (c .edges) (Graphs.parentsFrom g x) (Graphs.AmongParents g x)) ⌝ }
+{
+    let index = follow(nodes, edges, PARENTS, x as usize, from);
+    if index < c.edges {
+        let d = load_edge(edges, index);
+        Next::At {
+            index,
+            node: d.from,
+        }
+    } else {
+        Next::End
+    }
+}
+
+// The first alternative from place `from` on that is state x's, with its set.
+pub fn next_alternative(
+    nodes: &[u8],
+    alternatives: &[u8],
+    c: Counts,
+    x: u16,
+    from: usize,
+) -> NextAlternative
+    requires { ⌜ Graphs.Walks alternativeSize (now nodes) (now alternatives) (c .nodes) (c .alternatives) x from ⌝ }
+    ensures { λ r. ⌜ Graphs.WithAlternatives (now (nodes .entry)) (now (alternatives .entry)) c
+        (λ g. Graphs.AmongAlternatives g x from → Graphs.IsNextAlternative r from (c .alternatives) (Graphs.alternativesFrom g x) (Graphs.AmongAlternatives g x)) ⌝ }
+{
+    let index = follow(nodes, alternatives, ALTERNATIVES, x as usize, from);
+    if index < c.alternatives {
+        let d = load_alternative(alternatives, index);
+        let rows = d.rows;
+        NextAlternative::At { index, rows }
+    } else {
+        NextAlternative::End
+    }
+}
+
+// Adds a node at the end. It has no children, no parents and no alternatives.
 pub fn add_node(nodes: &mut [u8], c: Counts, n: Node) -> Step
     ensures { λ r. ⌜ Graphs.AddsNode (now (nodes .entry)) (now (nodes .exit)) c r (λ k g. addNode k (Records.nodeOf n) g) ⌝ }
 {
     let x = c.nodes;
     if x < room(nodes.len(), NODE_BYTES) {
         store_node(nodes, x, n);
+        begin(nodes, CHILDREN, x);
+        begin(nodes, PARENTS, x);
+        begin(nodes, ALTERNATIVES, x);
         Step::Done(Counts {
             nodes: x + 1,
             edges: c.edges,
@@ -91,12 +175,15 @@ pub fn add_node(nodes: &mut [u8], c: Counts, n: Node) -> Step
 }
 
 // Adds an edge at the end.
-pub fn add_edge(edges: &mut [u8], c: Counts, from: u16, to: u16) -> Step
-    ensures { λ r. ⌜ Graphs.AddsEdge (now (edges .entry)) (now (edges .exit)) c r (λ k g. addEdge k from to g) ⌝ }
+pub fn add_edge(nodes: &mut [u8], edges: &mut [u8], c: Counts, from: u16, to: u16) -> Step
+    requires { ⌜ (from < c .nodes) × (to < c .nodes) × (c .nodes ≤ roomOf nodeSize (now nodes)) ⌝ }
+    ensures { λ r. ⌜ Graphs.AddsEdge (now (nodes .entry)) (now (nodes .exit)) (now (edges .entry)) (now (edges .exit)) c r (λ k g. addEdge k from to g) ⌝ }
 {
     let i = c.edges;
     if i < room(edges.len(), EDGE_BYTES) {
         store_edge(edges, i, Edge { from, to });
+        append(nodes, edges, CHILDREN, from as usize, i);
+        append(nodes, edges, PARENTS, to as usize, i);
         Step::Done(Counts {
             nodes: c.nodes,
             edges: i + 1,
@@ -107,43 +194,48 @@ pub fn add_edge(edges: &mut [u8], c: Counts, from: u16, to: u16) -> Step
     }
 }
 
-// Whether alternative i is this one.
-fn is_alternative(alternatives: &[u8], i: usize, owner: u16, rows: RowSet) -> bool
-    requires { ⌜ Fits alternativeSize (now alternatives) i ⌝ }
-    ensures { λ r. ⌜ r ≡ Graphs.isAlternative owner (valueOf rows) (Records.alternativeIn (now (alternatives .entry)) i) ⌝ }
-{
-    let d = load_alternative(alternatives, i);
-    let its = d.rows;
-    (d.owner == owner) & rowset::same(its, rows)
-}
-
 // Whether the state has the alternative already.
-fn has_alternative(alternatives: &[u8], c: Counts, owner: u16, rows: RowSet) -> bool
-    requires { ⌜ c .alternatives ≤ roomOf alternativeSize (now alternatives) ⌝ }
-    ensures { λ r. ⌜ Graphs.WithAlternatives (now (alternatives .entry)) c (λ g. r ≡ hasAlternative owner (valueOf rows) g) ⌝ }
+fn has_alternative(nodes: &[u8], alternatives: &[u8], c: Counts, owner: u16, rows: RowSet) -> bool
+    requires { ⌜ Graphs.Owns (now nodes) (now alternatives) c owner ⌝ }
+    ensures { λ r. ⌜ ((e : Bytes) → r ≡ hasAlternative owner (valueOf rows) (Graphs.graphOf (Graphs.work (now (nodes .entry)) e (now (alternatives .entry))) c)) ⌝ }
 {
-    let count = c.alternatives;
-    let mut i = 0;
-    while i < count {
-        if is_alternative(alternatives, i, owner, rows) {
+    let mut i: usize = 0;
+    loop {
+        let NextAlternative::At { index, rows: its } = next_alternative(
+            nodes,
+            alternatives,
+            c,
+            owner,
+            i,
+        ) else {
+            return false;
+        };
+        if rowset::same(its, rows) {
             return true;
         }
-        i += 1;
+        i = index + 1;
     }
-    false
 }
 
 // Adds an alternative at the end, unless the state has it already.
-pub fn add_alternative(alternatives: &mut [u8], c: Counts, owner: u16, rows: RowSet) -> Step
-    requires { ⌜ c .alternatives ≤ roomOf alternativeSize (now alternatives) ⌝ }
-    ensures { λ r. ⌜ Graphs.AddsAlternative (now (alternatives .entry)) (now (alternatives .exit)) c r (λ k g. addAlternative k owner (valueOf rows) g) ⌝ }
+pub fn add_alternative(
+    nodes: &mut [u8],
+    alternatives: &mut [u8],
+    c: Counts,
+    owner: u16,
+    rows: RowSet,
+) -> Step
+    requires { ⌜ Graphs.Owns (now nodes) (now alternatives) c owner ⌝ }
+    ensures { λ r. ⌜ Graphs.AddsAlternative (now (nodes .entry)) (now (nodes .exit)) (now (alternatives .entry)) (now (alternatives .exit)) c r
+        (λ k g. addAlternative k owner (valueOf rows) g) ⌝ }
 {
-    if has_alternative(alternatives, c, owner, rows) {
+    if has_alternative(nodes, alternatives, c, owner, rows) {
         return Step::Done(c);
     }
     let i = c.alternatives;
     if i < room(alternatives.len(), ALTERNATIVE_BYTES) {
         store_alternative(alternatives, i, Alternative { owner, rows });
+        append(nodes, alternatives, ALTERNATIVES, owner as usize, i);
         Step::Done(Counts {
             nodes: c.nodes,
             edges: c.edges,
@@ -196,13 +288,13 @@ pub fn find_state(nodes: &[u8], c: Counts, rows: RowSet) -> FoundNode
     FoundNode::Nothing
 }
 
-// The lowest node that has no status.
-pub fn lowest_unset(nodes: &[u8], c: Counts) -> FoundNode
-    requires { ⌜ c .nodes ≤ roomOf nodeSize (now nodes) ⌝ }
-    ensures { λ r. ⌜ Graphs.WithNodes (now (nodes .entry)) c (λ g. Graphs.foundOf r ≡ lowestUnset g) ⌝ }
+// The lowest node that has no status, where none below `from` lacks one; nor does any below the one that is found.
+pub fn lowest_unset(nodes: &[u8], c: Counts, from: usize) -> FoundNode
+    requires { ⌜ (c .nodes ≤ roomOf nodeSize (now nodes)) × (from ≤ c .nodes) × NoneBelow (Records.isUnsetAt (now nodes)) from ⌝ }
+    ensures { λ r. ⌜ Graphs.WithNodes (now (nodes .entry)) c (λ g. Graphs.foundOf r ≡ lowestUnset g) × Graphs.PassedOver r (Records.isUnsetAt (now (nodes .entry))) ⌝ }
 {
     let count = c.nodes;
-    let mut x = 0;
+    let mut x = from;
     while x < count {
         if is_unset(nodes, x) {
             return FoundNode::At(x as u16);
@@ -210,57 +302,4 @@ pub fn lowest_unset(nodes: &[u8], c: Counts) -> FoundNode
         x += 1;
     }
     FoundNode::Nothing
-}
-
-// The first edge from `from` on that starts at x, with its end.
-pub fn next_child(edges: &[u8], c: Counts, x: u16, from: usize) -> Next
-    requires { ⌜ c .edges ≤ roomOf edgeSize (now edges) ⌝ }
-    ensures { λ r. ⌜ Graphs.WithEdges (now (edges .entry)) c (λ g. Graphs.IsNext r from (c .edges) (Graphs.childrenFrom g x)) ⌝ }
-{
-    let index = next_with(edges, EDGE_BYTES, c.edges, FROM, x, from);
-    if index < c.edges {
-        let d = load_edge(edges, index);
-        Next::At { index, node: d.to }
-    } else {
-        Next::End
-    }
-}
-
-// The first edge from `from` on that ends at x, with its start.
-pub fn next_parent(edges: &[u8], c: Counts, x: u16, from: usize) -> Next
-    requires { ⌜ c .edges ≤ roomOf edgeSize (now edges) ⌝ }
-    ensures { λ r. ⌜ Graphs.WithEdges (now (edges .entry)) c (λ g. Graphs.IsNext r from (c .edges) (Graphs.parentsFrom g x)) ⌝ }
-{
-    let index = next_with(edges, EDGE_BYTES, c.edges, TO, x, from);
-    if index < c.edges {
-        let d = load_edge(edges, index);
-        Next::At {
-            index,
-            node: d.from,
-        }
-    } else {
-        Next::End
-    }
-}
-
-// The first alternative from `from` on that is state x's, with its set.
-pub fn next_alternative(alternatives: &[u8], c: Counts, x: u16, from: usize) -> NextAlternative
-    requires { ⌜ c .alternatives ≤ roomOf alternativeSize (now alternatives) ⌝ }
-    ensures { λ r. ⌜ Graphs.WithAlternatives (now (alternatives .entry)) c (λ g. Graphs.IsNextAlternative r from (c .alternatives) (Graphs.alternativesFrom g x)) ⌝ }
-{
-    let index = next_with(
-        alternatives,
-        ALTERNATIVE_BYTES,
-        c.alternatives,
-        OWNER,
-        x,
-        from,
-    );
-    if index < c.alternatives {
-        let d = load_alternative(alternatives, index);
-        let rows = d.rows;
-        NextAlternative::At { index, rows }
-    } else {
-        NextAlternative::End
-    }
 }

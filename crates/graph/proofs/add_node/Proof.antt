@@ -3,15 +3,20 @@
 use native.Mathlib.Omega.{arith}
 use borrow.Author.Needs.{needs}
 use Rattle.records.specs.Records.{nodeOf}
-use Rattle.graph.specs.GraphLaws.{add-node-done, add-node-full}
+use Rattle.graph.specs.ChainsLaws.{child-sits, parent-sits, alternative-sits}
+use Rattle.graph.specs.AddLaws.{add-node-done, add-node-full}
 use Rattle.graph.proofs.add_node.Statement.{statement}
 use Rattle.graph.proofs.add_node.Tie as tie
 
 returns : tie.Need-returns
 returns c =
-    let there : tie.Then1 = search in
+    let alternatives : tie.After-begin3 = search in
+    let parents : tie.After-begin2 = search in
+    let children : tie.After-begin = search in
     let w : tie.After-store-node = search in
-    add-node-done _ _ (w .store-node .ensures) (omega (arith, there .if1 .taken, there .before .room .ensures))
+    let there : tie.Then1 = search in
+    add-node-done _ _ (w .store-node .ensures) (children .begin .ensures) (parents .begin2 .ensures) (alternatives .begin3 .ensures)
+    (omega (arith, there .if1 .taken, there .before .room .ensures))
 
 returns-2 : tie.Need-returns-2
 returns-2 c =
@@ -24,8 +29,13 @@ add-node-spec =
     (tie.spec
     -- room(nodes.len(), NODE_BYTES)
     (λ c κs. search needs)
-    -- store_node(nodes, x, n), x + 1
+    -- store_node(nodes, x, n)
     (λ c κs. search needs)
+    -- begin(nodes, CHILDREN, x), begin(nodes, PARENTS, x), begin(nodes, ALTERNATIVES, x)
+    (λ c κs. search (child-sits, needs))
+    (λ c κs. search (parent-sits, needs))
+    (λ c κs. search (alternative-sits, needs))
+    -- x + 1
     (λ c. search needs)
     (λ c. search needs)
     returns

@@ -1,46 +1,69 @@
--- `graph::has_alternative` meets its contract: the invariant is that no alternative below `i` is the one looked for.
+-- `graph::has_alternative` meets its contract: the invariant is that the alternatives that are left have the set exactly if all have.
 -- Assumes nothing.
 use mathlib.Core.Path.{sym, _∙_}
-use Prim.Native.Nat.{_-_, _≤_}
+use Prim.Native.Nat.{_-_}
 use native.Mathlib.Omega.{arith}
-use borrow.Author.Count.{below-none, below-more}
-use Rattle.concepts.specs.Lists.{NoneBelow}
+use borrow.Author.Needs.{needs}
 use Rattle.rowset.specs.Value.{valueOf}
-use Rattle.records.specs.Records.{alternativeIn}
-use Rattle.graph.specs.Graphs.{work, isAlternative}
-use Rattle.graph.specs.SearchLaws.{has-found, has-nowhere}
+use Rattle.graph.specs.SearchLaws.{Sought, sought-start, sought-walks, sought-end, sought-from, sought-below, sought-here, sought-more}
 use Rattle.graph.proofs.has_alternative.Statement.{statement}
 use Rattle.graph.proofs.has_alternative.Tie as tie
 
 abbrev Inv-loop : tie.InvT-loop
-Inv-loop alternatives owner rows count i₀ i = (i ≤ count) × NoneBelow (λ k. isAlternative owner (valueOf rows) (alternativeIn alternatives k)) i
+Inv-loop nodes alternatives c owner rows i₀ i = Sought nodes alternatives c owner (valueOf rows) i
 
 abbrev μ-loop : tie.MeasureT-loop
-μ-loop alternatives owner rows count i₀ i = count - i
+μ-loop nodes alternatives c owner rows i₀ i = c .alternatives - i
 
 abbrev At : (tie.InvT-loop → tie.MeasureT-loop → Type 0) → Type 0
 At P = P Inv-loop μ-loop
 
-loop-holds : At tie.Need-loop-holds
-loop-holds c = (omega arith, below-none _)
-
-is-alternative-requires : At tie.Need-is-alternative-requires
-is-alternative-requires c κs = let s : At tie.Start = search in (omega (arith, s .pre), omega (arith, s .pre))
+next-alternative-requires : At tie.Need-next-alternative-requires
+next-alternative-requires c κs = let s : At tie.Start = search in sought-walks (s .pre) (c .loop .inv)
 
 returns : At tie.Need-returns
 returns c =
-    let l : At tie.In-loop = search in
-    λ n e h. sym (has-found (work n e _) _ _ _ _ (omega (arith, l .loop-test .taken)) (sym (c .before .is-alternative .ensures) ∙ c .if1 .taken))
-
-loop-again : At tie.Need-loop-again
-loop-again c =
+    let next : At tie.After-next-alternative = search in
     let l : At tie.At-loop = search in
-    (omega arith, below-more _ _ (l .loop .inv .1) (sym (c .before .is-alternative .ensures) ∙ c .if1 .left))
+    let s : At tie.Start = search in
+    sought-end (s .pre) (l .loop .inv) (next .next-alternative .ensures) (c .enum-told .given .1)
 
 returns-2 : At tie.Need-returns-2
 returns-2 c =
+    let found : At tie.After-index = search in
+    let next : At tie.After-next-alternative = search in
     let l : At tie.At-loop = search in
-    λ n e h. sym (has-nowhere (work n e _) _ _ _ (λ k p. l .loop .inv .1 k (omega (arith, c .loop-test .left))))
+    let s : At tie.Start = search in
+    sought-here (s .pre) (l .loop .inv) (next .next-alternative .ensures) (found .index .given .1) (sym (c .before .same .ensures) ∙ c .if1 .taken)
+
+add-i : At tie.Need-add-i
+add-i c =
+    let found : At tie.After-index = search in
+    let next : At tie.After-next-alternative = search in
+    let l : At tie.At-loop = search in
+    let s : At tie.Start = search in
+    omega (arith, sought-below (s .pre) (l .loop .inv) (next .next-alternative .ensures) (found .index .given .1), s .pre .held .alternatives)
+
+loop-less : At tie.Need-loop-less
+loop-less c =
+    let found : At tie.After-index = search in
+    let next : At tie.After-next-alternative = search in
+    let l : At tie.At-loop = search in
+    let s : At tie.Start = search in
+    omega (
+      arith,
+      sought-from (s .pre) (l .loop .inv) (next .next-alternative .ensures) (found .index .given .1),
+      sought-below (s .pre) (l .loop .inv) (next .next-alternative .ensures) (found .index .given .1),
+    )
+
+loop-again : At tie.Need-loop-again
+loop-again c =
+    let test : At tie.Else1 = search in
+    let found : At tie.After-index = search in
+    let next : At tie.After-next-alternative = search in
+    let l : At tie.At-loop = search in
+    let s : At tie.Start = search in
+    sought-more (s .pre) (l .loop .inv) (next .next-alternative .ensures) (found .index .given .1) (sym (test .before .same .ensures) ∙ test .if1 .left)
 
 pub has-alternative-spec : {M : Type 1} → statement M
 has-alternative-spec =
@@ -48,10 +71,17 @@ has-alternative-spec =
     (tie.spec
     Inv-loop
     μ-loop
-    loop-holds
-    is-alternative-requires
+    (λ c. sought-start _ _ _ _ _)
+    -- next_alternative(nodes, alternatives, c, owner, i)
+    next-alternative-requires
+    (λ c. search needs)
+    -- return false
+    (λ c. search needs)
     returns
-    -- i += 1
-    (λ c. omega arith) (λ c. omega arith)
-    loop-again
-    returns-2)
+    -- rowset::same(its, rows), return true
+    (λ c κs. search needs)
+    returns-2
+    -- i = index + 1
+    add-i
+    loop-less
+    loop-again)

@@ -3,7 +3,7 @@
 use mathlib.Core.Path.{sym, _∙_}
 use Prim.Native.Nat.{_-_, _≤_}
 use native.Mathlib.Omega.{arith}
-use borrow.Author.Count.{below-none, below-more}
+use borrow.Author.Count.{below-more}
 use Rattle.concepts.specs.Lists.{NoneBelow}
 use Rattle.records.specs.Records.{isUnsetAt}
 use Rattle.graph.specs.Graphs.{work}
@@ -12,27 +12,29 @@ use Rattle.graph.proofs.lowest_unset.Statement.{statement}
 use Rattle.graph.proofs.lowest_unset.Tie as tie
 
 abbrev Inv-loop : tie.InvT-loop
-Inv-loop nodes count x₀ x = (x ≤ count) × NoneBelow (isUnsetAt nodes) x
+Inv-loop nodes from count x₀ x = (x ≤ count) × NoneBelow (isUnsetAt nodes) x
 
 abbrev μ-loop : tie.MeasureT-loop
-μ-loop nodes count x₀ x = count - x
+μ-loop nodes from count x₀ x = count - x
 
 abbrev At : (tie.InvT-loop → tie.MeasureT-loop → Type 0) → Type 0
 At P = P Inv-loop μ-loop
 
 loop-holds : At tie.Need-loop-holds
-loop-holds c = (omega arith, below-none _)
+loop-holds c = let s : At tie.Start = search in (omega (arith, s .pre), s .pre .2)
 
 is-unset-requires : At tie.Need-is-unset-requires
 is-unset-requires c κs = let s : At tie.Start = search in (omega (arith, s .pre), omega (arith, s .pre))
 
-fits : At tie.Need-cast-t7
+fits : At tie.Need-cast-t8
 fits c = let s : At tie.Start = search in omega (arith, s .pre)
 
 returns : At tie.Need-returns
 returns c =
-    let l : At tie.In-loop = search in
-    λ e a h. sym (unset-found (work _ e a) _ _ (omega (arith, l .loop-test .taken)) (l .before .loop .inv .1) (sym (c .before .is-unset .ensures) ∙ c .if1 .taken))
+    let l : At tie.In-loop = search in (
+      λ e a h. sym (unset-found (work _ e a) _ _ (omega (arith, l .loop-test .taken)) (l .before .loop .inv .1) (sym (c .before .is-unset .ensures) ∙ c .if1 .taken)),
+      l .before .loop .inv .1,
+    )
 
 loop-again : At tie.Need-loop-again
 loop-again c =
@@ -42,7 +44,7 @@ loop-again c =
 returns-2 : At tie.Need-returns-2
 returns-2 c =
     let l : At tie.At-loop = search in
-    λ e a h. sym (unset-nowhere (work _ e a) _ (λ k p. l .loop .inv .1 k (omega (arith, c .loop-test .left))))
+    (λ e a h. sym (unset-nowhere (work _ e a) _ (λ k p. l .loop .inv .1 k (omega (arith, c .loop-test .left)))), tt)
 
 pub lowest-unset-spec : {M : Type 1} → statement M
 lowest-unset-spec =

@@ -1,28 +1,46 @@
--- `graph::next_child` meets its contract: by the index that the search found.
+-- `graph::next_child` meets its contract: the chain has what a search would find.
 -- Assumes nothing.
 use mathlib.Core.Path.{ap}
+use native.Mathlib.Omega.{arith}
 use borrow.Author.Needs.{needs}
 use Rattle.procedure.specs.Graph.{Edge}
-use Rattle.graph.specs.Graphs.{work}
+use Rattle.graph.specs.ChainsLaws.{child-sits}
 use Rattle.graph.specs.SearchLaws.{child-next, child-end}
 use Rattle.graph.proofs.next_child.Statement.{statement}
 use Rattle.graph.proofs.next_child.Tie as tie
 
+follow-requires : tie.Need-follow-requires
+follow-requires c κs =
+    let s : tie.Start = search in
+    let w = s .pre in
+    (child-sits, (omega (arith, w .node, w .nodes), omega (arith, w .node, w .nodes)), omega (arith, w .place, w .records))
+
+load-edge-requires : tie.Need-load-edge-requires
+load-edge-requires c κs =
+    let s : tie.Start = search in
+    let found : tie.Then1 = search in
+    (omega (arith, found .if1 .taken, s .pre .records), omega (arith, found .if1 .taken, s .pre .records))
+
 returns : tie.Need-returns
 returns c =
-    let i : tie.After-next-with = search in
+    let s : tie.Start = search in
+    let i : tie.After-follow = search in
     let found : tie.Then1 = search in
-    λ n a h. child-next (work n _ a) _ _ _ _ (i .next-with .ensures) _ (ap (λ (d : Edge). d .to) (c .load-edge .ensures)) (found .if1 .taken)
+    let d : tie.After-load-edge = search in
+    λ b d′ h g o. child-next h g (s .pre) o (i .follow .ensures) _ (ap (λ (v : Edge). v .to) (d .load-edge .ensures)) (found .if1 .taken)
 
 returns-2 : tie.Need-returns-2
-returns-2 c = let i : tie.After-next-with = search in λ n a h. child-end (work n _ a) _ _ _ _ (i .next-with .ensures) (c .if1 .left)
+returns-2 c =
+    let s : tie.Start = search in
+    let i : tie.After-follow = search in
+    λ b d h g o. child-end h g (s .pre) o (i .follow .ensures) (c .if1 .left)
 
 pub next-child-spec : {M : Type 1} → statement M
 next-child-spec =
     tie.close
     (tie.spec
-    -- next_with(edges, EDGE_BYTES, c.edges, FROM, x, from), load_edge(edges, index)
-    (λ c κs. search needs)
-    (λ c κs. search needs)
+    -- follow(nodes, edges, CHILDREN, x as usize, from), load_edge(edges, index)
+    follow-requires
+    load-edge-requires
     returns
     returns-2)
