@@ -18,10 +18,6 @@ Holds n e c = (a : Bytes) × Held (work n e a) c
 abbrev pub AddsBelow : Bytes → Bytes → Bytes → Bytes → Counts → Step → Operation → Type 0
 AddsBelow n n′ e e′ c r f = (a : Bytes) → Held (work n e a) c → Refines (work n e a) c r (work n′ e′ a) f
 
--- alternatives a became a′ with the answer r, as f does with the graph of these nodes, whatever the edges
-abbrev pub Joins : Bytes → Bytes → Bytes → Counts → Step → Operation → Type 0
-Joins n a a′ c r f = (e : Bytes) → Held (work n e a) c → Refines (work n e a) c r (work n e a′) f
-
 -- a node, and the edge to it
 abbrev pub addChild : ℕ → G.Node → Operation
 addChild x n k g = G._>>=_ (G.addNode k n g) (G.addEdge k x (G.nodeCount g))

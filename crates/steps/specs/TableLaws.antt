@@ -5,15 +5,17 @@
 use mathlib.Core.Path.{_≡_, refl, sym, ap, subst, _∙_}
 use mathlib.Core.List.{List, [], _∷_, map, List·Memᴰ, List·Memᴰ·head, List·Memᴰ·tail}
 use Prim.Native.Nat.{ℕ, zero, suc, _+_, _≤_, _<_}
+use native.Mathlib.Omega.{arith}
 use lib.ListN.{getD}
 use Rattle.procedure.specs.Status as P
 use Rattle.procedure.specs.Graph as G
 use Rattle.procedure.specs.Tableau.{foldChildren}
+use Rattle.words.specs.Sizes.{edgeSize}
 use Rattle.records.specs.Areas.{Bytes}
 use Rattle.records.specs.Codes.{statusOf}
 use Rattle.records.specs.Records.{nodeIn}
-use Rattle.graph.specs.Graphs.{work, graphOf, WithEdges, ChangesNodes, childrenFrom, IsNext}
-use Rattle.graph.specs.GraphLaws.{graph-node}
+use Rattle.graph.specs.Graphs.{work, graphOf, WithEdges, ChangesNodes, childrenFrom, AmongChildren, Walks, IsNext}
+use Rattle.graph.specs.GraphLaws.{grown-refl, graph-node}
 use Rattle.graph.specs.SearchLaws.{children-all}
 use Rattle.graph.specs.declared.Counts.{Counts}
 use Rattle.records.specs.declared.Status.{Status}
@@ -44,8 +46,14 @@ ends-of : (n e a : Bytes) (c : Counts) (x i : ℕ) → childrenFrom (graphOf (wo
 unfolding graphOf childrenFrom endsFrom
 ends-of n e a c x i = refl
 
--- from edge i on, the children are nodes, and folding them from v gives what folding all from the start gives
+-- place i is one among the ends of the edges from x
+unfoldable pub AmongEnds : Bytes → Counts → ℕ → ℕ → Type 0
+AmongEnds e c x i = AmongChildren (graphOf (work [] e []) c) x i
+
+-- from place i on, the children are nodes, and folding them from v gives what folding all from the start gives
 pub record Folds (table : P.StatusTable) (n e : Bytes) (c : Counts) (x : ℕ) (start : P.Status) (i : ℕ) (v : P.Status) : Type 0 where
+  pub place : i ≤ c .edges
+  pub among : AmongEnds e c x i
   pub inside : (y : ℕ) → List·Memᴰ y (endsFrom e c x i) → y < c .nodes
   pub rest : P.foldStatus table v (statusesFrom n e c x i) ≡ P.foldStatus table start (statusesFrom n e c x 0)
 
@@ -57,22 +65,31 @@ judges-inside : {n e : Bytes} {c : Counts} {x : ℕ} → Judges n e c x → (y :
 judges-inside {n} {e} {c} {x} j y m = j .inside y (subst (λ (ys : List ℕ). List·Memᴰ y ys) (ends-all n e (j .alternatives) c x) m)
 
 pub folds-start : {n e : Bytes} {c : Counts} {x : ℕ} → Judges n e c x → (table : P.StatusTable) (v : P.Status) → Folds table n e c x v 0 v
-folds-start j table v = record { inside = judges-inside j; rest = refl }
+unfolding AmongEnds
+folds-start j table v = record { place = omega arith; among = tt; inside = judges-inside j; rest = refl }
+
+-- what the step to the next child asks
+pub folds-walks : {n e : Bytes} {c : Counts} {x i : ℕ} → Judges n e c x → i ≤ c .edges → Walks edgeSize n e (c .nodes) (c .edges) x i
+folds-walks j l = record { node = j .node; nodes = j .held .nodes; place = l; records = j .held .edges }
 
 -- of the ends from edge i on the first is y, of edge k
 pub record NextEnd (e : Bytes) (c : Counts) (x i k y : ℕ) : Type 0 where
   pub from : i ≤ k
   pub below : k < c .edges
   pub more : endsFrom e c x i ≡ y ∷ endsFrom e c x (k + 1)
+  pub among : AmongEnds e c x (k + 1)
 
 -- what the search for the next child says of the ends
-module _ {n e : Bytes} {c : Counts} {x : ℕ} (j : Judges n e c x) (i : ℕ) {r : Next} (all : WithEdges e c (λ g. IsNext r i (c .edges) (childrenFrom g x))) where
-  as-next : (s : Next) → r ≡ s → IsNext s i (c .edges) (endsFrom e c x)
-  unfolding graphOf childrenFrom endsFrom
-  as-next s w = subst (λ (t : Next). IsNext t i (c .edges) (childrenFrom (graphOf (work n e (j .alternatives)) c) x)) w (all n (j .alternatives) (j .held))
+module _ {n e : Bytes} {c : Counts} {x : ℕ} (j : Judges n e c x) (i : ℕ) (o : AmongEnds e c x i) {r : Next}
+    (all : WithEdges n e c (λ g. AmongChildren g x i → IsNext r i (c .edges) (childrenFrom g x) (AmongChildren g x))) where
+  as-next : (s : Next) → r ≡ s → IsNext s i (c .edges) (endsFrom e c x) (AmongEnds e c x)
+  unfolding graphOf childrenFrom endsFrom AmongEnds
+  as-next s w =
+      let g : G.Graph = graphOf (work n e (j .alternatives)) c in
+      subst (λ (t : Next). IsNext t i (c .edges) (childrenFrom g x) (AmongChildren g x)) w (all (j .alternatives) c (j .held) grown-refl o)
 
   pub next-at : {k y : ℕ} → r ≡ Next.At k y → NextEnd e c x i k y
-  next-at {k} {y} w = let (from, below, more) = as-next (Next.At k y) w in record { from = from; below = below; more = more }
+  next-at {k} {y} w = let (from, below, more, among) = as-next (Next.At k y) w in record { from = from; below = below; more = more; among = among }
 
   pub next-end : r ≡ Next.End → endsFrom e c x i ≡ []
   next-end w = as-next Next.End w
@@ -86,6 +103,8 @@ module _ {table : P.StatusTable} {n e : Bytes} {c : Counts} {x : ℕ} {start : P
     unfolding statusesFrom P.foldStatus
     folds-more w p =
         record {
+          place = omega (arith, next .below);
+          among = next .among;
           inside = λ z m. f .inside z (rw (next .more) (List·Memᴰ·tail m));
           rest =
               ap (λ (u : P.Status). P.foldStatus table u (map (λ d. nodeIn n d .status) (endsFrom e c x (k + 1)))) p

@@ -6,12 +6,12 @@ ghost use Prim.Native.Nat.{_≤_, _<_};
 ghost use Rattle.procedure.specs.Status as Procedure;
 ghost use Rattle.procedure.specs.Graph as Graph;
 ghost use Rattle.procedure.specs.Tableau as Tableau;
-ghost use Rattle.words.specs.Sizes.{nodeSize, alternativeSize, mostRecords};
+ghost use Rattle.words.specs.Sizes.{nodeSize};
 ghost use Rattle.rowset.specs.Value.{valueOf};
 ghost use Rattle.records.specs.Areas.{roomOf};
 ghost use Rattle.records.specs.Codes as Codes;
 ghost use Rattle.records.specs.Records as Records;
-ghost use Rattle.graph.specs.Graphs.{work, Held, Refines};
+ghost use Rattle.graph.specs.Graphs.{work, Held, Refines, AddsAlternative, Owns};
 ghost use Rattle.steps.specs.Steps as Steps;
 ghost use Rattle.steps.specs.Tables as Tables;
 use graph::Counts;
@@ -34,22 +34,22 @@ use rowset::RowSet;
 
 // Adds a node, and the edge to it.
 pub fn add_child(nodes: &mut [u8], edges: &mut [u8], c: Counts, from: u16, node: Node) -> Step
-    requires { ⌜ c .nodes ≤ mostRecords ⌝ }
+    requires { ⌜ (from < c .nodes) × Steps.Holds (now nodes) (now edges) c ⌝ }
     ensures { λ r. ⌜ Steps.AddsBelow (now (nodes .entry)) (now (nodes .exit)) (now (edges .entry)) (now (edges .exit)) c r (Steps.addChild from (Records.nodeOf node)) ⌝ }
 {
     match add_node(nodes, c, node) {
-        Step::Done(d) => add_edge(edges, d, from, c.nodes as u16),
+        Step::Done(d) => add_edge(nodes, edges, d, from, c.nodes as u16),
         Step::Full(area) => Step::Full(area),
     }
 }
 
 // Links node z to state y, and adds the edge from z.
 fn link_to(nodes: &mut [u8], edges: &mut [u8], c: Counts, z: u16, y: u16) -> Step
-    requires { ⌜ (z < c .nodes) × (c .nodes ≤ roomOf nodeSize (now nodes)) ⌝ }
+    requires { ⌜ (z < c .nodes) × (y < c .nodes) × (c .nodes ≤ roomOf nodeSize (now nodes)) ⌝ }
     ensures { λ r. ⌜ Steps.AddsBelow (now (nodes .entry)) (now (nodes .exit)) (now (edges .entry)) (now (edges .exit)) c r (λ k g. Tableau.linkTo k z y g) ⌝ }
 {
     set_link(nodes, c, z as usize, Link::State(y));
-    add_edge(edges, c, z, y)
+    add_edge(nodes, edges, c, z, y)
 }
 
 // Links node z to the state with this set, made if new.
@@ -104,14 +104,15 @@ pub fn link_special(
 }
 
 // What a set lacks joins the alternatives of state p while its status is none or open.
-fn join(nodes: &[u8], alternatives: &mut [u8], c: Counts, p: u16, lacked: RowSet) -> Step
-    requires { ⌜ (p < c .nodes) × (c .nodes ≤ roomOf nodeSize (now nodes)) × (c .alternatives ≤ roomOf alternativeSize (now alternatives)) ⌝ }
-    ensures { λ r. ⌜ Steps.Joins (now (nodes .entry)) (now (alternatives .entry)) (now (alternatives .exit)) c r (λ k g. Tableau.joinAlternatives k p (valueOf lacked) g) ⌝ }
+fn join(nodes: &mut [u8], alternatives: &mut [u8], c: Counts, p: u16, lacked: RowSet) -> Step
+    requires { ⌜ Owns (now nodes) (now alternatives) c p ⌝ }
+    ensures { λ r. ⌜ AddsAlternative (now (nodes .entry)) (now (nodes .exit)) (now (alternatives .entry)) (now (alternatives .exit)) c r
+        (λ k g. Tableau.joinAlternatives k p (valueOf lacked) g) ⌝ }
 {
     let above = load_node(nodes, p as usize);
     let status = above.status;
     if is_live(status) {
-        add_alternative(alternatives, c, p, lacked)
+        add_alternative(nodes, alternatives, c, p, lacked)
     } else {
         Step::Done(c)
     }
@@ -129,7 +130,7 @@ pub fn add_lapsed(
     rows: RowSet,
     lacked: RowSet,
 ) -> Step
-    requires { ⌜ (p < c .nodes) × Held (work (now nodes) (now edges) (now alternatives)) c ⌝ }
+    requires { ⌜ (from < c .nodes) × (p < c .nodes) × Held (work (now nodes) (now edges) (now alternatives)) c ⌝ }
     ensures { λ r. ⌜ Refines (work (now (nodes .entry)) (now (edges .entry)) (now (alternatives .entry))) c r (work (now (nodes .exit)) (now (edges .exit)) (now (alternatives .exit)))
         (Steps.addLapsed from p role (valueOf rows) (valueOf lacked)) ⌝ }
 {
@@ -143,7 +144,7 @@ pub fn add_lapsed(
     };
     match add_node(nodes, c, lapsed) {
         Step::Done(d) => match join(nodes, alternatives, d, p, lacked) {
-            Step::Done(b) => add_edge(edges, b, from, c.nodes as u16),
+            Step::Done(b) => add_edge(nodes, edges, b, from, c.nodes as u16),
             Step::Full(area) => Step::Full(area),
         },
         Step::Full(area) => Step::Full(area),
@@ -220,7 +221,7 @@ fn fold(nodes: &[u8], edges: &[u8], c: Counts, x: u16, by: Pairs, start: Status)
     let mut v = start;
     let mut i = 0;
     loop {
-        let Next::At { index, node } = next_child(edges, c, x, i) else {
+        let Next::At { index, node } = next_child(nodes, edges, c, x, i) else {
             return v;
         };
         let child = load_node(nodes, node as usize);

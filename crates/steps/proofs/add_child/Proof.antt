@@ -1,8 +1,10 @@
 -- `steps::add_child` meets its contract: the node, then the edge to it, if the node found its place.
 -- Assumes nothing.
+use native.Mathlib.Omega.{arith}
 use borrow.Author.Needs.{needs}
 use Rattle.records.specs.Records.{nodeOf}
-use Rattle.steps.specs.StepLaws.{child-done, child-full}
+use Rattle.graph.specs.GraphLaws.{held-most}
+use Rattle.steps.specs.StepLaws.{node-held, child-done, child-full}
 use Rattle.steps.proofs.add_child.Statement.{statement}
 use Rattle.steps.proofs.add_child.Tie as tie
 
@@ -11,8 +13,10 @@ add-child-spec =
     tie.close (tie.spec
     -- add_node(nodes, c, node)
     (λ c κs. search needs)
-    -- add_edge(edges, d, from, c.nodes)
-    (λ c. search needs) (λ c. search needs) (λ c κs. search needs)
+    -- add_edge(nodes, edges, d, from, c.nodes)
+    (λ c. search needs) (λ c. let s : tie.Start = search in omega (arith, held-most (s .pre .1 .1)))
+    (λ c κs. let s : tie.Start = search in let n : tie.After-add-node = search in let d : tie.After-d = search in
+    let (held, more) = node-held (nodeOf (s .args .node)) (n .add-node .ensures) (d .d .given .1) (s .pre .1 .1) in (omega (arith, s .pre .0, more), omega (arith, more), held .nodes))
     (λ c. search needs)
     -- the end: what add_edge returned
     (λ c. search needs) (λ c. search needs)

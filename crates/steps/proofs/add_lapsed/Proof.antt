@@ -6,7 +6,8 @@ use native.Mathlib.Omega.{arith}
 use Rattle.procedure.specs.Status.{toosmall}
 use Rattle.procedure.specs.Graph as Graph
 use Rattle.procedure.specs.Tableau.{below}
-use Rattle.steps.specs.StepLaws.{node-held, lapsed-done, lapsed-full, lapsed-none}
+use Rattle.graph.specs.GraphLaws.{held-most}
+use Rattle.steps.specs.StepLaws.{node-held, joined-held, lapsed-done, lapsed-full, lapsed-none}
 use Rattle.steps.proofs.add_lapsed.Statement.{statement}
 use Rattle.steps.proofs.add_lapsed.Tie as tie
 
@@ -16,7 +17,7 @@ the-node c = c .before .before .before .before
 
 -- what it lacks was joined, seen from its counts b
 abbrev the-join : tie.After-b → tie.After-join
-the-join c = c .before .before .before .before
+the-join c = search
 
 abbrev the-counts : tie.After-join → tie.After-d
 the-counts c = c .before .before .before .before
@@ -29,23 +30,28 @@ add-lapsed-spec =
     -- join(nodes, alternatives, d, p, lacked)
     (λ c. search needs)
     (λ c κs. let s : tie.Start = search in let n : tie.After-add-node = search in let d : tie.After-d = search in
-    let (held, more) = node-held (below (s .args .p) (s .args .role) (valueOf (s .args .rows)) toosmall Graph.lapsed) (n .add-node .ensures) (d .d .given .1) (s .pre .1) in
-    (omega (arith, s .pre .0, more), held .nodes, held .alternatives))
-    -- add_edge(edges, b, from, c.nodes)
-    (λ c. search needs) (λ c. search needs) (λ c κs. search needs)
+    let (held, more) = node-held (below (s .args .p) (s .args .role) (valueOf (s .args .rows)) toosmall Graph.lapsed) (n .add-node .ensures) (d .d .given .1) (s .pre .2) in
+    record { edges = _; held = held; node = omega (arith, s .pre .1, more) })
+    -- add_edge(nodes, edges, b, from, c.nodes)
+    (λ c. search needs) (λ c. let s : tie.Start = search in omega (arith, held-most (s .pre .2)))
+    (λ c κs. let s : tie.Start = search in let b : tie.After-b = search in let j = the-join b in let d = the-counts j in let n = the-node d in
+    let (held, more) = node-held (below (s .args .p) (s .args .role) (valueOf (s .args .rows)) toosmall Graph.lapsed) (n .add-node .ensures) (d .d .given .1) (s .pre .2) in
+    let (after, kept) = joined-held (s .args .from) (s .args .p) (s .args .role) (valueOf (s .args .rows)) (valueOf (s .args .lacked))
+    (n .add-node .ensures) (s .pre .2) (d .d .given .1) (j .join .ensures) (b .b .given .1) in
+    (omega (arith, s .pre .0, more, kept), omega (arith, more, kept), after .nodes))
     (λ c. search needs) (λ c. search needs)
     -- the end: what add_edge returned
     (λ c. search needs) (λ c. search needs) (λ c. search needs)
     (λ c. let s : tie.Start = search in let b : tie.After-b = search in let j = the-join b in let d = the-counts j in let n = the-node d in let e : tie.After-add-edge = search in
     lapsed-done (s .args .from) (s .args .p) (s .args .role) (valueOf (s .args .rows)) (valueOf (s .args .lacked))
-    (n .add-node .ensures) (s .pre .1) (d .d .given .1) (j .join .ensures) (b .b .given .1) (e .add-edge .ensures))
+    (n .add-node .ensures) (s .pre .2) (d .d .given .1) (j .join .ensures) (b .b .given .1) (e .add-edge .ensures))
     -- the end: Full(area), of join
     (λ c. search needs) (λ c. search needs)
     (λ c. let s : tie.Start = search in let d : tie.After-d = search in let n = the-node d in let j : tie.After-join = search in let f : tie.After-area = search in
     lapsed-full (s .args .from) (s .args .p) (s .args .role) (valueOf (s .args .rows)) (valueOf (s .args .lacked))
-    (n .add-node .ensures) (s .pre .1) (d .d .given .1) (j .join .ensures) (f .area .given .1))
+    (n .add-node .ensures) (s .pre .2) (d .d .given .1) (j .join .ensures) (f .area .given .1))
     -- the end: Full(area), of add_node
     (λ c. search needs)
     (λ c. let s : tie.Start = search in let n : tie.After-add-node = search in let f : tie.After-area2 = search in
     lapsed-none (s .args .from) (s .args .p) (s .args .role) (valueOf (s .args .rows)) (valueOf (s .args .lacked))
-    (n .add-node .ensures) (s .pre .1) (f .area2 .given .1)))
+    (n .add-node .ensures) (s .pre .2) (f .area2 .given .1)))

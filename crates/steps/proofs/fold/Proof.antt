@@ -9,7 +9,7 @@ use Rattle.procedure.specs.Graph as Graph
 use Rattle.records.specs.Codes.{statusOf}
 use Rattle.graph.specs.GraphLaws.{held-node}
 use Rattle.steps.specs.Tables.{statusTable}
-use Rattle.steps.specs.TableLaws.{Folds, NextEnd, folds-start, next-at, next-end, folds-node, folds-more, folds-end}
+use Rattle.steps.specs.TableLaws.{Folds, NextEnd, folds-start, folds-walks, next-at, next-end, folds-node, folds-more, folds-end}
 use Rattle.steps.proofs.fold.Statement.{statement}
 use Rattle.steps.proofs.fold.Tie as tie
 
@@ -25,20 +25,24 @@ At P = P Inv-loop μ-loop
 -- the next child, at the place where it is taken
 next : (k : At tie.After-index) → let a = k .before .before .before .before .before .before .args in
     NextEnd (a .edges .now) (a .c) (a .x) (k .before .before .before .loop .i) (k .index .given .0 .0) (k .index .given .0 .1 .0)
-next k = let s : At tie.Start = search in let n : At tie.After-next-child = search in next-at (s .pre) _ (n .next-child .ensures) (k .index .given .1)
+next k =
+    let s : At tie.Start = search in
+    let l : At tie.At-loop = search in
+    let n : At tie.After-next-child = search in
+    next-at (s .pre) _ (l .loop .inv .among) (n .next-child .ensures) (k .index .given .1)
 
 loop-holds : At tie.Need-loop-holds
 loop-holds c = let s : At tie.Start = search in folds-start (s .pre) _ _
 
 next-child-requires : At tie.Need-next-child-requires
-next-child-requires c κs = let s : At tie.Start = search in s .pre .held .edges
+next-child-requires c κs = let s : At tie.Start = search in folds-walks (s .pre) (c .loop .inv .place)
 
 returns : At tie.Need-returns
 returns c =
     let s : At tie.Start = search in
     let l : At tie.At-loop = search in
     let n : At tie.After-next-child = search in
-    folds-end (l .loop .inv) (next-end (s .pre) _ (n .next-child .ensures) (c .enum-told .given .1))
+    folds-end (l .loop .inv) (next-end (s .pre) _ (l .loop .inv .among) (n .next-child .ensures) (c .enum-told .given .1))
 
 load-node-requires : At tie.Need-load-node-requires
 load-node-requires c κs =
@@ -71,7 +75,7 @@ fold-spec =
     Inv-loop
     μ-loop
     loop-holds
-    -- next_child(edges, c, x, i)
+    -- next_child(nodes, edges, c, x, i)
     next-child-requires
     (λ c. search needs) (λ c. search needs)
     returns

@@ -3,6 +3,7 @@
 use borrow.Author.Needs.{needs}
 use Rattle.rowset.specs.Value.{valueOf}
 use mathlib.Core.Path.{sym, _∙_}
+use Rattle.graph.specs.GraphLaws.{held-node}
 use Rattle.steps.specs.StepLaws.{join-done, join-not}
 use Rattle.steps.proofs.join.Statement.{statement}
 use Rattle.steps.proofs.join.Tie as tie
@@ -11,14 +12,15 @@ pub join-spec : {M : Type 1} → statement M
 join-spec =
     tie.close (tie.spec
     -- load_node(nodes, p), is_live(status)
-    (λ c κs. search needs) (λ c κs. search needs)
-    -- add_alternative(alternatives, c, p, lacked)
+    (λ c κs. let s : tie.Start = search in held-node (s .pre .held) (s .pre .node)) (λ c κs. search needs)
+    -- add_alternative(nodes, alternatives, c, p, lacked)
     (λ c κs. search needs)
-    (λ c. search needs)
+    (λ c. search needs) (λ c. search needs)
     (λ c. let s : tie.Start = search in let l : tie.After-load-node = search in let t : tie.Then1 = search in let a : tie.After-add-alternative = search in
     join-done (s .args .c) (s .args .p) (valueOf (s .args .lacked)) (l .load-node .result) (l .load-node .ensures)
-    (s .pre .0) (sym (t .before .is-live .ensures) ∙ t .if1 .taken) (a .add-alternative .ensures))
+    (s .pre .node) (sym (t .before .is-live .ensures) ∙ t .if1 .taken) (a .add-alternative .ensures))
     -- Done(c)
+    (λ c. search needs)
     (λ c. let s : tie.Start = search in let l : tie.After-load-node = search in
     join-not (s .args .c) (s .args .p) (valueOf (s .args .lacked)) (l .load-node .result) (l .load-node .ensures)
-    (s .pre .0) (sym (c .before .is-live .ensures) ∙ c .if1 .left)))
+    (s .pre .node) (sym (c .before .is-live .ensures) ∙ c .if1 .left)))

@@ -4,7 +4,7 @@ use borrow.Author.Needs.{needs}
 use Rattle.rowset.specs.Value.{valueOf}
 use native.Mathlib.Omega.{arith}
 use Rattle.procedure.specs.Tableau.{state}
-use Rattle.steps.specs.StepLaws.{node-held, found-there, found-new, found-full}
+use Rattle.steps.specs.StepLaws.{node-held, found-below, found-there, found-new, found-full}
 use Rattle.steps.proofs.link_found.Statement.{statement}
 use Rattle.steps.proofs.link_found.Tie as tie
 
@@ -21,13 +21,16 @@ link-found-spec =
     -- find_state(nodes, c, rows)
     (λ c κs. search needs)
     -- link_to(.., c, z, y)
-    (λ c. search needs) (λ c κs. search needs)
+    (λ c. search needs)
+    (λ c κs. let s : tie.Start = search in let f : tie.After-find-state = search in let y : tie.After-y = search in
+    (s .pre .0, found-below (s .args .z) (valueOf (s .args .rows)) (f .find-state .ensures) (y .y .given .1) (s .pre .1 .1), s .pre .1 .1 .nodes))
     -- add_node(nodes, c, state)
     (λ c. search needs) (λ c κs. search needs)
     -- link_to(.., d, z, c.nodes)
     (λ c. search needs) (λ c. search needs)
     (λ c κs. let s : tie.Start = search in let n : tie.After-add-node = search in let d : tie.After-d = search in
-    let (held, more) = node-held (state (valueOf (s .args .rows))) (n .add-node .ensures) (d .d .given .1) (s .pre .1 .1) in (omega (arith, s .pre .0, more), held .nodes))
+    let (held, more) = node-held (state (valueOf (s .args .rows))) (n .add-node .ensures) (d .d .given .1) (s .pre .1 .1) in
+    (omega (arith, s .pre .0, more), omega (arith, more), held .nodes))
     (λ c. search needs)
     -- the end: what link_to returned, with the state that was found
     (λ c. search needs) (λ c. search needs)

@@ -8,7 +8,7 @@ use Rattle.steps.proofs.link_to.Tie as tie
 pub link-to-spec : {M : Type 1} → statement M
 link-to-spec =
     tie.close (tie.spec
-    -- set_link(nodes, c, z, State(y)), add_edge(edges, c, z, y)
+    -- set_link(nodes, c, z, State(y)), add_edge(nodes, edges, c, z, y)
     (λ c κs. search needs)
     (λ c κs. search needs)
     -- the end
