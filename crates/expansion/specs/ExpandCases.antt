@@ -1,27 +1,34 @@
--- The cases of a whole expansion, on plain values: the children (`WithChildren`), the judgement (`Judged`), the updates.
+-- The cases of a whole expansion, on plain values: the children (`WithChildren`), the judgement (`Judged`), and then a node that is merely open, or the updates.
 -- Assumes nothing.
 use mathlib.Core.Path.{_≡_, refl, sym, ap, _∙_, subst}
+use mathlib.Core.Bool.{true}
 use mathlib.Core.List.{List}
 use Prim.Native.Nat.{ℕ, suc, _<_}
 use native.Mathlib.Omega.{arith}
 use lib.ListN.{length}
+use Rattle.concepts.specs.Tests.{from-true}
 use Rattle.concepts.specs.RowSetLaws.{missing-all}
+use Rattle.procedure.specs.Status.{«open», isOpen}
+use Rattle.procedure.specs.StatusLaws.{is-open}
 use Rattle.procedure.specs.SetTests.{lowestConj}
-use Rattle.procedure.specs.Graph.{Graph, Capacity, _>>=_, nodeAt, nodeCount}
+use Rattle.procedure.specs.Graph.{Graph, Capacity, reached, _>>=_, nodeAt, nodeCount}
 use Rattle.procedure.specs.Tableau.{judge, put, updateParents, update, expandConj}
 use Rattle.procedure.specs.TableauLaws.{expand-is}
 use Rattle.procedure.proofs.Fit.{Fit, JudgeFit}
-use Rattle.procedure.proofs.ExpandFit.{judge-fit, judged-fit}
+use Rattle.procedure.proofs.ExpandFit.{judge-fit, judged-fit, open-unmoved}
+use Rattle.words.specs.Sizes.{nodeSize}
 use Rattle.problem.specs.Decoded.{tableOf, problemOf}
-use Rattle.graph.specs.Graphs.{Work, graphOf, capacityOf, Operation, Refines}
-use Rattle.graph.specs.GraphLaws.{sized-refl, sized-places}
-use Rattle.graph.specs.RefineLaws.{refines-answer, refines-as, refines-held, refines-then, refines-short}
+use Rattle.records.specs.Areas.{Bytes, Fits}
+use Rattle.graph.specs.Graphs.{Work, work, graphOf, capacityOf, Held, Operation, Refines}
+use Rattle.graph.specs.GraphLaws.{sized-refl, sized-places, count-nodes, held-node}
+use Rattle.graph.specs.RefineLaws.{refines-answer, refines-as, refines-held, refines-then, refines-short, refines-none}
 use Rattle.graph.specs.declared.Counts.{Counts}
 use Rattle.graph.specs.declared.Area.{Area}
 use Rattle.graph.specs.declared.Step.{Step}
 use Rattle.graph.specs.declared.Step.the-variants.{Done, Full}
 use Rattle.tableau.specs.Contracts.{JudgeAsks, JudgeGives}
 use Rattle.updates.specs.Contracts.{UpdateAsks, ParentsGives}
+use Rattle.updates.specs.UpdateCases.{Loaded, loaded-open}
 use Rattle.expansion.specs.Contracts.{ExpandAsks, ConjGives, ExpandGives}
 use Rattle.expansion.specs.PutCases.{P, cap, g}
 
@@ -45,6 +52,8 @@ module _ {ws : List ℕ} {w : Work} {c : Counts} {x : ℕ} (A : ExpandAsks ws w 
     pub gives : Refines w c (Done b) w₂ (λ k u. children k u >>= judging k)
     pub fit : Fit (problemOf ws) (capacityOf w) (graphOf w₂ b)
     pub there : x < nodeCount (graphOf w₂ b)
+    -- where it is merely open, updates change nothing
+    pub unmoved : nodeAt (graphOf w₂ b) x .status ≡ «open» → updating (capacityOf w) (graphOf w₂ b) ≡ reached (graphOf w₂ b)
 
   module _ {w₁ : Work} {r : Step} (K : ConjGives ws w c x r w₁) where
     pub children-short : {p : Area} → r ≡ Full p → ExpandGives ws w c x (Full p) w₁
@@ -85,21 +94,46 @@ module _ {ws : List ℕ} {w : Work} {c : Counts} {x : ℕ} {A : ExpandAsks ws w 
     judge-done {b} er =
         let q = judged er .meets ∙ ap (λ (k : Capacity). judging A k h) places in
         let (f, l) = judged-fit (P A) (cap A) (g A) x (A .still) (A .there) (A .fresh) h (sym (K .gives .meets)) (graphOf w₂ b) (sym q) in
-        record { gives = both er; fit = f; there = l }
+        record {
+          gives = both er;
+          fit = f;
+          there = l;
+          unmoved = open-unmoved (P A) (cap A) (g A) x (A .still) (A .there) (A .fresh) h (sym (K .gives .meets)) (graphOf w₂ b) (sym q);
+        }
 
--- ---- the updates
+-- ---- after the judgement
 
-module _ {ws : List ℕ} {w : Work} {c : Counts} {x : ℕ} {A : ExpandAsks ws w c x} {w₂ : Work} {b : Counts} (J : Judged A w₂ b) where
-  pub parents-asks : UpdateAsks ws w₂ b x
-  parents-asks = record {
-    decoded = A .decoded;
-    held = refines-held (J .gives);
-    fit = subst (λ (q : Capacity). Fit (P A) q (graphOf w₂ b)) (sym (sized-places (J .gives .sized))) (J .fit);
-    there = J .there;
-  }
+module _ {ws : List ℕ} {w : Work} {c : Counts} {x : ℕ} {A : ExpandAsks ws w c x} {n₂ e₂ a₂ : Bytes} {b : Counts} (J : Judged A (work n₂ e₂ a₂) b) where
+  abbrev w₂ : Work
+  w₂ = work n₂ e₂ a₂
 
-  pub parents-gives : {w₃ : Work} {r : Step} → ParentsGives ws w₂ b x r w₃ → ExpandGives ws w c x r w₃
+  held : Held w₂ b
+  held = refines-held (J .gives)
+
+  places₂ : capacityOf w₂ ≡ capacityOf w
+  places₂ = sized-places (J .gives .sized)
+
+  still : x < b .nodes
+  still = omega (arith, J .there, count-nodes w₂ b)
+
+  -- what is left gives the whole
+  finished : {w₃ : Work} {r : Step} → Refines w₂ b r w₃ (updating A) → ExpandGives ws w c x r w₃
+  finished U = refines-as (refines-then (J .gives) (λ u. updating A) U) (expand-is (P A) (cap A) x (g A))
+
+  pub judged-fits : Fits nodeSize n₂ x
+  judged-fits = held-node held still
+
+  -- the node is merely open
+  pub judged-open : Loaded n₂ x true → ExpandGives ws w c x (Done b) (work n₂ e₂ a₂)
+  judged-open L =
+      let v = nodeAt (graphOf w₂ b) x .status in
+      let o = is-open v (from-true (isOpen v) (loaded-open w₂ b still L)) in
+      finished (refines-as (refines-none held) (ap (λ (q : Capacity). updating A q (graphOf w₂ b)) places₂ ∙ J .unmoved o))
+
+  -- the updates
+  pub parents-asks : UpdateAsks ws (work n₂ e₂ a₂) b x
+  parents-asks = record { decoded = A .decoded; held = held; fit = subst (λ (q : Capacity). Fit (P A) q (graphOf w₂ b)) (sym places₂) (J .fit); there = J .there }
+
+  pub parents-gives : {w₃ : Work} {r : Step} → ParentsGives ws (work n₂ e₂ a₂) b x r w₃ → ExpandGives ws w c x r w₃
   unfolding update
-  parents-gives {w₃} {r} U =
-      let with-fuel : Refines w₂ b r w₃ (updating A) = refines-as (U (suc (capacityOf w₂ .nodeRoom)) (omega arith)) refl in
-      refines-as (refines-then (J .gives) (λ u. updating A) with-fuel) (expand-is (P A) (cap A) x (g A))
+  parents-gives U = finished (refines-as (U (suc (capacityOf w₂ .nodeRoom)) (omega arith)) refl)

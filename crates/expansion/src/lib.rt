@@ -6,6 +6,7 @@ ghost use Rattle.graph.specs.Graphs.{work};
 ghost use Rattle.expansion.specs.Contracts.{ExpandAsks, DisjAsks, StateAsks, KitGives, SuccessorsGives, StateGives, DisjGives, ConjGives, ExpandGives};
 use graph::Counts;
 use graph::Step;
+use records::is_open;
 use records::load_node;
 use rowset::insert;
 use rowset::union;
@@ -147,6 +148,7 @@ fn expand_conj(
 }
 
 // Expands node x, which has no status: its children are put, its status is set, and its parents are updated.
+// None counts as open, so where x is merely open the updates would change nothing, and are not made.
 pub fn expand(
     problem: &[u64],
     nodes: &mut [u8],
@@ -163,7 +165,14 @@ pub fn expand(
         Step::Full(area) => Step::Full(area),
         Step::Done(d) => match judge(problem, nodes, edges, alternatives, d, x) {
             Step::Full(area) => Step::Full(area),
-            Step::Done(b) => update_parents(problem, nodes, edges, alternatives, b, x),
+            Step::Done(b) => {
+                let node = load_node(nodes, x as usize);
+                let status = node.status;
+                if is_open(status) {
+                    return Step::Done(b);
+                }
+                update_parents(problem, nodes, edges, alternatives, b, x)
+            }
         },
     }
 }

@@ -12,21 +12,22 @@ use Prim.Native.Nat.{ℕ, _<_}
 use Rattle.concepts.specs.Tests.{impossible}
 use Rattle.concepts.specs.RowSet.{RowSet, insert, union}
 use Rattle.procedure.specs.Problem.{Problem, WellPosed}
-use Rattle.procedure.specs.Status.{unset}
+use Rattle.procedure.specs.Status.{unset, «open»}
 use Rattle.procedure.specs.SetTests.{lowestConj, lowestDisj, existentials}
 use Rattle.procedure.specs.SetTestLaws.{finished-none, unfinished-disj}
 use Rattle.procedure.specs.Graph.{Node, Graph, Capacity, Result, reached, nodeAt, nodeCount}
 use Rattle.procedure.specs.GraphLaws.{Sure, sure-map}
-use Rattle.procedure.specs.Tableau.{noRole, judge, put, successor, expandConj, expand}
+use Rattle.procedure.specs.Tableau.{noRole, judge, put, updateParents, update, successor, expandConj, expand}
 use Rattle.procedure.proofs.Setting.{Setting}
 use Rattle.procedure.proofs.Bare.{bare}
 use Rattle.procedure.proofs.Grows.{grows-there}
 use Rattle.procedure.proofs.Invariant.{Inv, QuietBut}
-use Rattle.procedure.proofs.Judge.{state-fact, Judged}
+use Rattle.procedure.proofs.Judge.{state-fact, Judged, open-quiet}
 use Rattle.procedure.proofs.Linked.{PutPre, PutPost}
 use Rattle.procedure.proofs.Measure.{withAStatus, status-rises}
 use Rattle.procedure.proofs.Expand.{None, Busy, ready, Grown, grown-refl, grown-put, put-expanding, conj-pre, disj-pre}
 use Rattle.procedure.proofs.ExpandState.{kit-pre, successor-pre, Judging, judging, Rounded, expand-right}
+use Rattle.procedure.proofs.Idle.{parents-idle}
 use Rattle.procedure.proofs.Fit.{pre-anyone, Fit, PutFit, JudgeFit}
 
 module _ (P : Problem) (c : Capacity) where
@@ -117,10 +118,16 @@ module _ (P : Problem) (c : Capacity) where
         edge = λ y l. impossible (cc (judging-at .link, l));
       }
 
-      pub judged-fit : (k : Graph) → judge (put P c) x h ≡ reached k → Fit P c k × (x < nodeCount k)
-      judged-fit k q =
-          let J : Judged S None h x k = subst (λ (r : Result). Sure (Judged S None h x) r) q (judging-at .judged) in
-          (fit-of k (J .inv), grows-there (J .grows) x (judge-fit .there))
+      module _ (k : Graph) (q : judge (put P c) x h ≡ reached k) where
+        judged-at : Judged S None h x k
+        judged-at = subst (λ (r : Result). Sure (Judged S None h x) r) q (judging-at .judged)
+
+        pub judged-fit : Fit P c k × (x < nodeCount k)
+        judged-fit = (fit-of k (judged-at .inv), grows-there (judged-at .grows) x (judge-fit .there))
+
+        -- where x is merely open, the updates of its parents change nothing
+        pub open-unmoved : nodeAt k x .status ≡ «open» → updateParents (update P c) x k ≡ reached k
+        open-unmoved o = parents-idle S k (judged-at .inv) (open-quiet S None h x k judged-at o) x
 
     -- ---- the next graph: one node more has a status
 

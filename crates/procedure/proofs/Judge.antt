@@ -12,7 +12,7 @@ use lib.Dec.{T, T-not}
 use Rattle.concepts.specs.Tests.{decide}
 use Rattle.concepts.specs.ListLaws.{map-mem, mem-map}
 use Rattle.procedure.specs.Status.{Status, unset, «open», sat, unsat, toosmall, rank, branchTable, stateTable, foldStatus, isUnset, isLive}
-use Rattle.procedure.specs.StatusLaws.{branch-set, state-set, branch-least, branch-found, state-greatest, state-found, rank-sat, rank-unsat, live-rank, live-open}
+use Rattle.procedure.specs.StatusLaws.{branch-set, state-set, branch-least, branch-found, state-greatest, state-found, rank-sat, rank-unsat, live-rank, live-open, open-live}
 use Rattle.procedure.specs.Graph.{Link, unlinked, toState, lapsed, Node, Graph, withStatus, nodeAt, nodeCount, children, setStatus}
 use Rattle.procedure.specs.GraphLaws.{node-same, node-other, Child, children-edges}
 use Rattle.procedure.specs.Tableau.{foldChildren, judgeBranch, judgeState}
@@ -21,7 +21,7 @@ use Rattle.procedure.proofs.Grows.{Follows, Grows, grows-replace}
 use Rattle.procedure.proofs.Invariant.{Covered, Blocked, Unsatisfied, StateSays, OpenSays, SatSays, BranchSays, Expanded, StateShape, BranchShape, LinkShape, KindFact}
 use Rattle.procedure.proofs.Invariant.{EdgeFact, StateEdge, BranchEdge, LinkEdge, Inv, statuses, QuietLink, QuietOpen, QuietBy, Quiet, QuietBut}
 use Rattle.procedure.proofs.Operations.{inv-replace}
-use Rattle.procedure.proofs.Quiet.{fold-same, quiet-replace}
+use Rattle.procedure.proofs.Quiet.{fold-same, quiet-replace, quiet-weaken}
 
 module _ (S : Setting) where
   -- ---- facts of a node by its kind
@@ -86,6 +86,12 @@ module _ (S : Setting) where
     pub otherChildren : (x : ℕ) → x < nodeCount g → x ≢ z → children h x ≡ children g x
     pub set : T (not (isUnset (nodeAt h z .status)))
     pub quiet : QuietBut S (λ x. P x ⊎ Excused h z x) h
+
+  -- an open node's parents need no excuse
+  pub open-quiet : (P : ℕ → Type 0) (g : Graph) (z : ℕ) (h : Graph) → Judged P g z h → nodeAt h z .status ≡ «open» → QuietBut S P h
+  open-quiet P g z h J e =
+      quiet-weaken S (λ x. P x ⊎ Excused h z x) P h
+      (λ x q. elim q [ inl p ↦ p | inr d ↦ absurd (T-not (isLive (nodeAt h z .status)) (d .0) (open-live (nodeAt h z .status) e)) ]) (J .quiet)
 
   pub quiet-settled : (g : Graph) (x : ℕ) (n : Node) (v : Status) → T (not (isLive v)) → QuietBy S g x n v
   quiet-settled g x n unset t = absurd t

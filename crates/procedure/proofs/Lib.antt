@@ -19,6 +19,7 @@ pub mod Measure
 pub mod Update
 pub mod Expand
 pub mod ExpandState
+pub mod Idle
 pub mod ExpandFit
 pub mod Whole
 pub mod Cannot

@@ -49,6 +49,12 @@ pub forEach-cons : {A : Type 0} (f : A → Graph → Result) (x : A) (xs : List 
 unfolding forEach
 forEach-cons f x xs g = refl
 
+-- each step leaves the graph as it was
+pub forEach-idle : {A : Type 0} (f : A → Graph → Result) (g : Graph) → ((x : A) → f x g ≡ reached g) → (xs : List A) → forEach f xs g ≡ reached g
+unfolding forEach
+forEach-idle f g idle [] = refl
+forEach-idle f g idle (x ∷ xs) = ap (λ (r : Result). r >>= (λ h. forEach f xs h)) (idle x) ∙ bind-reached g (λ h. forEach f xs h) ∙ forEach-idle f g idle xs
+
 -- ---- the parents of a node
 
 module _ (update : ℕ → Graph → Result) (x : ℕ) (g : Graph) where

@@ -42,7 +42,8 @@ pub record Loaded (n : Bytes) (x : ℕ) (b : Bool) : Type 0 where
 pub loaded : {n : Bytes} {x : ℕ} {b v : Bool} (d : D.Node) → nodeOf d ≡ nodeIn n x → b ≡ isOpen (statusOf (d .status)) → b ≡ v → Loaded n x v
 loaded d hd hb hv = record { status = ap (λ (u : Node). isOpen (u .status)) (sym hd) ∙ sym hb ∙ hv }
 
-loaded-open : {x : ℕ} {b : Bool} (w : Work) (c : Counts) → x < c .nodes → Loaded (w .nodes) x b → isOpen (nodeAt (graphOf w c) x .status) ≡ b
+-- so it is in the graph
+pub loaded-open : {x : ℕ} {b : Bool} (w : Work) (c : Counts) → x < c .nodes → Loaded (w .nodes) x b → isOpen (nodeAt (graphOf w c) x .status) ≡ b
 loaded-open {x} w c l L = ap (λ (u : Node). isOpen (u .status)) (graph-node w c x l) ∙ L .status
 
 module _ {ws : List ℕ} {n e a : Bytes} {c : Counts} {x : ℕ} (A : UpdateAsks ws (work n e a) c x) where

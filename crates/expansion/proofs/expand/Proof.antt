@@ -1,12 +1,13 @@
--- The whole expansion: children, judgement, updates.
+-- The whole expansion: children, judgement, and the updates unless the node is merely open.
 --
 -- In order: the places that later needs speak of; the needs, in the code's order.
 -- Assumes nothing.
 use native.Mathlib.Omega.{arith}
 use borrow.Author.Needs.{needs}
 use Rattle.graph.specs.Graphs.{Work, work}
+use Rattle.updates.specs.UpdateCases.{loaded}
 use Rattle.expansion.specs.ExpandCases.{WithChildren, children-short, children-done, judge-asks, judge-short}
-use Rattle.expansion.specs.ExpandCases.{Judged, judge-done, parents-asks, parents-gives}
+use Rattle.expansion.specs.ExpandCases.{Judged, judge-done, judged-fits, judged-open, parents-asks, parents-gives}
 use Rattle.expansion.proofs.expand.Statement.{statement}
 use Rattle.expansion.proofs.expand.Tie as tie
 
@@ -45,6 +46,12 @@ expand-spec = tie.close (tie.spec
     -- judge(.., d, x)
     (λ c κs. judge-asks (with-children (search)))
     (λ c. search needs) (λ c. search needs)
+    -- load_node(nodes, x), is_open(status)
+    (λ c κs. judged-fits (judged (search)))
+    (λ c κs. search needs)
+    -- return Done(b)
+    (λ c. omega (arith, judged (search) .gives .sized)) (λ c. omega (arith, judged (search) .gives .sized)) (λ c. omega (arith, judged (search) .gives .sized))
+    (λ c. judged-open (judged (search)) (search (loaded, needs)))
     -- update_parents(.., b, x)
     (λ c κs. parents-asks (judged (search)))
     -- the end: Full(area), of expand_conj
@@ -54,6 +61,5 @@ expand-spec = tie.close (tie.spec
     (λ c. search needs) (λ c. search needs) (λ c. search needs)
     (λ c. let j : tie.After-judge = search in judge-short (with-children (search)) {w₂ = after-judge j} (j .judge .ensures) (search))
     -- the end: what update_parents returned
-    (λ c. omega (arith, judged (search) .gives .sized .nodes))
-    (λ c. search needs) (λ c. search needs)
+    (λ c. omega (arith, judged (search) .gives .sized)) (λ c. omega (arith, judged (search) .gives .sized)) (λ c. omega (arith, judged (search) .gives .sized))
     (λ c. parents-gives (judged (search)) (search)))
