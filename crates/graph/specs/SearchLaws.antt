@@ -12,7 +12,7 @@ use lib.Dec.{eqb, ltb}
 use lib.ListN.{getD}
 use Rattle.concepts.specs.Lists.{range, NoneBelow, any, select}
 use Rattle.concepts.specs.ListLaws.{getD-range, length-range, first-at, first-nowhere}
-use Rattle.concepts.specs.RowSet.{RowSet}
+use Rattle.concepts.specs.RowSet.{RowSet, empty}
 use Rattle.procedure.specs.Status.{isUnset}
 use Rattle.procedure.specs.Graph as G
 use Rattle.words.specs.Sizes.{edgeSize, alternativeSize}
@@ -32,6 +32,7 @@ use Rattle.graph.specs.Graphs.{startOf, endOf, ownerOf, AmongChildren, A
 use Rattle.graph.specs.GraphLaws.{grown-refl, count-nodes, count-edges, count-alternatives, graph-node}
 use Rattle.graph.specs.AddLaws.{picks-first, picks-second}
 use Rattle.graph.specs.declared.Counts.{Counts}
+use Rattle.graph.specs.declared.Next.{Next}
 use Rattle.graph.specs.declared.Next.the-variants as Node
 use Rattle.graph.specs.declared.NextAlternative.{NextAlternative}
 use Rattle.graph.specs.declared.NextAlternative.the-variants as Set
@@ -114,20 +115,28 @@ pub alternatives-all : (g : G.Graph) (x : ℕ) → alternativesFrom g x 0 ≡ G.
 unfolding alternativesFrom chosenFrom G.alternativesOf
 alternatives-all g x = refl
 
--- records that were there stay where they are: the areas w′ with counts d hold what those of w with counts c held, and more
-module _ (w w′ : Work) {c d : Counts} (grown : Grown c d) where
-  pub parents-kept : (more : List G.Edge) → graphOf w′ d .edges ≡ graphOf w c .edges ++ more → (x i : ℕ) → parentsFrom (graphOf w′ c) x i ≡ parentsFrom (graphOf w c) x i
+-- records that were there stay where they are: the areas w′ with counts d hold what those of w with counts c held, and more.
+-- So what a step along a chain gives now, it gives of the graph of then
+module _ (w w′ : Work) {c d : Counts} (grown : Grown c d) (x i count : ℕ) where
+  pub parents-kept : (more : List G.Edge) → graphOf w′ d .edges ≡ graphOf w c .edges ++ more → (v : Next)
+      → let h = graphOf w′ c in let g = graphOf w c in (AmongParents h x i → IsNext v i count (parentsFrom h x) (AmongParents h x))
+      → AmongParents g x i → IsNext v i count (parentsFrom g x) (AmongParents g x)
   unfolding graphOf parentsFrom
-  parents-kept more q x i =
-      ap (λ (l : List G.Edge). chosenFrom (λ (u : G.Edge). eqb (u .to) x) (λ (u : G.Edge). u .from) l i)
-      (records-kept edgeIn (w′ .edges) (c .edges) (d .edges) (graphOf w c .edges) more (count-edges w c) (grown .edges) q)
+  parents-kept more q v =
+      let same = records-kept edgeIn (w′ .edges) (c .edges) (d .edges) (graphOf w c .edges) more (count-edges w c) (grown .edges) q in
+      let end : List G.Edge → ℕ → ℕ = λ l j. getD l j (record { from = 0; to = 0 }) .to in
+      let rest : List G.Edge → ℕ → List ℕ = λ l. chosenFrom (λ (u : G.Edge). eqb (u .to) x) (λ (u : G.Edge). u .from) l in
+      subst (λ (l : List G.Edge). (Behind (end l) x i → IsNext v i count (rest l) (Behind (end l) x))) same
 
-  pub alternatives-kept : (more : List G.Alternative) → graphOf w′ d .alternatives ≡ graphOf w c .alternatives ++ more → (x i : ℕ)
-      → alternativesFrom (graphOf w′ c) x i ≡ alternativesFrom (graphOf w c) x i
+  pub alternatives-kept : (more : List G.Alternative) → graphOf w′ d .alternatives ≡ graphOf w c .alternatives ++ more → (v : NextAlternative)
+      → let h = graphOf w′ c in let g = graphOf w c in (AmongAlternatives h x i → IsNextAlternative v i count (alternativesFrom h x) (AmongAlternatives h x))
+      → AmongAlternatives g x i → IsNextAlternative v i count (alternativesFrom g x) (AmongAlternatives g x)
   unfolding graphOf alternativesFrom
-  alternatives-kept more q x i =
-      ap (λ (l : List G.Alternative). chosenFrom (λ (u : G.Alternative). eqb (u .owner) x) (λ (u : G.Alternative). u .rows) l i)
-      (records-kept alternativeIn (w′ .alternatives) (c .alternatives) (d .alternatives) (graphOf w c .alternatives) more (count-alternatives w c) (grown .alternatives) q)
+  alternatives-kept more q v =
+      let same = records-kept alternativeIn (w′ .alternatives) (c .alternatives) (d .alternatives) (graphOf w c .alternatives) more (count-alternatives w c) (grown .alternatives) q in
+      let owner : List G.Alternative → ℕ → ℕ = λ l j. getD l j (record { owner = 0; rows = empty }) .owner in
+      let rest : List G.Alternative → ℕ → List RowSet = λ l. chosenFrom (λ (u : G.Alternative). eqb (u .owner) x) (λ (u : G.Alternative). u .rows) l in
+      subst (λ (l : List G.Alternative). (Behind (owner l) x i → IsNextAlternative v i count (rest l) (Behind (owner l) x))) same
 
 -- ---- a step along a chain is what a search finds
 

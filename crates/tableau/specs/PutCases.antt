@@ -24,7 +24,8 @@ use Rattle.procedure.proofs.Setting.{Setting}
 use Rattle.procedure.proofs.Special.{Started, special-started}
 use Rattle.procedure.proofs.Fit.{Anyone, anyone-quiet, JudgeFit}
 use Rattle.problem.specs.Decoded.{problemOf}
-use Rattle.records.specs.Areas.{Bytes}
+use Rattle.words.specs.Sizes.{nodeSize}
+use Rattle.records.specs.Areas.{Bytes, roomOf}
 use Rattle.records.specs.Records.{nodeOf, nodeIn}
 use Rattle.graph.specs.Graphs.{Work, work, graphOf, capacityOf, Held, Operation, Refines, AddsEdge}
 use Rattle.graph.specs.GraphLaws.{sized-refl, sized-places, count-nodes, graph-node}
@@ -35,7 +36,7 @@ use Rattle.graph.specs.declared.Area.{Area}
 use Rattle.graph.specs.declared.Step.{Step}
 use Rattle.graph.specs.declared.Step.the-variants.{Done, Full}
 use Rattle.rowset.specs.Value.{valueOf}
-use Rattle.steps.specs.Steps.{AddsBelow, addChild, addLapsed}
+use Rattle.steps.specs.Steps.{Holds, AddsBelow, addChild, addLapsed}
 use Rattle.tableau.specs.Contracts.{lacks, puts, PutAsks, PutGives, JudgeAsks, JudgeGives}
 
 -- ---- the places
@@ -86,8 +87,15 @@ module _ {ws : List ℕ} {n e a : Bytes} {c : Counts} {m p ρ : ℕ} {s : RowSet
   above-there : p < c .nodes
   above-there = omega (arith, A .fit .pre .place .there, count-nodes w c)
 
-  pub put-joins : (p < c .nodes) × Held (work n e a) c
-  put-joins = (above-there, A .held)
+  here : m < c .nodes
+  here = omega (arith, A .fit .pre .there, count-nodes w c)
+
+  -- what adding a child, and adding a lapsed node, ask
+  pub put-adds : (m < c .nodes) × Holds n e c
+  put-adds = (here, (a, A .held))
+
+  pub put-joins : (m < c .nodes) × (p < c .nodes) × Held (work n e a) c
+  put-joins = (here, above-there, A .held)
 
   -- ---- a node that needs no more
 
@@ -200,10 +208,17 @@ module _ {ws : List ℕ} {n e a : Bytes} {c : Counts} {m p ρ : ℕ} {s : RowSet
     pub put-judge-short : {x : Area} → r₂ ≡ Full x → PutGives ws (work n e a) c m p ρ s (Full x) (work n₂ e₂ a₂)
     put-judge-short er = fueled A (λ f few. refines-as (refines-short (judged er f few) (closing (L .complete)) sized-refl) (put-is (L .complete) f))
 
-    pub put-judged : {c₂ : Counts} → r₂ ≡ Done c₂ → {e₃ : Bytes} {r₃ : Step} → AddsEdge e₂ e₃ c₂ r₃ (λ k h. addEdge k m (c .nodes) h)
-        → PutGives ws (work n e a) c m p ρ s r₃ (work n₂ e₃ a₂)
-    put-judged {c₂} er {e₃} {r₃} E = fueled A (λ f few.
+    -- what the edge to the new node asks
+    pub put-edge-asks : {c₂ : Counts} → r₂ ≡ Done c₂ → (m < c₂ .nodes) × (c .nodes < c₂ .nodes) × (c₂ .nodes ≤ roomOf nodeSize n₂)
+    put-edge-asks er =
+        let B = refines-answer (J (lacks ws (nodeAt g₁ (c .nodes) .rows)) (omega arith)) er in
+        let more : c .nodes < c₁ .nodes = omega (arith, started .made .fresh .there, count-nodes (w A) c, count-nodes w₁ c₁) in
+        (omega (arith, here A, more, B .held .1 .nodes), omega (arith, more, B .held .1 .nodes), B .held .0 .nodes)
+
+    pub put-judged : {c₂ : Counts} → r₂ ≡ Done c₂ → {n₃ e₃ : Bytes} {r₃ : Step} → AddsEdge n₂ n₃ e₂ e₃ c₂ r₃ (λ k h. addEdge k m (c .nodes) h)
+        → PutGives ws (work n e a) c m p ρ s r₃ (work n₃ e₃ a₂)
+    put-judged {c₂} er {n₃} {e₃} {r₃} E = fueled A (λ f few.
         let B = judged er f few in
         refines-as (refines-then B (closing (L .complete))
-        (subst (λ (i : ℕ). Refines (work n₂ e₂ a₂) c₂ r₃ (work n₂ e₃ a₂) (λ k h. addEdge k m i h))
-        (sym (count-nodes (w A) c)) (E n₂ a₂ (refines-held B)))) (put-is (L .complete) f))
+        (subst (λ (i : ℕ). Refines (work n₂ e₂ a₂) c₂ r₃ (work n₃ e₃ a₂) (λ k h. addEdge k m i h))
+        (sym (count-nodes (w A) c)) (E a₂ (refines-held B)))) (put-is (L .complete) f))

@@ -24,8 +24,9 @@ use Rattle.words.specs.Sizes.{nodeSize, alternativeSize, mostRecords}
 use Rattle.problem.specs.Decoded.{problemOf}
 use Rattle.records.specs.Areas.{Bytes, roomOf}
 use Rattle.records.specs.Records.{nodeOf, nodeIn}
-use Rattle.graph.specs.Graphs.{Work, work, graphOf, capacityOf, Held, Sized, Refines, Changes, ChangesNodes, WithAlternatives, alternativesFrom, IsNextAlternative}
-use Rattle.graph.specs.GraphLaws.{sized-refl, sized-trans, sized-places, count-nodes, graph-node, held-most, held-fewer}
+use Rattle.graph.specs.Graphs.{Work, work, graphOf, capacityOf, Held, Sized, Refines, Changes, ChangesNodes, WithAlternatives}
+use Rattle.graph.specs.Graphs.{alternativesFrom, AmongAlternatives, Walks, IsNextAlternative}
+use Rattle.graph.specs.GraphLaws.{sized-refl, sized-trans, sized-places, count-nodes, graph-node, held-most}
 use Rattle.graph.specs.SearchLaws.{alternatives-all, alternatives-kept}
 use Rattle.graph.specs.RefineLaws.{refines-answer, refines-as, refines-short, refines-changes, changes-both, Course, course-start, course-next, course-short, course-end}
 use Rattle.graph.specs.declared.NextAlternative.{NextAlternative}
@@ -101,7 +102,8 @@ module _ {ws : List ℕ} {w : Work} {c : Counts} {z y : ℕ} (A : SmallAsks ws w
 -- the alternatives from record i on are left
 pub record Turn (ws : List ℕ) (w : Work) (c : Counts) (z y : ℕ) (w′ : Work) (d : Counts) (i : ℕ) : Type 0 where
   pub asks : SmallAsks ws w c z y
-  pub within : i ≤ c .alternatives
+  pub place : i ≤ c .alternatives
+  pub among : AmongAlternatives (graphOf w c) y i
   pub sized : Sized w w′
   pub alternates : Alternates asks (alternativesFrom (graphOf w c) y i) (graphOf w′ d)
   pub course : (f : ℕ) → k asks ≤ f → Course (step asks f) (alternativesOf (graphOf w c) y) w c (alternativesFrom (graphOf w c) y i) w′ d
@@ -109,7 +111,8 @@ pub record Turn (ws : List ℕ) (w : Work) (c : Counts) (z y : ℕ) (w′ : Work
 pub turn-start : {ws : List ℕ} {w : Work} {c : Counts} {z y : ℕ} → SmallAsks ws w c z y → Turn ws w c z y w c 0
 turn-start {w = w} {c = c} {y = y} A = record {
   asks = A;
-  within = omega arith;
+  place = omega arith;
+  among = tt;
   sized = sized-refl;
   alternates = rw (alternatives-all (g A) y) (none-yet A);
   course = λ f few. rw (alternatives-all (g A) y) (course-start (step A f) (alternativesOf (g A) y) (A .linked .judge .held));
@@ -132,6 +135,7 @@ module _ {ws : List ℕ} {w : Work} {c : Counts} {z y : ℕ} {n′ e′ a′ : B
     pub from : i ≤ j
     pub below : j < c .alternatives
     pub here : alternativesFrom (g A) y i ≡ b ∷ alternativesFrom (g A) y (j + 1)
+    pub among : AmongAlternatives (g A) y (j + 1)
 
   -- it is joined to the set of state y, and put under node z, which was loaded as v
   pub record Joined (j : ℕ) (v : D.Node) (σ : RowSet) : Type 0 where
@@ -140,15 +144,14 @@ module _ {ws : List ℕ} {w : Work} {c : Counts} {z y : ℕ} {n′ e′ a′ : B
     pub node : nodeAt (g A) z ≡ nodeOf v
     pub join : σ ≡ union set (nodeAt (g A) y .rows)
 
-  -- the alternatives of the start stand where they stood
-  left : (m : ℕ) → alternativesFrom (graphOf (work n′ e′ a′) c) y m ≡ alternativesFrom (g A) y m
-  left m = let (more, q) = t .alternates .grows .alternatives in alternatives-kept w (work n′ e′ a′) (so-far .grown) more q y m
-
-  held-start : Held (work n′ e′ a′) c
-  held-start = held-fewer (so-far .held) (so-far .grown)
-
-  pub turn-room : c .alternatives ≤ roomOf alternativeSize a′
-  turn-room = held-start .alternatives
+  -- what the step to the next alternative asks
+  pub turn-walks : Walks alternativeSize n′ a′ (c .nodes) (c .alternatives) y i
+  turn-walks = record {
+    node = linked-there (A .linked);
+    nodes = omega (arith, so-far .held .nodes, so-far .grown .nodes);
+    place = t .place;
+    records = omega (arith, so-far .held .alternatives, so-far .grown .alternatives);
+  }
 
   there : z < d .nodes
   there = omega (arith, J A .there, count-nodes w c, so-far .grown .nodes)
@@ -156,14 +159,23 @@ module _ {ws : List ℕ} {w : Work} {c : Counts} {z y : ℕ} {n′ e′ a′ : B
   pub turn-sets : (z < d .nodes) × (d .nodes ≤ roomOf nodeSize n′)
   turn-sets = (there, so-far .held .nodes)
 
-  module _ {v : NextAlternative} (W : WithAlternatives a′ c (λ u. IsNextAlternative v i (c .alternatives) (alternativesFrom u y))) where
+  -- what the step says of the next alternative
+  abbrev Tells : NextAlternative → Type 0
+  Tells v = WithAlternatives n′ a′ c (λ u. AmongAlternatives u y i → IsNextAlternative v i (c .alternatives) (alternativesFrom u y) (AmongAlternatives u y))
+
+  module _ {v : NextAlternative} (W : Tells v) where
+    -- the alternatives of the start stand where they stood
+    told : {u : NextAlternative} → v ≡ u → IsNextAlternative u i (c .alternatives) (alternativesFrom (g A) y) (AmongAlternatives (g A) y)
+    told ev =
+        let (more, q) = t .alternates .grows .alternatives in
+        subst (λ (u : NextAlternative). IsNextAlternative u i (c .alternatives) (alternativesFrom (g A) y) (AmongAlternatives (g A) y)) ev
+        (alternatives-kept w (work n′ e′ a′) (so-far .grown) y i (c .alternatives) more q v (W e′ d (so-far .held) (so-far .grown)) (t .among))
+
     pub turn-next : {j : ℕ} {b : Rows.RowSet} → v ≡ Next.At j b → Chosen j (valueOf b)
-    turn-next {j} {b} ev =
-        let (l, m, q) = subst (λ (v : NextAlternative). IsNextAlternative v i (c .alternatives) (alternativesFrom (graphOf (work n′ e′ a′) c) y)) ev (W n′ e′ held-start) in
-        record { from = l; below = m; here = sym (left i) ∙ q ∙ ap (λ (x : List RowSet). valueOf b ∷ x) (left (j + 1)) }
+    turn-next ev = let (l, m, q, o) = told ev in record { from = l; below = m; here = q; among = o }
 
     none-left : v ≡ Next.End → alternativesFrom (g A) y i ≡ []
-    none-left ev = sym (left i) ∙ subst (λ (v : NextAlternative). IsNextAlternative v i (c .alternatives) (alternativesFrom (graphOf (work n′ e′ a′) c) y)) ev (W n′ e′ held-start)
+    none-left ev = told ev
 
   -- ---- the end: the node lapses, and is judged by its children
 
@@ -177,7 +189,7 @@ module _ {ws : List ℕ} {w : Work} {c : Counts} {z y : ℕ} {n′ e′ a′ : B
         let inside : (v : ℕ) → Child h z v → v < d .nodes = λ v m. omega (arith, t .alternates .inv .ends z v m .1, count-nodes (work n′ e′ a′) d) in
         record { alternatives = a′; held = C .held; node = there; inside = λ v m. inside v (subst (λ (l : List ℕ). List·Memᴰ v l) q m) }
 
-    pub turn-end : {v : NextAlternative} → WithAlternatives a′ c (λ u. IsNextAlternative v i (c .alternatives) (alternativesFrom u y)) → v ≡ Next.End
+    pub turn-end : {v : NextAlternative} → Tells v → v ≡ Next.End
         → {n₂ : Bytes} → JudgesAs n₁ n₂ e′ d (judgeBranch z) → SmallGives ws w c z y (Done d) (work n₂ e′ a′)
     turn-end W ev B f few =
         let all : Course (step A f) (alternativesOf (g A) y) w c [] (work n′ e′ a′) d = rw (none-left W ev) at (t .course f few) in
@@ -255,7 +267,8 @@ module _ {ws : List ℕ} {w : Work} {c : Counts} {z y : ℕ} {n′ e′ a′ : B
         let B = did er (k (A t)) (omega arith) in
         record {
           asks = A t;
-          within = omega (arith, q .chosen .below);
+          place = omega (arith, q .chosen .below);
+          among = q .chosen .among;
           sized = sized-trans (t .sized) (B .sized);
           alternates = one-less (A t) b todo (h t) at-here (graphOf w″ d₂) (B .meets ∙ ap (λ (q : Capacity). step (A t) (k (A t)) q b (h t)) (sized-places (t .sized)));
           course = λ f few. course-next (course-here f few) (did er f few);

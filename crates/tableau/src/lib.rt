@@ -80,7 +80,7 @@ pub fn put(
         Step::Full(area) => Step::Full(area),
         Step::Done(d) => match judge(problem, nodes, edges, alternatives, d, z) {
             Step::Full(area) => Step::Full(area),
-            Step::Done(b) => add_edge(edges, b, m, z),
+            Step::Done(b) => add_edge(nodes, edges, b, m, z),
         },
     }
 }
@@ -174,8 +174,13 @@ fn put_alternatives(
     let mut cur = c;
     let mut i: usize = 0;
     loop {
-        let NextAlternative::At { index, rows: extra } = next_alternative(alternatives, c, y, i)
-        else {
+        let NextAlternative::At { index, rows: extra } = next_alternative(
+            nodes,
+            alternatives,
+            c,
+            y,
+            i,
+        ) else {
             set_link(nodes, cur, z as usize, Link::Lapsed);
             judge_branch(nodes, edges, cur, z);
             return Step::Done(cur);

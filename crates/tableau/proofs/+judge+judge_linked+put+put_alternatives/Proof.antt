@@ -16,9 +16,9 @@ use Rattle.rowset.specs.Value.{valueOf}
 use Rattle.tableau.specs.Contracts.{lacks}
 use Rattle.tableau.specs.JudgeCases.{judge-judges, judge-links, judge-lapses, judge-states, judge-branches, linked-fits, linked-sets}
 use Rattle.tableau.specs.JudgeCases.{takes-sat, takes-unsat, takes-unset, takes-open, linked-small, small-judges}
-use Rattle.tableau.specs.PutCases.{Finished, Weighed, Complete, Linked, put-joins, put-clashes, put-waits, put-finished, put-weighed}
-use Rattle.tableau.specs.PutCases.{put-lapses, put-complete, put-link-short, put-links, put-judge-asks, put-judge-falls, put-judge-short, put-judged}
-use Rattle.tableau.specs.SmallCases.{Turn, Chosen, Joined, turn-start, turn-room, turn-sets, turn-next, turn-judges, turn-end}
+use Rattle.tableau.specs.PutCases.{Finished, Weighed, Complete, Linked, put-adds, put-joins, put-clashes, put-waits, put-finished, put-weighed}
+use Rattle.tableau.specs.PutCases.{put-lapses, put-complete, put-link-short, put-links, put-judge-asks, put-judge-falls, put-judge-short, put-edge-asks, put-judged}
+use Rattle.tableau.specs.SmallCases.{Turn, Chosen, Joined, turn-start, turn-walks, turn-sets, turn-next, turn-judges, turn-end}
 use Rattle.tableau.specs.SmallCases.{turn-index, turn-less, turn-joined, turn-asks, turn-falls, turn-short, turn-put}
 use Rattle.graph.proofs.add_edge.Reads as add-edge
 use Rattle.records.proofs.load_node.Reads as load-node
@@ -206,7 +206,7 @@ abbrev In-small : ℕ → (small-lts.Claims → In 4 small-kinds.ps → Out 4 sm
 In-small t P = P (small-calls t) (small-at t) small.Post Inv-loop μ-loop
 
 abbrev the-loop : {t : ℕ} → In-small t small-lts.After-index → In-small t small-lts.At-loop
-the-loop c = c .before .before .before .before
+the-loop c = c .before .before .before .before .before
 
 abbrev first : {t : ℕ} → In-small t small-lts.At-loop → In-small t small-lts.Start
 first c = c .before .before .before .before .before .before .before .before .before .before
@@ -283,12 +283,12 @@ pub +judge+judge-linked+put+put-alternatives-spec : {M : Type 1} → statement M
     -- clash(rows, s)
     (λ c κs. search needs)
     -- return add_child(.., below(..))
-    (λ c κs. search needs) (λ c κs. search needs) (λ c. search needs) (λ c. search needs)
+    (λ c κs. search needs) (λ c κs. search (put-adds, needs)) (λ c. search needs) (λ c. search needs)
     (λ c. search (put-clashes, needs))
     -- unfinished(rows, s)
     (λ c κs. search needs)
     -- return add_child(.., below(..))
-    (λ c κs. search needs) (λ c κs. search needs) (λ c. search needs) (λ c. search needs)
+    (λ c κs. search needs) (λ c κs. search (put-adds, needs)) (λ c. search needs) (λ c. search needs)
     (λ c. search (put-waits, needs))
     -- load_node(nodes, p), lacking(..), is_empty(lacked)
     (λ c κs. search needs) (λ c κs. search needs) (λ c κs. search needs) (λ c κs. search needs)
@@ -302,8 +302,9 @@ pub +judge+judge-linked+put+put-alternatives-spec : {M : Type 1} → statement M
     (λ c κs. let d : In-put t put-lts.After-d = search in
     (omega (arith, the-asks d .pre .0, put-judge-falls (linked-special t d)), put-judge-asks (linked-special t d)))
     (λ c. search needs) (λ c. search needs)
-    -- add_edge(edges, b, m, z)
-    (λ c κs. search needs)
+    -- add_edge(nodes, edges, b, m, z)
+    (λ c κs. let j : In-put t put-lts.After-judge = search in let b : In-put t put-lts.After-b = search in
+    put-edge-asks (linked-special t (search)) (j .judge .ensures) (b .b .given .1))
     -- the end: Full(area), of link_special
     (λ c. search needs) (λ c. search needs)
     (λ c. let l : In-put t put-lts.After-link-special = search in put-link-short (complete t (search)) (l .link-special .ensures) (search))
@@ -318,13 +319,13 @@ pub +judge+judge-linked+put+put-alternatives-spec : {M : Type 1} → statement M
     -- load_node(nodes, z), load_node(nodes, y)
     (λ c κs. search needs)
     (λ c κs. let s : In-small t small-lts.Start = search in linked-fits (s .pre .1 .linked))
-    -- loop, next_alternative(alternatives, c, y, i)
+    -- loop, next_alternative(nodes, alternatives, c, y, i)
     (λ c. search (turn-start, needs))
-    (λ c κs. search (turn-room, needs))
+    (λ c κs. search (turn-walks, needs))
     (λ c. search needs) (λ c. search needs)
     -- set_link(.., z, Lapsed), judge_branch(.., z)
     (λ c κs. search (turn-sets, needs))
-    (λ c κs. search (turn-judges, needs))
+    (λ c κs. let k : In-small t small-lts.After-set-link = search in let l : In-small t small-lts.At-loop = search in turn-judges (l .loop .inv) (k .set-link .ensures))
     -- return Done(cur)
     (λ c. search needs) (λ c. search needs) (λ c. search needs)
     (λ c. let l : In-small t small-lts.At-loop = search in let k : In-small t small-lts.After-set-link = search in
