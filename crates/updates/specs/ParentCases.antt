@@ -1,45 +1,55 @@
--- The parents of a node, updated one after the other: a turn of the loop, on plain values.
+-- The parents of one node, updated one after the other: a turn, on plain values.
 --
--- In order: the loop's invariant (`Turn`); its start; edges that were there stay where they are; the next parent (`Chosen`), or the end; its update.
+-- In order: what is left of the parents (`Turn`); its start; the next parent (`Chosen`), or the end; its update; the last parent, whose own parents are left.
 -- Assumes nothing.
 use mathlib.Core.Path.{_≡_, refl, sym, ap, _∙_, subst}
+use mathlib.Core.Bool.{Bool, true, false, true≢false}
 use mathlib.Core.List.{List, [], _∷_, List·Memᴰ, List·Memᴰ·head, List·Memᴰ·tail}
-use Prim.Native.Nat.{ℕ, _+_, _-_, _*_, _≤_, _<_}
+use Prim.Native.Nat.{ℕ, _+_, _-_, _≤_, _<_}
 use native.Mathlib.Omega.{arith}
-use Rattle.procedure.specs.Graph.{Graph, Capacity, Result, nodeCount, parents}
-use Rattle.procedure.specs.GraphLaws.{Sure, parent-child}
+use Rattle.procedure.specs.Graph.{Graph, nodeCount, parents}
+use Rattle.procedure.specs.GraphLaws.{parent-child}
 use Rattle.procedure.specs.TableauLaws.{parents-each}
-use Rattle.procedure.proofs.Grows.{Grows, grows-refl, grows-trans}
-use Rattle.procedure.proofs.Measure.{settled, settled-grows}
-use Rattle.procedure.proofs.Fit.{Fit, UpdateDone, update-done, settled-fits}
+use Rattle.procedure.proofs.Fit.{Fit}
 use Rattle.words.specs.Sizes.{edgeSize, mostRecords}
 use Rattle.problem.specs.Decoded.{problemOf}
 use Rattle.records.specs.Areas.{Bytes, roomOf}
-use Rattle.graph.specs.Graphs.{Work, work, graphOf, capacityOf, Held, Sized, Refines, WithEdges, parentsFrom, IsNext}
-use Rattle.graph.specs.GraphLaws.{sized-refl, sized-trans, sized-places, held-most, held-fewer}
-use Rattle.graph.specs.SearchLaws.{parents-all, parents-kept}
-use Rattle.graph.specs.RefineLaws.{refines-answer, refines-as, Course, course-start, course-next, course-short, course-end}
+use Rattle.graph.specs.Graphs.{Work, work, graphOf, capacityOf, WithEdges, parentsFrom, IsNext}
+use Rattle.graph.specs.GraphLaws.{held-most}
+use Rattle.graph.specs.SearchLaws.{parents-all}
+use Rattle.graph.specs.RefineLaws.{refines-as, Course, course-start, course-next, course-short, course-end}
 use Rattle.graph.specs.declared.Counts.{Counts}
 use Rattle.graph.specs.declared.Next.{Next}
 use Rattle.graph.specs.declared.Next.the-variants as Next
 use Rattle.graph.specs.declared.Area.{Area}
 use Rattle.graph.specs.declared.Step.{Step}
 use Rattle.graph.specs.declared.Step.the-variants.{Done, Full}
-use Rattle.updates.specs.Contracts.{UpdateAsks, Enough, unsettled, updates, UpdateGives, ParentsGives}
+use Rattle.updates.specs.Contracts.{UpdateAsks, Enough, updates, UpdateGives, ParentsGives, Later, Settles, noneIn}
+use Rattle.updates.specs.LaterLaws.{later-refl, later-trans, later-held, later-parents, later-enough, update-later, update-fit}
 
--- ---- the loop's invariant
+-- ---- whether a parent is left
 
--- fuel that is enough, however many nodes are settled
-abbrev pub most : Work → ℕ
-most w = capacityOf w .nodeRoom + 1
+module _ {e : Bytes} {c : Counts} {v : Next} (x i : ℕ) (W : WithEdges e c (λ u. IsNext v i (c .edges) (parentsFrom u x))) where
+  pub none-next : v ≡ Next.End → WithEdges e c (λ u. true ≡ noneIn (parentsFrom u x i))
+  none-next ev n a h = sym (ap noneIn (subst (λ (v : Next). IsNext v i (c .edges) (parentsFrom (graphOf (work n e a) c) x)) ev (W n a h)))
 
--- the parents from record i on are left
+  pub some-next : {j y : ℕ} → v ≡ Next.At j y → WithEdges e c (λ u. false ≡ noneIn (parentsFrom u x i))
+  some-next ev n a h =
+      let (l, m, q) = subst (λ (v : Next). IsNext v i (c .edges) (parentsFrom (graphOf (work n e a) c) x)) ev (W n a h) in
+      sym (ap noneIn q)
+
+none-in : (l : List ℕ) → noneIn l ≡ true → l ≡ []
+none-in [] e = refl
+none-in (y ∷ ys) e = absurd (true≢false (sym e))
+
+-- ---- what is left
+
+-- the parents of x from record i on are left: w and c were the areas and the counts at the first of them, w′ and d are those now
 pub record Turn (ws : List ℕ) (w : Work) (c : Counts) (x : ℕ) (w′ : Work) (d : Counts) (i : ℕ) : Type 0 where
   pub asks : UpdateAsks ws w c x
   pub within : i ≤ c .edges
-  pub sized : Sized w w′
-  pub fit : Fit (problemOf ws) (capacityOf w) (graphOf w′ d)
-  pub grows : Grows (graphOf w c) (graphOf w′ d)
+  pub later : Later w c w′ d
+  pub fit : Fit (problemOf ws) (capacityOf w′) (graphOf w′ d)
   pub inside : (y : ℕ) → List·Memᴰ y (parentsFrom (graphOf w c) x i) → y < nodeCount (graphOf w c)
   pub course : (f : ℕ) → Enough w c f → Course (updates ws f) (parents (graphOf w c) x) w c (parentsFrom (graphOf w c) x i) w′ d
 
@@ -49,9 +59,8 @@ turn-start {ws} {w} {c} {x} A =
     record {
       asks = A;
       within = omega arith;
-      sized = sized-refl;
+      later = later-refl (A .held);
       fit = A .fit;
-      grows = grows-refl g;
       inside = λ y m. A .fit .inv .ends y x (parent-child g y x (subst (λ (l : List ℕ). List·Memᴰ y l) (parents-all g x) m)) .0;
       course = λ f few. rw (parents-all g x) (course-start (updates ws f) (parents g x) (A .held));
     }
@@ -59,18 +68,12 @@ turn-start {ws} {w} {c} {x} A =
 -- ---- a turn
 
 module _ {ws : List ℕ} {w : Work} {c : Counts} {x : ℕ} {n′ e′ a′ : Bytes} {d : Counts} {i : ℕ} (t : Turn ws w c x (work n′ e′ a′) d i) where
-  -- the graph of the call, and the areas and the graph as they are now
+  -- the graph of the start, and the areas as they are now
   abbrev g : Graph
   g = graphOf w c
 
   abbrev w′ : Work
   w′ = work n′ e′ a′
-
-  abbrev h : Graph
-  h = graphOf w′ d
-
-  so-far : Course (updates ws (most w)) (parents g x) w c (parentsFrom g x i) w′ d
-  so-far = t .course (most w) (omega arith)
 
   -- record j has the next parent, y
   pub record Chosen (j y : ℕ) : Type 0 where
@@ -78,35 +81,21 @@ module _ {ws : List ℕ} {w : Work} {c : Counts} {x : ℕ} {n′ e′ a′ : Byt
     pub below : j < c .edges
     pub here : parentsFrom g x i ≡ y ∷ parentsFrom g x (j + 1)
 
-  places : capacityOf w′ ≡ capacityOf w
-  places = sized-places (t .sized)
-
-  -- the edges of the start stand where they stood
-  left : (m : ℕ) → parentsFrom (graphOf w′ c) x m ≡ parentsFrom g x m
-  left m = let (more, q) = t .grows .edges in parents-kept w w′ (so-far .grown) more q x m
-
-  held-start : Held w′ c
-  held-start = held-fewer (so-far .held) (so-far .grown)
-
   pub turn-room : c .edges ≤ roomOf edgeSize e′
-  turn-room = held-start .edges
-
-  settled-more : settled g ≤ settled h
-  settled-more = settled-grows g h (t .grows)
-
-  -- settled nodes stay settled, and there are at most as many as places
-  pub turn-falls : 2 * unsettled (work n′ e′ a′) d < 2 * unsettled w c + 1
-  turn-falls = omega (arith, settled-more, settled-fits (problemOf ws) (capacityOf w) h (t .fit), ap (λ (q : Capacity). q .nodeRoom) places)
+  turn-room = later-held (t .later) .edges
 
   module _ {v : Next} (W : WithEdges e′ c (λ u. IsNext v i (c .edges) (parentsFrom u x))) where
+    next : {u : Next} → v ≡ u → IsNext u i (c .edges) (parentsFrom (graphOf w′ c) x)
+    next ev = subst (λ (v : Next). IsNext v i (c .edges) (parentsFrom (graphOf w′ c) x)) ev (W n′ a′ (later-held (t .later)))
+
     pub turn-next : {j y : ℕ} → v ≡ Next.At j y → Chosen j y
     turn-next {j} {y} ev =
-        let (l, m, q) = subst (λ (v : Next). IsNext v i (c .edges) (parentsFrom (graphOf w′ c) x)) ev (W n′ a′ held-start) in
-        record { from = l; below = m; here = sym (left i) ∙ q ∙ ap (λ (z : List ℕ). y ∷ z) (left (j + 1)) }
+        let (l, m, q) = next ev in
+        record { from = l; below = m; here = sym (later-parents (t .later) x i) ∙ q ∙ ap (λ (z : List ℕ). y ∷ z) (later-parents (t .later) x (j + 1)) }
 
     pub turn-end : v ≡ Next.End → ParentsGives ws w c x (Done d) (work n′ e′ a′)
     turn-end ev f few =
-        let none : parentsFrom g x i ≡ [] = sym (left i) ∙ subst (λ (v : Next). IsNext v i (c .edges) (parentsFrom (graphOf w′ c) x)) ev (W n′ a′ held-start) in
+        let none : parentsFrom g x i ≡ [] = sym (later-parents (t .later) x i) ∙ next ev in
         let all : Course (updates ws f) (parents g x) w c [] w′ d = rw none at (t .course f few) in
         refines-as (course-end all) (parents-each (updates ws f (capacityOf w)) x g)
 
@@ -119,12 +108,7 @@ module _ {ws : List ℕ} {w : Work} {c : Counts} {x : ℕ} {n′ e′ a′ : Byt
   pub turn-asks : UpdateAsks ws (work n′ e′ a′) d y
   turn-asks =
       let m : y < nodeCount (g t) = t .inside y (subst (λ (l : List ℕ). List·Memᴰ y l) (sym (p .here)) (List·Memᴰ·head refl)) in
-      record {
-        decoded = t .asks .decoded;
-        held = so-far t .held;
-        fit = subst (λ (q : Capacity). Fit (problemOf ws) q (h t)) (sym (places t)) (t .fit);
-        there = omega (arith, m, t .grows .longer);
-      }
+      record { decoded = t .asks .decoded; held = t .later .held; fit = t .fit; there = omega (arith, m, t .later .grows .longer) }
 
   pub turn-less : c .edges - (j + 1) < c .edges - i
   turn-less = omega (arith, p .from, p .below)
@@ -132,28 +116,41 @@ module _ {ws : List ℕ} {w : Work} {c : Counts} {x : ℕ} {n′ e′ a′ : Byt
   pub turn-index : j + 1 ≤ mostRecords
   turn-index = omega (arith, p .below, held-most (t .asks .held) .1)
 
-  module _ {w″ : Work} {r : Step} (G : UpdateGives ws (work n′ e′ a′) d y r w″) where
-    updated : {s : Step} → r ≡ s → (f : ℕ) → Enough w c f → Refines (w′ t) d s w″ (λ k u. updates ws f k y u)
-    updated er f few = refines-answer (G f (omega (arith, few, settled-more t, ap (λ (q : Capacity). q .nodeRoom) (places t)))) er
+  course-here : (f : ℕ) → Enough w c f → Course (updates ws f) (parents (g t) x) w c (y ∷ todo) (w′ t) d
+  course-here f few = rw (p .here) at (t .course f few)
 
-    course-here : (f : ℕ) → Enough w c f → Course (updates ws f) (parents (g t) x) w c (y ∷ todo) (w′ t) d
-    course-here f few = rw (p .here) at (t .course f few)
+  pub turn-short : {s : Area} {w″ : Work} → UpdateGives ws (work n′ e′ a′) d y (Full s) w″ → ParentsGives ws w c x (Full s) w″
+  turn-short G f few = refines-as (course-short (course-here f few) (G f (later-enough (t .later) f few))) (parents-each (updates ws f (capacityOf w)) x (g t))
 
-    pub turn-short : {s : Area} → r ≡ Full s → ParentsGives ws w c x (Full s) w″
-    turn-short er f few = refines-as (course-short (course-here f few) (updated er f few)) (parents-each (updates ws f (capacityOf w)) x (g t))
+  pub turn-updated : {d₂ : Counts} {w″ : Work} → UpdateGives ws (work n′ e′ a′) d y (Done d₂) w″ → Turn ws w c x w″ d₂ (j + 1)
+  turn-updated G = record {
+    asks = t .asks;
+    within = omega (arith, p .below);
+    later = later-trans (t .later) (update-later turn-asks G);
+    fit = update-fit turn-asks G;
+    inside = λ v m. t .inside v (subst (λ (l : List ℕ). List·Memᴰ v l) (sym (p .here)) (List·Memᴰ·tail m));
+    course = λ f few. course-next (course-here f few) (G f (later-enough (t .later) f few));
+  }
 
-    pub turn-updated : {d₂ : Counts} → r ≡ Done d₂ → Turn ws w c x w″ d₂ (j + 1)
-    turn-updated {d₂} er =
-        let B = updated er (most w) (omega arith) in
-        let q = B .meets ∙ ap (λ (k : Capacity). updates ws (most w) k y (h t)) (places t) in
-        let D : UpdateDone (problemOf ws) (capacityOf w) (h t) (graphOf w″ d₂) =
-        subst (λ (u : Result). Sure (UpdateDone (problemOf ws) (capacityOf w) (h t)) u) (sym q) (update-done (problemOf ws) (capacityOf w) (h t) (t .fit) (most w) y (omega arith)) in
-        record {
-          asks = t .asks;
-          within = omega (arith, p .below);
-          sized = sized-trans (t .sized) (B .sized);
-          fit = D .fit;
-          grows = grows-trans (t .grows) (D .grows);
-          inside = λ v m. t .inside v (subst (λ (l : List ℕ). List·Memᴰ v l) (sym (p .here)) (List·Memᴰ·tail m));
-          course = λ f few. course-next (course-here f few) (updated er f few);
-        }
+  -- ---- the last parent
+
+  -- with its update, all are updated
+  turn-last : todo ≡ [] → (r : Step) {w″ : Work} → UpdateGives ws (work n′ e′ a′) d y r w″ → ParentsGives ws w c x r w″
+  turn-last none (Full s) G = turn-short G
+  turn-last none (Done d₂) {w″} G = λ f few.
+      let all : Course (updates ws f) (parents (g t) x) w c [] w″ d₂ = rw none at (turn-updated G .course f few) in
+      refines-as (course-end all) (parents-each (updates ws f (capacityOf w)) x (g t))
+
+  module _ {n₁ e₁ a₁ : Bytes} {d₁ : Counts} (S : Settles ws (work n′ e′ a′) d y (work n₁ e₁ a₁) d₁) where
+    now-later : Later w c (work n₁ e₁ a₁) d₁
+    now-later = later-trans (t .later) (S .later)
+
+    pub last-room : c .edges ≤ roomOf edgeSize e₁
+    last-room = later-held now-later .edges
+
+    -- what is left is to update the parents of y
+    pub turn-jump : {b : Bool} → WithEdges e₁ c (λ u. b ≡ noneIn (parentsFrom u x (j + 1))) → b ≡ true
+        → (r : Step) {w″ : Work} → ParentsGives ws (work n₁ e₁ a₁) d₁ y r w″ → ParentsGives ws w c x r w″
+    turn-jump B eb r G =
+        let none : parentsFrom (graphOf (work n₁ e₁ a₁) c) x (j + 1) ≡ [] = none-in _ (sym (B n₁ a₁ (later-held now-later)) ∙ eb) in
+        turn-last (sym (later-parents now-later x (j + 1)) ∙ none) r (S .whole G)

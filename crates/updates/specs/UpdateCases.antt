@@ -1,11 +1,11 @@
--- The cases of an update, on plain values.
+-- The cases of a node that is judged again, on plain values.
 --
--- In order: a node that is not open; one that is (`Opened`), which is judged: no place; done (`Judged`), and then still open, or settled, with its parents to update.
+-- In order: a node that is not open; one that is (`Opened`), which is judged: no place; done (`Judged`), and then still open, or settled (`Settles`), with its parents to update.
 -- Assumes nothing.
 use mathlib.Core.Path.{_≡_, sym, ap, _∙_, subst}
 use mathlib.Core.Bool.{Bool, true, false}
 use mathlib.Core.List.{List}
-use Prim.Native.Nat.{ℕ, zero, suc, _+_, _*_, _<_}
+use Prim.Native.Nat.{ℕ, zero, suc, _<_}
 use native.Mathlib.Omega.{arith}
 use lib.ListN.{length}
 use Rattle.concepts.specs.Tests.{from-true}
@@ -33,7 +33,7 @@ use Rattle.graph.specs.declared.Area.{Area}
 use Rattle.graph.specs.declared.Step.{Step}
 use Rattle.graph.specs.declared.Step.the-variants.{Done, Full}
 use Rattle.tableau.specs.Contracts.{JudgeAsks, JudgeGives}
-use Rattle.updates.specs.Contracts.{UpdateAsks, Enough, unsettled, updates, UpdateGives, ParentsGives}
+use Rattle.updates.specs.Contracts.{UpdateAsks, Enough, unsettled, updates, UpdateGives, ParentsGives, Settles}
 
 -- a node that was loaded is open, or is not
 pub record Loaded (n : Bytes) (x : ℕ) (b : Bool) : Type 0 where
@@ -142,17 +142,25 @@ module _ {ws : List ℕ} {n e a : Bytes} {c : Counts} {x : ℕ} {A : UpdateAsks 
     rises = after .rises (loaded-open w₁ d still L)
 
     -- one node more is settled
-    pub update-falls : 2 * unsettled (work n₁ e₁ a₁) d + 1 < 2 * unsettled (work n e a) c
-    update-falls = omega (arith, rises, settled-fits (P A) (capacityOf (w A)) h (after .fit), ap (λ (q : Capacity). q .nodeRoom) places)
+    falls : unsettled w₁ d < unsettled (w A) c
+    falls = omega (arith, rises, settled-fits (P A) (capacityOf (w A)) h (after .fit), ap (λ (q : Capacity). q .nodeRoom) places)
 
-    pub update-parents-ask : UpdateAsks ws (work n₁ e₁ a₁) d x
-    update-parents-ask = record {
+    parents-ask : UpdateAsks ws w₁ d x
+    parents-ask = record {
       decoded = A .decoded;
       held = refines-held (j .gives);
       fit = subst (λ (q : Capacity). Fit (P A) q h) (sym places) (after .fit);
       there = omega (arith, still, count-nodes w₁ d);
     }
 
-    pub update-changed : {w₂ : Work} {r : Step} → ParentsGives ws (work n₁ e₁ a₁) d x r w₂ → UpdateGives ws (work n e a) c x r w₂
-    update-changed G = changed (λ f few.
+    whole : {r : Step} {w₂ : Work} → ParentsGives ws w₁ d x r w₂ → UpdateGives ws (w A) c x r w₂
+    whole G = changed (λ f few.
         refines-as (G f (omega (arith, few, rises, ap (λ (q : Capacity). q .nodeRoom) places))) (changed-parents (updates ws f (capacityOf w₁)) x h (loaded-open w₁ d still L)))
+
+    pub update-settles : Settles ws (work n e a) c x (work n₁ e₁ a₁) d
+    update-settles = record {
+      later = record { held = j .gives .held .0; grown = j .gives .held .1; sized = j .gives .sized; grows = after .grows };
+      asks = parents-ask;
+      falls = falls;
+      whole = whole;
+    }

@@ -1,8 +1,15 @@
 // Updates over lent areas (01, The procedure): an open node is judged again, and if its status changes, so are its parents.
 //
-// In order: an update; the parents of a node. They call each other: the nodes that are not settled fall.
-ghost use Rattle.graph.specs.Graphs.{work};
-ghost use Rattle.updates.specs.Contracts.{UpdateAsks, UpdateGives, ParentsGives};
+// In order: one node judged again; whether a parent is left; the parents of a node, and theirs.
+// A parent's own parents are updated by a call only while other parents are left; those of the last one are updated in the loop. Both come after one node more is settled.
+// So a nested call needs a node with two parents, and only states have more than one.
+ghost use mathlib.Core.Path.{_≡_};
+ghost use Prim.Native.Nat.{_≤_};
+ghost use Rattle.words.specs.Sizes.{edgeSize};
+ghost use Rattle.records.specs.Areas.{roomOf};
+ghost use Rattle.graph.specs.Graphs.{work, WithEdges, parentsFrom};
+ghost use Rattle.updates.specs.Contracts.{UpdateAsks, RejudgeGives, ParentsGives, noneIn};
+use graph::Area;
 use graph::Counts;
 use graph::Next;
 use graph::Step;
@@ -11,34 +18,52 @@ use records::is_open;
 use records::load_node;
 use tableau::judge;
 
-// Updates node x: if it is open, it is judged, and if it no longer is, its parents are updated.
-pub fn update(
+// What judging an open node again came to: the counts, with its status as it was or changed, or the area that had no place.
+pub enum Rejudged {
+    Kept(Counts),
+    Changed(Counts),
+    Full(Area),
+}
+
+// Judges node x again if it is open, and says whether its status changed.
+fn rejudge(
     problem: &[u64],
     nodes: &mut [u8],
     edges: &mut [u8],
     alternatives: &mut [u8],
     c: Counts,
     x: u16,
-) -> Step
+) -> Rejudged
     requires { ⌜ UpdateAsks (now problem) (work (now nodes) (now edges) (now alternatives)) c x ⌝ }
-    ensures { λ r. ⌜ UpdateGives (now (problem .entry))
+    ensures { λ r. ⌜ RejudgeGives (now (problem .entry))
         (work (now (nodes .entry)) (now (edges .entry)) (now (alternatives .entry))) c x r (work (now (nodes .exit)) (now (edges .exit)) (now (alternatives .exit))) ⌝ }
 {
     let before = load_node(nodes, x as usize);
     let was = before.status;
     if !is_open(was) {
-        return Step::Done(c);
+        return Rejudged::Kept(c);
     }
     match judge(problem, nodes, edges, alternatives, c, x) {
-        Step::Full(area) => Step::Full(area),
+        Step::Full(area) => Rejudged::Full(area),
         Step::Done(d) => {
             let after = load_node(nodes, x as usize);
             let is = after.status;
             if is_open(is) {
-                return Step::Done(d);
+                return Rejudged::Kept(d);
             }
-            update_parents(problem, nodes, edges, alternatives, d, x)
+            Rejudged::Changed(d)
         }
+    }
+}
+
+// Whether no edge from `from` on ends at x.
+fn no_parent(edges: &[u8], c: Counts, x: u16, from: usize) -> bool
+    requires { ⌜ c .edges ≤ roomOf edgeSize (now edges) ⌝ }
+    ensures { λ r. ⌜ WithEdges (now (edges .entry)) c (λ g. r ≡ noneIn (parentsFrom g x from)) ⌝ }
+{
+    match next_parent(edges, c, x, from) {
+        Next::At { index: _, node: _ } => false,
+        Next::End => true,
     }
 }
 
@@ -55,20 +80,37 @@ pub fn update_parents(
     ensures { λ r. ⌜ ParentsGives (now (problem .entry))
         (work (now (nodes .entry)) (now (edges .entry)) (now (alternatives .entry))) c x r (work (now (nodes .exit)) (now (edges .exit)) (now (alternatives .exit))) ⌝ }
 {
+    // whose parents are updated, and the counts when the first of them was looked for
+    let mut child = x;
+    let mut start = c;
     let mut cur = c;
     let mut i: usize = 0;
     loop {
         let Next::At {
             index,
             node: parent,
-        } = next_parent(edges, c, x, i)
+        } = next_parent(edges, start, child, i)
         else {
             return Step::Done(cur);
         };
         i = index + 1;
-        match update(problem, nodes, edges, alternatives, cur, parent) {
-            Step::Full(area) => return Step::Full(area),
-            Step::Done(next) => cur = next,
+        match rejudge(problem, nodes, edges, alternatives, cur, parent) {
+            Rejudged::Full(area) => return Step::Full(area),
+            Rejudged::Kept(next) => cur = next,
+            Rejudged::Changed(next) => {
+                if no_parent(edges, start, child, i) {
+                    // its own parents are all that is left
+                    child = parent;
+                    start = next;
+                    cur = next;
+                    i = 0;
+                } else {
+                    match update_parents(problem, nodes, edges, alternatives, next, parent) {
+                        Step::Full(area) => return Step::Full(area),
+                        Step::Done(after) => cur = after,
+                    }
+                }
+            }
         }
     }
 }
