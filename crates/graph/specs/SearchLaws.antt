@@ -115,28 +115,53 @@ pub alternatives-all : (g : G.Graph) (x : ℕ) → alternativesFrom g x 0 ≡ G.
 unfolding alternativesFrom chosenFrom G.alternativesOf
 alternatives-all g x = refl
 
--- records that were there stay where they are: the areas w′ with counts d hold what those of w with counts c held, and more.
--- So what a step along a chain gives now, it gives of the graph of then
-module _ (w w′ : Work) {c d : Counts} (grown : Grown c d) (x i count : ℕ) where
-  pub parents-kept : (more : List G.Edge) → graphOf w′ d .edges ≡ graphOf w c .edges ++ more → (v : Next)
-      → let h = graphOf w′ c in let g = graphOf w c in (AmongParents h x i → IsNext v i count (parentsFrom h x) (AmongParents h x))
-      → AmongParents g x i → IsNext v i count (parentsFrom g x) (AmongParents g x)
-  unfolding graphOf parentsFrom
-  parents-kept more q v =
-      let same = records-kept edgeIn (w′ .edges) (c .edges) (d .edges) (graphOf w c .edges) more (count-edges w c) (grown .edges) q in
-      let end : List G.Edge → ℕ → ℕ = λ l j. getD l j (record { from = 0; to = 0 }) .to in
-      let rest : List G.Edge → ℕ → List ℕ = λ l. chosenFrom (λ (u : G.Edge). eqb (u .to) x) (λ (u : G.Edge). u .from) l in
-      subst (λ (l : List G.Edge). (Behind (end l) x i → IsNext v i count (rest l) (Behind (end l) x))) same
+-- records that were there stay where they are: the areas w′ with counts d hold what those of w with counts c held, and more
+module _ (w w′ : Work) {c d : Counts} (grown : Grown c d) where
+  pub edges-kept : (more : List G.Edge) → graphOf w′ d .edges ≡ graphOf w c .edges ++ more → graphOf w′ c .edges ≡ graphOf w c .edges
+  unfolding graphOf
+  edges-kept more q = records-kept edgeIn (w′ .edges) (c .edges) (d .edges) (graphOf w c .edges) more (count-edges w c) (grown .edges) q
 
-  pub alternatives-kept : (more : List G.Alternative) → graphOf w′ d .alternatives ≡ graphOf w c .alternatives ++ more → (v : NextAlternative)
-      → let h = graphOf w′ c in let g = graphOf w c in (AmongAlternatives h x i → IsNextAlternative v i count (alternativesFrom h x) (AmongAlternatives h x))
-      → AmongAlternatives g x i → IsNextAlternative v i count (alternativesFrom g x) (AmongAlternatives g x)
-  unfolding graphOf alternativesFrom
-  alternatives-kept more q v =
-      let same = records-kept alternativeIn (w′ .alternatives) (c .alternatives) (d .alternatives) (graphOf w c .alternatives) more (count-alternatives w c) (grown .alternatives) q in
-      let owner : List G.Alternative → ℕ → ℕ = λ l j. getD l j (record { owner = 0; rows = empty }) .owner in
-      let rest : List G.Alternative → ℕ → List RowSet = λ l. chosenFrom (λ (u : G.Alternative). eqb (u .owner) x) (λ (u : G.Alternative). u .rows) l in
-      subst (λ (l : List G.Alternative). (Behind (owner l) x i → IsNextAlternative v i count (rest l) (Behind (owner l) x))) same
+  pub alternatives-kept : (more : List G.Alternative) → graphOf w′ d .alternatives ≡ graphOf w c .alternatives ++ more → graphOf w′ c .alternatives ≡ graphOf w c .alternatives
+  unfolding graphOf
+  alternatives-kept more q =
+      records-kept alternativeIn (w′ .alternatives) (c .alternatives) (d .alternatives) (graphOf w c .alternatives) more (count-alternatives w c) (grown .alternatives) q
+
+-- the parents of a node are by the edges alone, and the alternatives of a state by the alternatives
+module _ (g h : G.Graph) (x i : ℕ) where
+  pub parents-same : h .edges ≡ g .edges → parentsFrom h x i ≡ parentsFrom g x i
+  unfolding parentsFrom
+  parents-same e = ap (λ (l : List G.Edge). chosenFrom (λ (u : G.Edge). eqb (u .to) x) (λ (u : G.Edge). u .from) l i) e
+
+  pub among-parents-same : h .edges ≡ g .edges → AmongParents h x i → AmongParents g x i
+  among-parents-same e = subst (λ (l : List G.Edge). Behind (λ j. getD l j (record { from = 0; to = 0 }) .to) x i) e
+
+  pub alternatives-same : h .alternatives ≡ g .alternatives → alternativesFrom h x i ≡ alternativesFrom g x i
+  unfolding alternativesFrom
+  alternatives-same e = ap (λ (l : List G.Alternative). chosenFrom (λ (u : G.Alternative). eqb (u .owner) x) (λ (u : G.Alternative). u .rows) l i) e
+
+  pub among-alternatives-same : h .alternatives ≡ g .alternatives → AmongAlternatives h x i → AmongAlternatives g x i
+  among-alternatives-same e = subst (λ (l : List G.Alternative). Behind (λ j. getD l j (record { owner = 0; rows = empty }) .owner) x i) e
+
+-- so what a step along a chain gives now, it gives of the graph of then
+module _ (g h : G.Graph) (x i count : ℕ) where
+  pub next-parent-same : h .edges ≡ g .edges → (v : Next) → IsNext v i count (parentsFrom h x) (AmongParents h x) → IsNext v i count (parentsFrom g x) (AmongParents g x)
+  next-parent-same e (Node.At j y) (l, m, q, o) = (
+    l,
+    m,
+    sym (parents-same g h x i e) ∙ q ∙ ap (λ (z : List ℕ). y ∷ z) (parents-same g h x (j + 1) e),
+    among-parents-same g h x (j + 1) e o,
+  )
+  next-parent-same e Node.End q = sym (parents-same g h x i e) ∙ q
+
+  pub next-alternative-same : h .alternatives ≡ g .alternatives → (v : NextAlternative)
+      → IsNextAlternative v i count (alternativesFrom h x) (AmongAlternatives h x) → IsNextAlternative v i count (alternativesFrom g x) (AmongAlternatives g x)
+  next-alternative-same e (Set.At j s) (l, m, q, o) = (
+    l,
+    m,
+    sym (alternatives-same g h x i e) ∙ q ∙ ap (λ (z : List RowSet). valueOf s ∷ z) (alternatives-same g h x (j + 1) e),
+    among-alternatives-same g h x (j + 1) e o,
+  )
+  next-alternative-same e Set.End q = sym (alternatives-same g h x i e) ∙ q
 
 -- ---- a step along a chain is what a search finds
 

@@ -27,7 +27,7 @@ use Rattle.records.specs.Records.{nodeOf, nodeIn}
 use Rattle.graph.specs.Graphs.{Work, work, graphOf, capacityOf, Held, Sized, Refines, Changes, ChangesNodes, WithAlternatives}
 use Rattle.graph.specs.Graphs.{alternativesFrom, AmongAlternatives, Walks, IsNextAlternative}
 use Rattle.graph.specs.GraphLaws.{sized-refl, sized-trans, sized-places, count-nodes, graph-node, held-most}
-use Rattle.graph.specs.SearchLaws.{alternatives-all, alternatives-kept}
+use Rattle.graph.specs.SearchLaws.{alternatives-all, alternatives-kept, among-alternatives-same, next-alternative-same}
 use Rattle.graph.specs.RefineLaws.{refines-answer, refines-as, refines-short, refines-changes, changes-both, Course, course-start, course-next, course-short, course-end}
 use Rattle.graph.specs.declared.NextAlternative.{NextAlternative}
 use Rattle.graph.specs.declared.NextAlternative.the-variants as Next
@@ -168,8 +168,10 @@ module _ {ws : List ℕ} {w : Work} {c : Counts} {z y : ℕ} {n′ e′ a′ : B
     told : {u : NextAlternative} → v ≡ u → IsNextAlternative u i (c .alternatives) (alternativesFrom (g A) y) (AmongAlternatives (g A) y)
     told ev =
         let (more, q) = t .alternates .grows .alternatives in
+        let same = alternatives-kept w (work n′ e′ a′) (so-far .grown) more q in
         subst (λ (u : NextAlternative). IsNextAlternative u i (c .alternatives) (alternativesFrom (g A) y) (AmongAlternatives (g A) y)) ev
-        (alternatives-kept w (work n′ e′ a′) (so-far .grown) y i (c .alternatives) more q v (W e′ d (so-far .held) (so-far .grown)) (t .among))
+        (next-alternative-same (g A) (graphOf (work n′ e′ a′) c) y i (c .alternatives) same v
+        (W e′ d (so-far .held) (so-far .grown) (among-alternatives-same (graphOf (work n′ e′ a′) c) (g A) y i (sym same) (t .among))))
 
     pub turn-next : {j : ℕ} {b : Rows.RowSet} → v ≡ Next.At j b → Chosen j (valueOf b)
     turn-next ev = let (l, m, q, o) = told ev in record { from = l; below = m; here = q; among = o }

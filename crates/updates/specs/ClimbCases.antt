@@ -9,7 +9,7 @@ use Prim.Native.Nat.{ℕ, _+_, _-_, _*_, _<_}
 use native.Mathlib.Omega.{arith}
 use Rattle.words.specs.Sizes.{mostRecords}
 use Rattle.records.specs.Areas.{Bytes}
-use Rattle.graph.specs.Graphs.{Work, work, WithEdges, parentsFrom, IsNext}
+use Rattle.graph.specs.Graphs.{Work, work}
 use Rattle.graph.specs.GraphLaws.{held-most}
 use Rattle.graph.specs.declared.Counts.{Counts}
 use Rattle.graph.specs.declared.Next.{Next}
@@ -19,9 +19,9 @@ use Rattle.graph.specs.declared.Step.{Step}
 use Rattle.graph.specs.declared.Step.the-variants.{Done, Full}
 use Rattle.updates.specs.declared.Rejudged.{Rejudged}
 use Rattle.updates.specs.declared.Rejudged.the-variants as Rejudged
-use Rattle.updates.specs.Contracts.{UpdateAsks, unsettled, UpdateGives, ParentsGives, Later, Settles, RejudgedTo, RejudgeGives, noneIn}
+use Rattle.updates.specs.Contracts.{UpdateAsks, unsettled, UpdateGives, ParentsGives, Later, Settles, RejudgedTo, RejudgeGives}
 use Rattle.updates.specs.LaterLaws.{later-refl, later-trans, later-unsettled, update-later}
-use Rattle.updates.specs.ParentCases.{Turn, Chosen, turn-start, turn-end, turn-asks, turn-less, turn-short, turn-updated, turn-jump}
+use Rattle.updates.specs.ParentCases.{Tells, TellsNone, Turn, Chosen, turn-start, turn-end, turn-asks, turn-less, turn-short, turn-updated, turn-jump}
 
 -- ---- the loop's invariant, and its measure
 
@@ -44,7 +44,7 @@ climb-start {w = w} A = record { areas = w; turn = turn-start A; whole = λ r w�
 -- ---- a turn
 
 module _ {ws : List ℕ} {w : Work} {c : Counts} {x : ℕ} {n′ e′ a′ : Bytes} {child : ℕ} {start d : Counts} {i : ℕ} (I : Climb ws w c x (work n′ e′ a′) child start d i) where
-  pub climb-end : {v : Next} → WithEdges e′ start (λ u. IsNext v i (start .edges) (parentsFrom u child)) → v ≡ Next.End → ParentsGives ws w c x (Done d) (work n′ e′ a′)
+  pub climb-end : {v : Next} → Tells n′ e′ start child i v → v ≡ Next.End → ParentsGives ws w c x (Done d) (work n′ e′ a′)
   climb-end W ev = I .whole (Done d) (work n′ e′ a′) (turn-end (I .turn) W ev)
 
   module _ {j y : ℕ} (p : Chosen (I .turn) j y) where
@@ -85,7 +85,7 @@ module _ {ws : List ℕ} {w : Work} {c : Counts} {x : ℕ} {n′ e′ a′ : Byt
 
     module _ {n₁ e₁ a₁ : Bytes} {d₁ : Counts} (S : Changed (work n₁ e₁ a₁) d₁) where
       -- it was the last: its own parents are left
-      pub climb-last : {b : Bool} → WithEdges e₁ start (λ u. b ≡ noneIn (parentsFrom u child (j + 1))) → b ≡ true → Climb ws w c x (work n₁ e₁ a₁) y d₁ d₁ 0
+      pub climb-last : {b : Bool} → TellsNone n₁ e₁ start child (j + 1) b → b ≡ true → Climb ws w c x (work n₁ e₁ a₁) y d₁ d₁ 0
       climb-last B eb = record {
         areas = work n₁ e₁ a₁;
         turn = turn-start (S .asks);

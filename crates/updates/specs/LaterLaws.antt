@@ -2,17 +2,18 @@
 -- Assumes nothing.
 use mathlib.Core.Path.{_≡_, sym, ap, subst}
 use mathlib.Core.List.{List}
-use Prim.Native.Nat.{ℕ, _+_, _≤_}
+use Prim.Native.Nat.{ℕ, _+_, _≤_, _<_}
 use native.Mathlib.Omega.{arith}
 use Rattle.procedure.specs.Graph.{Capacity, Result}
 use Rattle.procedure.specs.GraphLaws.{Sure}
 use Rattle.procedure.proofs.Grows.{grows-refl, grows-trans}
 use Rattle.procedure.proofs.Measure.{settled, settled-grows}
 use Rattle.procedure.proofs.Fit.{Fit, UpdateDone, update-done}
+use Rattle.words.specs.Sizes.{edgeSize}
 use Rattle.problem.specs.Decoded.{problemOf}
-use Rattle.graph.specs.Graphs.{Work, graphOf, capacityOf, Held, Refines, parentsFrom}
-use Rattle.graph.specs.GraphLaws.{grown-refl, grown-trans, sized-refl, sized-trans, sized-places, held-fewer}
-use Rattle.graph.specs.SearchLaws.{parents-kept}
+use Rattle.graph.specs.Graphs.{Work, graphOf, capacityOf, Held, Refines, Walks}
+use Rattle.graph.specs.GraphLaws.{grown-refl, grown-trans, sized-refl, sized-trans, sized-places}
+use Rattle.graph.specs.SearchLaws.{edges-kept}
 use Rattle.graph.specs.declared.Counts.{Counts}
 use Rattle.graph.specs.declared.Step.the-variants.{Done}
 use Rattle.updates.specs.Contracts.{UpdateAsks, Enough, unsettled, updates, UpdateGives, Later}
@@ -31,12 +32,13 @@ module _ {w : Work} {c : Counts} {w′ : Work} {d : Counts} (l : Later w c w′ 
   pub later-places : capacityOf w′ ≡ capacityOf w
   later-places = sized-places (l .sized)
 
-  pub later-held : Held w′ c
-  later-held = held-fewer (l .held) (l .grown)
-
   -- the edges that were there stand where they stood
-  pub later-parents : (x i : ℕ) → parentsFrom (graphOf w′ c) x i ≡ parentsFrom (graphOf w c) x i
-  later-parents x i = let (more, q) = l .grows .edges in parents-kept w w′ (l .grown) more q x i
+  pub later-edges : graphOf w′ c .edges ≡ graphOf w c .edges
+  later-edges = let (more, q) = l .grows .edges in edges-kept w w′ (l .grown) more q
+
+  -- a step along the chain of a node that was there
+  pub later-walks : {x i : ℕ} → x < c .nodes → i ≤ c .edges → Walks edgeSize (w′ .nodes) (w′ .edges) (c .nodes) (c .edges) x i
+  later-walks h p = record { node = h; nodes = omega (arith, l .held .nodes, l .grown .nodes); place = p; records = omega (arith, l .held .edges, l .grown .edges) }
 
   -- settled nodes stay settled
   pub later-settled : settled (graphOf w c) ≤ settled (graphOf w′ d)

@@ -1,6 +1,6 @@
 -- The parents of one node, updated one after the other: a turn, on plain values.
 --
--- In order: what is left of the parents (`Turn`); its start; the next parent (`Chosen`), or the end; its update; the last parent, whose own parents are left.
+-- In order: what a step along the chain says; what is left of the parents (`Turn`); its start; the next parent (`Chosen`), or the end; its update; the last parent, whose own parents are left.
 -- Assumes nothing.
 use mathlib.Core.Path.{_≡_, refl, sym, ap, _∙_, subst}
 use mathlib.Core.Bool.{Bool, true, false, true≢false}
@@ -13,10 +13,10 @@ use Rattle.procedure.specs.TableauLaws.{parents-each}
 use Rattle.procedure.proofs.Fit.{Fit}
 use Rattle.words.specs.Sizes.{edgeSize, mostRecords}
 use Rattle.problem.specs.Decoded.{problemOf}
-use Rattle.records.specs.Areas.{Bytes, roomOf}
-use Rattle.graph.specs.Graphs.{Work, work, graphOf, capacityOf, WithEdges, parentsFrom, IsNext}
-use Rattle.graph.specs.GraphLaws.{held-most}
-use Rattle.graph.specs.SearchLaws.{parents-all}
+use Rattle.records.specs.Areas.{Bytes}
+use Rattle.graph.specs.Graphs.{Work, work, graphOf, capacityOf, WithEdges, parentsFrom, AmongParents, Walks, IsNext}
+use Rattle.graph.specs.GraphLaws.{count-nodes, held-most}
+use Rattle.graph.specs.SearchLaws.{parents-all, parents-same, among-parents-same, next-parent-same}
 use Rattle.graph.specs.RefineLaws.{refines-as, Course, course-start, course-next, course-short, course-end}
 use Rattle.graph.specs.declared.Counts.{Counts}
 use Rattle.graph.specs.declared.Next.{Next}
@@ -25,18 +25,28 @@ use Rattle.graph.specs.declared.Area.{Area}
 use Rattle.graph.specs.declared.Step.{Step}
 use Rattle.graph.specs.declared.Step.the-variants.{Done, Full}
 use Rattle.updates.specs.Contracts.{UpdateAsks, Enough, updates, UpdateGives, ParentsGives, Later, Settles, noneIn}
-use Rattle.updates.specs.LaterLaws.{later-refl, later-trans, later-held, later-parents, later-enough, update-later, update-fit}
+use Rattle.updates.specs.LaterLaws.{later-refl, later-trans, later-edges, later-walks, later-enough, update-later, update-fit}
 
 -- ---- whether a parent is left
 
-module _ {e : Bytes} {c : Counts} {v : Next} (x i : ℕ) (W : WithEdges e c (λ u. IsNext v i (c .edges) (parentsFrom u x))) where
-  pub none-next : v ≡ Next.End → WithEdges e c (λ u. true ≡ noneIn (parentsFrom u x i))
-  none-next ev n a h = sym (ap noneIn (subst (λ (v : Next). IsNext v i (c .edges) (parentsFrom (graphOf (work n e a) c) x)) ev (W n a h)))
+-- what a step says of the next parent of x from place i on
+abbrev pub Tells : Bytes → Bytes → Counts → ℕ → ℕ → Next → Type 0
+Tells n e c x i v = WithEdges n e c (λ g. AmongParents g x i → IsNext v i (c .edges) (parentsFrom g x) (AmongParents g x))
 
-  pub some-next : {j y : ℕ} → v ≡ Next.At j y → WithEdges e c (λ u. false ≡ noneIn (parentsFrom u x i))
-  some-next ev n a h =
-      let (l, m, q) = subst (λ (v : Next). IsNext v i (c .edges) (parentsFrom (graphOf (work n e a) c) x)) ev (W n a h) in
-      sym (ap noneIn q)
+-- and of whether there is one
+abbrev pub TellsNone : Bytes → Bytes → Counts → ℕ → ℕ → Bool → Type 0
+TellsNone n e c x i b = WithEdges n e c (λ g. AmongParents g x i → b ≡ noneIn (parentsFrom g x i))
+
+module _ {n e : Bytes} {c : Counts} {v : Next} (x i : ℕ) (W : Tells n e c x i v) where
+  -- the answer, as it is known
+  answer : {u : Next} → v ≡ u → Tells n e c x i u
+  answer ev = subst (λ (u : Next). Tells n e c x i u) ev W
+
+  pub none-next : v ≡ Next.End → TellsNone n e c x i true
+  none-next ev a d h g o = sym (ap noneIn (answer ev a d h g o))
+
+  pub some-next : {j y : ℕ} → v ≡ Next.At j y → TellsNone n e c x i false
+  some-next ev a d h g o = sym (ap noneIn (answer ev a d h g o .2))
 
 none-in : (l : List ℕ) → noneIn l ≡ true → l ≡ []
 none-in [] e = refl
@@ -47,7 +57,8 @@ none-in (y ∷ ys) e = absurd (true≢false (sym e))
 -- the parents of x from record i on are left: w and c were the areas and the counts at the first of them, w′ and d are those now
 pub record Turn (ws : List ℕ) (w : Work) (c : Counts) (x : ℕ) (w′ : Work) (d : Counts) (i : ℕ) : Type 0 where
   pub asks : UpdateAsks ws w c x
-  pub within : i ≤ c .edges
+  pub place : i ≤ c .edges
+  pub among : AmongParents (graphOf w c) x i
   pub later : Later w c w′ d
   pub fit : Fit (problemOf ws) (capacityOf w′) (graphOf w′ d)
   pub inside : (y : ℕ) → List·Memᴰ y (parentsFrom (graphOf w c) x i) → y < nodeCount (graphOf w c)
@@ -58,7 +69,8 @@ turn-start {ws} {w} {c} {x} A =
     let g : Graph = graphOf w c in
     record {
       asks = A;
-      within = omega arith;
+      place = omega arith;
+      among = tt;
       later = later-refl (A .held);
       fit = A .fit;
       inside = λ y m. A .fit .inv .ends y x (parent-child g y x (subst (λ (l : List ℕ). List·Memᴰ y l) (parents-all g x) m)) .0;
@@ -80,22 +92,28 @@ module _ {ws : List ℕ} {w : Work} {c : Counts} {x : ℕ} {n′ e′ a′ : Byt
     pub from : i ≤ j
     pub below : j < c .edges
     pub here : parentsFrom g x i ≡ y ∷ parentsFrom g x (j + 1)
+    pub among : AmongParents g x (j + 1)
 
-  pub turn-room : c .edges ≤ roomOf edgeSize e′
-  turn-room = later-held (t .later) .edges
+  there : x < c .nodes
+  there = omega (arith, t .asks .there, count-nodes w c)
 
-  module _ {v : Next} (W : WithEdges e′ c (λ u. IsNext v i (c .edges) (parentsFrom u x))) where
-    next : {u : Next} → v ≡ u → IsNext u i (c .edges) (parentsFrom (graphOf w′ c) x)
-    next ev = subst (λ (v : Next). IsNext v i (c .edges) (parentsFrom (graphOf w′ c) x)) ev (W n′ a′ (later-held (t .later)))
+  -- what the step to the next parent asks
+  pub turn-walks : Walks edgeSize n′ e′ (c .nodes) (c .edges) x i
+  turn-walks = later-walks (t .later) there (t .place)
+
+  module _ {v : Next} (W : Tells n′ e′ c x i v) where
+    next : {u : Next} → v ≡ u → IsNext u i (c .edges) (parentsFrom g x) (AmongParents g x)
+    next {u} ev =
+        let same = later-edges (t .later) in
+        next-parent-same g (graphOf w′ c) x i (c .edges) same u
+        (answer x i W ev a′ d (t .later .held) (t .later .grown) (among-parents-same (graphOf w′ c) g x i (sym same) (t .among)))
 
     pub turn-next : {j y : ℕ} → v ≡ Next.At j y → Chosen j y
-    turn-next {j} {y} ev =
-        let (l, m, q) = next ev in
-        record { from = l; below = m; here = sym (later-parents (t .later) x i) ∙ q ∙ ap (λ (z : List ℕ). y ∷ z) (later-parents (t .later) x (j + 1)) }
+    turn-next ev = let (l, m, q, o) = next ev in record { from = l; below = m; here = q; among = o }
 
     pub turn-end : v ≡ Next.End → ParentsGives ws w c x (Done d) (work n′ e′ a′)
     turn-end ev f few =
-        let none : parentsFrom g x i ≡ [] = sym (later-parents (t .later) x i) ∙ next ev in
+        let none : parentsFrom g x i ≡ [] = next ev in
         let all : Course (updates ws f) (parents g x) w c [] w′ d = rw none at (t .course f few) in
         refines-as (course-end all) (parents-each (updates ws f (capacityOf w)) x g)
 
@@ -125,7 +143,8 @@ module _ {ws : List ℕ} {w : Work} {c : Counts} {x : ℕ} {n′ e′ a′ : Byt
   pub turn-updated : {d₂ : Counts} {w″ : Work} → UpdateGives ws (work n′ e′ a′) d y (Done d₂) w″ → Turn ws w c x w″ d₂ (j + 1)
   turn-updated G = record {
     asks = t .asks;
-    within = omega (arith, p .below);
+    place = omega (arith, p .below);
+    among = p .among;
     later = later-trans (t .later) (update-later turn-asks G);
     fit = update-fit turn-asks G;
     inside = λ v m. t .inside v (subst (λ (l : List ℕ). List·Memᴰ v l) (sym (p .here)) (List·Memᴰ·tail m));
@@ -145,12 +164,14 @@ module _ {ws : List ℕ} {w : Work} {c : Counts} {x : ℕ} {n′ e′ a′ : Byt
     now-later : Later w c (work n₁ e₁ a₁) d₁
     now-later = later-trans (t .later) (S .later)
 
-    pub last-room : c .edges ≤ roomOf edgeSize e₁
-    last-room = later-held now-later .edges
+    pub last-walks : Walks edgeSize n₁ e₁ (c .nodes) (c .edges) x (j + 1)
+    last-walks = later-walks now-later (there t) (omega (arith, p .below))
 
     -- what is left is to update the parents of y
-    pub turn-jump : {b : Bool} → WithEdges e₁ c (λ u. b ≡ noneIn (parentsFrom u x (j + 1))) → b ≡ true
+    pub turn-jump : {b : Bool} → TellsNone n₁ e₁ c x (j + 1) b → b ≡ true
         → (r : Step) {w″ : Work} → ParentsGives ws (work n₁ e₁ a₁) d₁ y r w″ → ParentsGives ws w c x r w″
     turn-jump B eb r G =
-        let none : parentsFrom (graphOf (work n₁ e₁ a₁) c) x (j + 1) ≡ [] = none-in _ (sym (B n₁ a₁ (later-held now-later)) ∙ eb) in
-        turn-last (sym (later-parents now-later x (j + 1)) ∙ none) r (S .whole G)
+        let same = later-edges now-later in
+        let h = graphOf (work n₁ e₁ a₁) c in
+        let none = none-in (parentsFrom h x (j + 1)) (sym (B a₁ d₁ (now-later .held) (now-later .grown) (among-parents-same h (g t) x (j + 1) (sym same) (p .among))) ∙ eb) in
+        turn-last (sym (parents-same (g t) h x (j + 1) same) ∙ none) r (S .whole G)

@@ -4,10 +4,8 @@
 // A parent's own parents are updated by a call only while other parents are left; those of the last one are updated in the loop. Both come after one node more is settled.
 // So a nested call needs a node with two parents, and only states have more than one.
 ghost use mathlib.Core.Path.{_≡_};
-ghost use Prim.Native.Nat.{_≤_};
 ghost use Rattle.words.specs.Sizes.{edgeSize};
-ghost use Rattle.records.specs.Areas.{roomOf};
-ghost use Rattle.graph.specs.Graphs.{work, WithEdges, parentsFrom};
+ghost use Rattle.graph.specs.Graphs.{work, WithEdges, parentsFrom, AmongParents, Walks};
 ghost use Rattle.updates.specs.Contracts.{UpdateAsks, RejudgeGives, ParentsGives, noneIn};
 use graph::Area;
 use graph::Counts;
@@ -56,12 +54,12 @@ fn rejudge(
     }
 }
 
-// Whether no edge from `from` on ends at x.
-fn no_parent(edges: &[u8], c: Counts, x: u16, from: usize) -> bool
-    requires { ⌜ c .edges ≤ roomOf edgeSize (now edges) ⌝ }
-    ensures { λ r. ⌜ WithEdges (now (edges .entry)) c (λ g. r ≡ noneIn (parentsFrom g x from)) ⌝ }
+// Whether no edge from place `from` on ends at x.
+fn no_parent(nodes: &[u8], edges: &[u8], c: Counts, x: u16, from: usize) -> bool
+    requires { ⌜ Walks edgeSize (now nodes) (now edges) (c .nodes) (c .edges) x from ⌝ }
+    ensures { λ r. ⌜ WithEdges (now (nodes .entry)) (now (edges .entry)) c (λ g. AmongParents g x from → r ≡ noneIn (parentsFrom g x from)) ⌝ }
 {
-    match next_parent(edges, c, x, from) {
+    match next_parent(nodes, edges, c, x, from) {
         Next::At { index: _, node: _ } => false,
         Next::End => true,
     }
@@ -89,7 +87,7 @@ pub fn update_parents(
         let Next::At {
             index,
             node: parent,
-        } = next_parent(edges, start, child, i)
+        } = next_parent(nodes, edges, start, child, i)
         else {
             return Step::Done(cur);
         };
@@ -98,7 +96,7 @@ pub fn update_parents(
             Rejudged::Full(area) => return Step::Full(area),
             Rejudged::Kept(next) => cur = next,
             Rejudged::Changed(next) => {
-                if no_parent(edges, start, child, i) {
+                if no_parent(nodes, edges, start, child, i) {
                     // its own parents are all that is left
                     child = parent;
                     start = next;

@@ -9,7 +9,7 @@ use borrow.Fn.Kinds.{In, Out}
 use borrow.Fn.PlainCycle.{Measures, is, falls, and}
 use Rattle.graph.specs.Graphs.{Work, work}
 use Rattle.updates.specs.Contracts.{unsettled}
-use Rattle.updates.specs.ParentCases.{Chosen, turn-room, turn-next, turn-asks, turn-index, last-room}
+use Rattle.updates.specs.ParentCases.{Chosen, turn-walks, turn-next, turn-asks, turn-index, last-walks}
 use Rattle.updates.specs.ClimbCases.{Climb, climbing, climb-start, climb-end, climb-short, climb-kept, climb-kept-less, Changed, climb-changed}
 use Rattle.updates.specs.ClimbCases.{climb-last, climb-last-less, climb-falls, climb-nested-short, climb-nested, climb-nested-less}
 use Rattle.graph.proofs.next_parent.Reads as next-parent
@@ -53,7 +53,7 @@ abbrev begun : {t : ℕ} → At t lts.At-loop → At t lts.Start
 begun c = c .before .before .before .before .before
 
 abbrev the-loop : {t : ℕ} → At t lts.After-index → At t lts.At-loop
-the-loop c = c .before .before .before .before
+the-loop c = c .before .before .before .before .before
 
 -- a parent was found
 chosen : (t : ℕ) (c : At t lts.After-index) → Chosen (the-loop c .loop .inv .turn) (c .index .given .0 .0) (c .index .given .0 .1 .0)
@@ -80,9 +80,9 @@ changed t c = climb-changed (the-loop (found c) .loop .inv) (chosen t (found c))
 
 pub +update-parents-spec : {M : Type 1} → statement M
 +update-parents-spec = close μ-call λ t. lts.spec (calls t) (at-call t) parents.Post Inv-loop μ-loop
-    -- loop, next_parent(edges, start, child, i)
+    -- loop, next_parent(nodes, edges, start, child, i)
     (λ c. search (climb-start, needs))
-    (λ c κs. let l : At t lts.At-loop = search in turn-room (l .loop .inv .turn))
+    (λ c κs. let l : At t lts.At-loop = search in turn-walks (l .loop .inv .turn))
     (λ c. search needs) (λ c. search needs)
     -- return Done(cur)
     (λ c. search needs) (λ c. search needs) (λ c. search needs)
@@ -102,9 +102,9 @@ pub +update-parents-spec : {M : Type 1} → statement M
     climb-kept-less (l .loop .inv) (chosen t (search)) {w₁ = rejudged r} (r .rejudge .ensures) (search))
     (λ c. let l : At t lts.At-loop = search in let r : At t lts.After-rejudge = search in
     climb-kept (l .loop .inv) (chosen t (search)) {w₁ = rejudged r} (r .rejudge .ensures) (search))
-    -- no_parent(edges, start, child, i)
+    -- no_parent(nodes, edges, start, child, i)
     (λ c. search needs)
-    (λ c κs. last-room (chosen t (search)) (changed t (search)))
+    (λ c κs. last-walks (chosen t (search)) (changed t (search)))
     -- child = parent, start = next, cur = next, i = 0, and the loop again
     (λ c. let n : At t lts.After-next2 = search in climb-last-less (the-loop (found n) .loop .inv) (chosen t (found n)) (changed t n))
     (λ c. let n : At t lts.After-next2 = search in

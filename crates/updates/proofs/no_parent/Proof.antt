@@ -7,7 +7,7 @@ use Rattle.updates.proofs.no_parent.Tie as tie
 
 pub no-parent-spec : {M : Type 1} → statement M
 no-parent-spec = tie.close (tie.spec
-    -- next_parent(edges, c, x, from)
+    -- next_parent(nodes, edges, c, x, from)
     (λ c κs. search needs)
     (λ c. search needs) (λ c. search needs)
     -- false; true
