@@ -7,6 +7,7 @@ use Prim.Native.Nat.{ℕ, suc}
 use Rattle.procedure.specs.Tableau.{loopWithin, run}
 use Rattle.procedure.proofs.ExpandFit.{Still}
 use Rattle.problem.specs.Decoded.{problemOf, Decoded}
+use Rattle.graph.specs.Chains.{noRecords}
 use Rattle.graph.specs.Graphs.{Work, graphOf, capacityOf, Held, Operation, Refines}
 use Rattle.graph.specs.declared.Counts.{Counts}
 use Rattle.graph.specs.declared.Step.{Step}
@@ -22,10 +23,6 @@ allRounds ws k g = loopWithin (problemOf ws) k (suc (k .nodeRoom)) g
 
 abbrev pub RoundsGives : List ℕ → Work → Counts → Step → Work → Type 0
 RoundsGives ws w c r w′ = Refines w c r w′ (allRounds ws)
-
--- no record yet
-abbrev pub noRecords : Counts
-noRecords = record { nodes = 0; edges = 0; alternatives = 0 }
 
 abbrev pub RunGives : List ℕ → Work → Step → Work → Type 0
 RunGives ws w r w′ = Refines w noRecords r w′ (λ k g. run (problemOf ws) k)

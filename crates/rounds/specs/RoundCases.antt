@@ -9,6 +9,7 @@ use mathlib.Core.List.{List}
 use mathlib.Core.Option.{some}
 use Prim.Native.Nat.{ℕ, zero, suc, _+_, _-_, _≤_, _<_}
 use native.Mathlib.Omega.{arith}
+use Rattle.concepts.specs.Lists.{NoneBelow}
 use Rattle.procedure.specs.Status.{unset, isUnset, isLive}
 use Rattle.procedure.specs.StatusLaws.{is-unset}
 use Rattle.procedure.specs.Problem.{Problem}
@@ -17,13 +18,13 @@ use Rattle.procedure.specs.GraphLaws.{lowestUnset-some}
 use Rattle.procedure.specs.Tableau.{expand, loopWithin}
 use Rattle.procedure.specs.TableauLaws.{bind-reached, bind-noPlace, loop-settled, loop-done, loop-round}
 use Rattle.procedure.proofs.Measure.{count-le, withAStatus}
-use Rattle.procedure.proofs.ExpandFit.{Still, still-after}
+use Rattle.procedure.proofs.ExpandFit.{Still, still-after, status-stays}
 use Rattle.words.specs.Sizes.{nodeSize}
 use Rattle.problem.specs.Decoded.{problemOf}
 use Rattle.records.specs.Areas.{Bytes, roomOf, Fits}
 use Rattle.records.specs.Codes.{statusOf}
-use Rattle.records.specs.Records.{nodeOf, nodeIn}
-use Rattle.graph.specs.Graphs.{Work, work, graphOf, capacityOf, Held, Grown, Sized, areaOf, resultOf, WithNodes, foundOf}
+use Rattle.records.specs.Records.{nodeOf, nodeIn, isUnsetAt}
+use Rattle.graph.specs.Graphs.{Work, work, graphOf, capacityOf, Held, Grown, Sized, areaOf, resultOf, WithNodes, foundOf, PassedOver}
 use Rattle.graph.specs.GraphLaws.{grown-refl, grown-trans, sized-refl, sized-trans, sized-places, count-nodes, graph-node, held-node}
 use Rattle.graph.specs.RefineLaws.{refines-answer}
 use Rattle.graph.specs.declared.Counts.{Counts}
@@ -49,29 +50,33 @@ root-live d hd hb hv = record { status = ap (λ (u : Node). isLive (u .status)) 
 
 -- ---- the loop's invariant
 
--- the rounds from here on give the whole
-pub record Turn (ws : List ℕ) (w : Work) (c : Counts) (w′ : Work) (d : Counts) : Type 0 where
+-- the rounds from here on give the whole, and every node below `from` has a status
+pub record Turn (ws : List ℕ) (w : Work) (c : Counts) (w′ : Work) (d : Counts) (from : ℕ) : Type 0 where
   pub asks : RoundsAsks ws w c
   pub held : Held w′ d
   pub grown : Grown c d
   pub sized : Sized w w′
+  pub place : from ≤ d .nodes
+  pub passed : NoneBelow (isUnsetAt (w′ .nodes)) from
   pub still : Still (problemOf ws) (capacityOf w) (graphOf w′ d)
   pub rest : (f : ℕ) × (roomOf nodeSize (w .nodes) < withAStatus (graphOf w′ d) + f)
       × (loopWithin (problemOf ws) (capacityOf w) f (graphOf w′ d) ≡ allRounds ws (capacityOf w) (graphOf w c))
 
-pub turn-start : {ws : List ℕ} {w : Work} {c : Counts} → RoundsAsks ws w c → Turn ws w c w c
+pub turn-start : {ws : List ℕ} {w : Work} {c : Counts} → RoundsAsks ws w c → Turn ws w c w c 0
 turn-start {w = w} A = record {
   asks = A;
   held = A .held;
   grown = grown-refl;
   sized = sized-refl;
+  place = omega arith;
+  passed = λ k l. absurd (omega arith);
   still = A .still;
   rest = (suc (roomOf nodeSize (w .nodes)), omega arith, refl);
 }
 
 -- ---- a turn
 
-module _ {ws : List ℕ} {w : Work} {c : Counts} {n′ e′ a′ : Bytes} {d : Counts} (T : Turn ws w c (work n′ e′ a′) d) where
+module _ {ws : List ℕ} {w : Work} {c : Counts} {n′ e′ a′ : Bytes} {d : Counts} {from : ℕ} (T : Turn ws w c (work n′ e′ a′) d from) where
   abbrev P : Problem
   P = problemOf ws
 
@@ -92,6 +97,7 @@ module _ {ws : List ℕ} {w : Work} {c : Counts} {n′ e′ a′ : Bytes} {d : C
   pub record Fresh (x : ℕ) : Type 0 where
     pub live : isLive (nodeAt h 0 .status) ≡ true
     pub found : lowestUnset h ≡ some x
+    pub passed : NoneBelow (isUnsetAt n′) x
 
   root : 0 < d .nodes
   root = omega (arith, T .still .inv .root .0, count-nodes (work n′ e′ a′) d)
@@ -99,8 +105,9 @@ module _ {ws : List ℕ} {w : Work} {c : Counts} {n′ e′ a′ : Bytes} {d : C
   pub turn-fits : Fits nodeSize n′ 0
   turn-fits = held-node (T .held) root
 
-  pub turn-room : d .nodes ≤ roomOf nodeSize n′
-  turn-room = T .held .nodes
+  -- what the search for the next node asks
+  pub turn-seeks : (d .nodes ≤ roomOf nodeSize n′) × (from ≤ d .nodes) × NoneBelow (isUnsetAt n′) from
+  turn-seeks = (T .held .nodes, T .place, T .passed)
 
   -- fuel is left
   fueled : (f : ℕ) × (cap .nodeRoom < withAStatus h + suc f) × (loop (suc f) h ≡ allRounds ws cap g)
@@ -119,16 +126,16 @@ module _ {ws : List ℕ} {w : Work} {c : Counts} {n′ e′ a′ : Bytes} {d : C
   pub turn-settled : RootLive n′ false → RoundsGives ws w c (Done d) (work n′ e′ a′)
   turn-settled L = ended (loop-settled P cap (fueled .0) h (live L))
 
-  module _ (L : RootLive n′ true) {v : FoundNode} (W : WithNodes n′ d (λ u. foundOf v ≡ lowestUnset u)) where
+  module _ (L : RootLive n′ true) {v : FoundNode} (W : WithNodes n′ d (λ u. foundOf v ≡ lowestUnset u) × PassedOver v (isUnsetAt n′)) where
     pub turn-done : v ≡ Found.Nothing → RoundsGives ws w c (Done d) (work n′ e′ a′)
-    turn-done ev = ended (loop-done P cap (fueled .0) h (live L) (sym (W e′ a′ (T .held)) ∙ ap foundOf ev))
+    turn-done ev = ended (loop-done P cap (fueled .0) h (live L) (sym (W .0 e′ a′ (T .held)) ∙ ap foundOf ev))
 
     pub turn-fresh : {x : ℕ} → v ≡ Found.At x → Fresh x
-    turn-fresh ev = record { live = live L; found = sym (W e′ a′ (T .held)) ∙ ap foundOf ev }
+    turn-fresh ev = record { live = live L; found = sym (W .0 e′ a′ (T .held)) ∙ ap foundOf ev; passed = subst (λ (v : FoundNode). PassedOver v (isUnsetAt n′)) ev (W .1) }
 
 -- ---- an expansion
 
-module _ {ws : List ℕ} {w : Work} {c : Counts} {n′ e′ a′ : Bytes} {d : Counts} {T : Turn ws w c (work n′ e′ a′) d} {x : ℕ} (F : Fresh T x) where
+module _ {ws : List ℕ} {w : Work} {c : Counts} {n′ e′ a′ : Bytes} {d : Counts} {from : ℕ} {T : Turn ws w c (work n′ e′ a′) d from} {x : ℕ} (F : Fresh T x) where
   there : x < nodeCount (h T)
   there = lowestUnset-some (h T) x (F .found) .0
 
@@ -170,12 +177,22 @@ module _ {ws : List ℕ} {w : Work} {c : Counts} {n′ e′ a′ : Bytes} {d : C
       pub turn-less : roomOf nodeSize (w .nodes) - withAStatus (graphOf w″ d₂) < roomOf nodeSize (w .nodes) - withAStatus (graphOf (work n′ e′ a′) d)
       turn-less = omega (arith, after .1, statuses-fit (P T) (cap T) (graphOf w″ d₂) (after .0))
 
-      pub turn-expanded : Turn ws w c w″ d₂
+      -- nodes never lose a status, so those below x have one still
+      set-after : (k : ℕ) → k < d .nodes → isUnsetAt n′ k ≡ false → isUnsetAt (w″ .nodes) k ≡ false
+      unfolding isUnsetAt
+      set-after k l u =
+          let was : isUnset (nodeAt (h T) k .status) ≡ false = ap (λ (v : Node). isUnset (v .status)) (graph-node (work n′ e′ a′) d k l) ∙ u in
+          ap (λ (v : Node). isUnset (v .status)) (sym (graph-node w″ d₂ k (omega (arith, l, refines-answer G er .held .1 .nodes))))
+          ∙ status-stays (P T) (cap T) (h T) x (T .still) there fresh (graphOf w″ d₂) (sym (expanded er)) k (omega (arith, l, count-nodes (work n′ e′ a′) d)) was
+
+      pub turn-expanded : Turn ws w c w″ d₂ x
       turn-expanded = let R = refines-answer G er in record {
         asks = T .asks;
         held = R .held .0;
         grown = grown-trans (T .grown) (R .held .1);
         sized = sized-trans (T .sized) (R .sized);
+        place = omega (arith, there, count-nodes (work n′ e′ a′) d, R .held .1 .nodes);
+        passed = λ k l. set-after k (omega (arith, l, there, count-nodes (work n′ e′ a′) d)) (F .passed k l);
         still = after .0;
         rest = (fueled T .0, omega (arith, fueled T .1, after .1), sym (bind-reached (graphOf w″ d₂) (loop T (fueled T .0))) ∙ round er);
       }

@@ -16,14 +16,16 @@ use Rattle.procedure.proofs.ExpandFit.{Still}
 use Rattle.problem.specs.Decoded.{problemOf, Decoded}
 use Rattle.problem.specs.DecodedLaws.{decoded-posed}
 use Rattle.records.specs.Areas.{Bytes}
+use Rattle.graph.specs.Chains.{noRecords}
 use Rattle.graph.specs.Graphs.{Work, work, graphOf, capacityOf, Refines, AddsNode}
-use Rattle.graph.specs.GraphLaws.{sized-refl, sized-places, count-nodes, added-node}
+use Rattle.graph.specs.GraphLaws.{sized-refl, sized-places, held-none, count-nodes}
+use Rattle.graph.specs.AddLaws.{added-node}
 use Rattle.graph.specs.RefineLaws.{refines-answer, refines-as, refines-held, refines-then, refines-short}
 use Rattle.graph.specs.declared.Counts.{Counts}
 use Rattle.graph.specs.declared.Area.{Area}
 use Rattle.graph.specs.declared.Step.{Step}
 use Rattle.graph.specs.declared.Step.the-variants.{Done, Full}
-use Rattle.rounds.specs.Contracts.{RoundsAsks, allRounds, RoundsGives, noRecords, RunGives}
+use Rattle.rounds.specs.Contracts.{RoundsAsks, allRounds, RoundsGives, RunGives}
 
 abbrev none : Graph
 none = record { nodes = []; edges = []; alternatives = [] }
@@ -41,8 +43,7 @@ run-is ws w = ap (λ (g : Graph). addNode (capacityOf w) (state empty) g >>= all
 module _ {ws : List ℕ} (D : Decoded ws) (e a : Bytes) {n n₁ : Bytes} {r : Step} {s : RowSet} (none-in : s ≡ empty) (R : AddsNode n n₁ noRecords r (λ k g. addNode k (state s) g)) where
   rooted : {z : Step} → r ≡ z → Refines (work n e a) noRecords z (work n₁ e a) (λ k g. addNode k (state empty) g)
   rooted er =
-      refines-answer (subst (λ (u : RowSet). AddsNode n n₁ noRecords r (λ k g. addNode k (state u) g)) none-in R e a
-      (record { nodes = omega arith; edges = omega arith; alternatives = omega arith })) er
+      refines-answer (subst (λ (u : RowSet). AddsNode n n₁ noRecords r (λ k g. addNode k (state u) g)) none-in R e a (held-none (work n e a))) er
 
   pub root-short : {p : Area} → r ≡ Full p → RunGives ws (work n e a) (Full p) (work n₁ e a)
   root-short er = refines-as (refines-short (rooted er) (λ u. allRounds ws) sized-refl) (run-is ws (work n e a))

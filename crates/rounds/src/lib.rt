@@ -17,7 +17,7 @@ use records::is_live;
 use records::load_node;
 use rowset::empty;
 
-// Expands the lowest node without status, "until the root is yes, never or small or no node lacks a status".
+// Expands the lowest node without status, which is looked for from the one before on, "until the root is yes, never or small or no node lacks a status".
 fn rounds(
     problem: &[u64],
     nodes: &mut [u8],
@@ -30,15 +30,18 @@ fn rounds(
         (work (now (nodes .entry)) (now (edges .entry)) (now (alternatives .entry))) c r (work (now (nodes .exit)) (now (edges .exit)) (now (alternatives .exit))) ⌝ }
 {
     let mut cur = c;
+    // every node below has a status
+    let mut from: usize = 0;
     loop {
         let root = load_node(nodes, 0);
         let status = root.status;
         if !is_live(status) {
             return Step::Done(cur);
         }
-        let FoundNode::At(x) = lowest_unset(nodes, cur) else {
+        let FoundNode::At(x) = lowest_unset(nodes, cur, from) else {
             return Step::Done(cur);
         };
+        from = x as usize;
         match expand(problem, nodes, edges, alternatives, cur, x) {
             Step::Full(area) => return Step::Full(area),
             Step::Done(next) => cur = next,

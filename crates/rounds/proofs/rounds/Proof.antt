@@ -9,17 +9,17 @@ use Rattle.procedure.proofs.Measure.{withAStatus}
 use Rattle.words.specs.Sizes.{nodeSize}
 use Rattle.records.specs.Areas.{roomOf}
 use Rattle.graph.specs.Graphs.{work, graphOf}
-use Rattle.rounds.specs.RoundCases.{root-live, Turn, Fresh, turn-start, turn-fits, turn-settled, turn-done}
+use Rattle.rounds.specs.RoundCases.{root-live, Turn, Fresh, turn-start, turn-fits, turn-seeks, turn-settled, turn-done}
 use Rattle.rounds.specs.RoundCases.{turn-fresh, turn-asks, turn-short, turn-less, turn-expanded}
 use Rattle.rounds.proofs.rounds.Statement.{statement}
 use Rattle.rounds.proofs.rounds.Tie as tie
 
 abbrev Inv-loop : tie.InvT-loop
-Inv-loop problem nodes₀ edges₀ alternatives₀ c nodes edges alternatives cur =
-    Turn problem (work nodes₀ edges₀ alternatives₀) c (work nodes edges alternatives) cur
+Inv-loop problem nodes₀ edges₀ alternatives₀ c from₀ nodes edges alternatives cur from =
+    Turn problem (work nodes₀ edges₀ alternatives₀) c (work nodes edges alternatives) cur from
 
 abbrev μ-loop : tie.MeasureT-loop
-μ-loop problem nodes₀ edges₀ alternatives₀ c nodes edges alternatives cur =
+μ-loop problem nodes₀ edges₀ alternatives₀ c from₀ nodes edges alternatives cur from =
     roomOf nodeSize nodes₀ - withAStatus (graphOf (work nodes edges alternatives) cur)
 
 abbrev the-loop : tie.After-x Inv-loop μ-loop → tie.At-loop Inv-loop μ-loop
@@ -39,14 +39,15 @@ rounds-spec = tie.close (tie.spec Inv-loop μ-loop
     -- return Done(cur): by the root's status
     (λ c. search needs) (λ c. search needs) (λ c. search needs)
     (λ c. search (turn-settled, root-live, not-true, needs))
-    -- lowest_unset(nodes, cur)
-    (λ c κs. search needs)
+    -- lowest_unset(nodes, cur, from)
+    (λ c κs. search (turn-seeks, needs))
     (λ c. search needs) (λ c. search needs)
     -- return Done(cur): no node lacks a status
     (λ c. search needs) (λ c. search needs) (λ c. search needs)
     (λ c. let l : tie.At-loop Inv-loop μ-loop = search in
     turn-done (l .loop .inv) (search (root-live, not-false, needs)) (c .before .before .lowest-unset .ensures) (c .enum-told .given .1))
-    -- expand(.., cur, x)
+    -- from = x, expand(.., cur, x)
+    (λ c. search needs)
     (λ c κs. turn-asks (fresh (search)))
     (λ c. search needs)
     -- return Full(area)
