@@ -2,32 +2,29 @@
 -- Assumes nothing.
 use mathlib.Core.Path.{_≡_}
 use Prim.Native.Nat.{ℕ, _<_}
-use lib.ListN.{length}
 use Rattle.procedure.specs.Example.{RoleLink}
 use Rattle.records.specs.Areas.{Bytes, Stored}
-use Rattle.records.specs.Records.{nodeIn, edgeIn}
-use Rattle.marks.specs.Marks.{numberIn, stateIn, roleLinkIn}
+use Rattle.marks.specs.Marks.{NodesMarked, EdgesMarked, numberIn, stateIn, roleLinkIn}
 
 -- nodes n became n′: state y has the number v
 pub record NumberStored (n n′ : Bytes) (y v : ℕ) : Type 0 where
   pub stored : Stored numberIn n n′ y v
   pub states : (d : ℕ) → stateIn n′ d ≡ stateIn n d
-  pub nodes : (z : ℕ) → nodeIn n′ z ≡ nodeIn n z
+  pub beside : NodesMarked n n′
 
 -- nodes n became n′: element d stands for state v
 pub record StateStored (n n′ : Bytes) (d v : ℕ) : Type 0 where
   pub stored : Stored stateIn n n′ d v
   pub numbers : (y : ℕ) → numberIn n′ y ≡ numberIn n y
-  pub nodes : (z : ℕ) → nodeIn n′ z ≡ nodeIn n z
+  pub beside : NodesMarked n n′
 
 -- edges e became e′: link k is l
 pub record LinkStored (e e′ : Bytes) (k : ℕ) (l : RoleLink) : Type 0 where
   pub stored : Stored roleLinkIn e e′ k l
-  pub edges : (i : ℕ) → edgeIn e′ i ≡ edgeIn e i
+  pub beside : EdgesMarked e e′
 
 -- nodes n became n′: the first `count` nodes have no number
 pub record NumbersCleared (n n′ : Bytes) (count : ℕ) : Type 0 where
-  pub size : length n′ ≡ length n
   pub none-has : (y : ℕ) → y < count → numberIn n′ y ≡ 0
   pub states : (d : ℕ) → stateIn n′ d ≡ stateIn n d
-  pub nodes : (z : ℕ) → nodeIn n′ z ≡ nodeIn n z
+  pub beside : NodesMarked n n′

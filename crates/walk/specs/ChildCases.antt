@@ -21,7 +21,7 @@ use Rattle.records.specs.Areas.{Bytes, roomOf, Fits}
 use Rattle.records.specs.Codes.{statusOf, linkOf}
 use Rattle.records.specs.Records.{nodeOf, nodeIn}
 use Rattle.records.specs.declared.Node as D
-use Rattle.graph.specs.Graphs.{Work, graphOf, childrenFrom, WithEdges, IsNext, foundOf}
+use Rattle.graph.specs.Graphs.{Work, graphOf, childrenFrom, AmongChildren, Walks, foundOf}
 use Rattle.graph.specs.GraphLaws.{count-nodes, graph-node, held-node, held-most}
 use Rattle.graph.specs.SearchLaws.{children-all}
 use Rattle.graph.specs.declared.Counts.{Counts}
@@ -29,8 +29,8 @@ use Rattle.graph.specs.declared.Next.{Next}
 use Rattle.graph.specs.declared.Next.the-variants as Next
 use Rattle.graph.specs.declared.FoundNode.{FoundNode}
 use Rattle.graph.specs.declared.FoundNode.the-variants as Found
-use Rattle.walk.specs.Contracts.{nodesEdges, Holds, StatusAt, asked, stateOf, DescendAsks, DescendGives}
-use Rattle.walk.specs.KeptLaws.{NextChild, next-at, next-end}
+use Rattle.walk.specs.Contracts.{nodesEdges, StatusAt, asked, stateOf, ChildAsks, DescendAsks, DescendGives}
+use Rattle.walk.specs.KeptLaws.{Answer, NextChild, next-walks, next-at, next-end}
 
 -- ---- the status of a node
 
@@ -57,37 +57,44 @@ module _ (f : Status → Bool) (g : Graph) where
   unfolding first
   first-over y ys t = rw (t, first)
 
--- from edge i on, the search finds what it finds from the start
+-- from edge i on, a place of the chain of children, the search finds what it finds from the start
 pub record Looking (w : Work) (c : Counts) (x : ℕ) (sat : Bool) (i : ℕ) : Type 0 where
-  pub holds : Holds w c
+  pub asks : ChildAsks w c x
+  pub place : i ≤ c .edges
+  pub among : AmongChildren (graphOf w c) x i
   pub finds : first (ask (asked sat) (graphOf w c)) (childrenFrom (graphOf w c) x i) ≡ firstChild (asked sat) (graphOf w c) x
 
-pub looking-start : {w : Work} {c : Counts} {x : ℕ} {sat : Bool} → Holds w c → Looking w c x sat 0
+pub looking-start : {w : Work} {c : Counts} {x : ℕ} {sat : Bool} → ChildAsks w c x → Looking w c x sat 0
 unfolding firstChild
-looking-start {w} {c} {x} {sat} H = record { holds = H; finds = ap (first (ask (asked sat) (graphOf w c))) (children-all (graphOf w c) x) }
+looking-start {w} {c} {x} {sat} A = record {
+  asks = A;
+  place = omega arith;
+  among = tt;
+  finds = ap (first (ask (asked sat) (graphOf w c))) (children-all (graphOf w c) x);
+}
 
 module _ {w : Work} {c : Counts} {x : ℕ} {sat : Bool} {i : ℕ} (L : Looking w c x sat i) where
-  pub looking-room : c .edges ≤ roomOf edgeSize (w .edges)
-  looking-room = L .holds .held .edges
+  pub looking-walks : Walks edgeSize (w .nodes) (w .edges) (c .nodes) (c .edges) x i
+  looking-walks = next-walks (L .asks .holds) x i (L .asks .inside) (L .place)
 
   pub looking-nodes : c .nodes ≤ roomOf nodeSize (w .nodes)
-  looking-nodes = L .holds .held .nodes
+  looking-nodes = L .asks .holds .held .nodes
 
   -- the next child
   pub record Follows (k y : ℕ) : Type 0 where
     pub next : NextChild w c x i k y
 
-  module _ {r : Next} (all : WithEdges (w .edges) c (λ g. IsNext r i (c .edges) (childrenFrom g x))) where
+  module _ {r : Next} (all : Answer w c x i r) where
     pub looking-next : {k y : ℕ} → r ≡ Next.At k y → Follows k y
-    looking-next q = record { next = next-at (L .holds) x i all q }
+    looking-next q = record { next = next-at (L .asks .holds) x i (L .among) all q }
 
     pub looking-end : r ≡ Next.End → none ≡ firstChild (asked sat) (graphOf w c) x
     unfolding first
-    looking-end q = ap (first (ask (asked sat) (graphOf w c))) (sym (next-end (L .holds) x i all q)) ∙ L .finds
+    looking-end q = ap (first (ask (asked sat) (graphOf w c))) (sym (next-end (L .asks .holds) x i (L .among) all q)) ∙ L .finds
 
 module _ {w : Work} {c : Counts} {x : ℕ} {sat : Bool} {i : ℕ} {L : Looking w c x sat i} {k y : ℕ} (F : Follows L k y) where
   pub looking-index : k + 1 ≤ mostRecords
-  looking-index = omega (arith, F .next .below, held-most (L .holds .held) .1)
+  looking-index = omega (arith, F .next .below, held-most (L .asks .holds .held) .1)
 
   pub looking-less : c .edges - (k + 1) < c .edges - i
   looking-less = omega (arith, F .next .from, F .next .below)
@@ -109,7 +116,12 @@ module _ {n e : Bytes} {c : Counts} {x : ℕ} {sat : Bool} {i : ℕ} {L : Lookin
   looking-found t = by-child (first-here (asked sat) g y (childrenFrom g x (k + 1)) (status-asked ∙ t))
 
   pub looking-over : b ≡ false → Looking (nodesEdges n e) c x sat (k + 1)
-  looking-over t = record { holds = L .holds; finds = by-child (first-over (asked sat) g y (childrenFrom g x (k + 1)) (status-asked ∙ t)) }
+  looking-over t = record {
+    asks = L .asks;
+    place = omega (arith, F .next .below);
+    among = F .next .among;
+    finds = by-child (first-over (asked sat) g y (childrenFrom g x (k + 1)) (status-asked ∙ t));
+  }
 
 -- ---- the child that the walk goes to
 
@@ -153,6 +165,9 @@ module _ {w : Work} {c : Counts} {start x : ℕ} (G : Going w c start x) where
 
   pub going-fits : Fits nodeSize (w .nodes) x
   going-fits = held-node (G .asks .holds .held) there
+
+  pub going-asks : ChildAsks w c x
+  going-asks = record { holds = G .asks .holds; inside = there }
 
   -- what the link of the node names
   pub record Links (f : FoundNode) : Type 0 where

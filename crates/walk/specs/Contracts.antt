@@ -17,10 +17,9 @@ use Rattle.procedure.proofs.Way.{Way}
 use Rattle.words.specs.Sizes.{nodeSize}
 use Rattle.problem.specs.Decoded.{tableOf, problemOf, Decoded}
 use Rattle.records.specs.Areas.{Bytes, roomOf, recordsIn}
-use Rattle.records.specs.Records.{nodeIn, edgeIn, alternativeIn}
-use Rattle.graph.specs.Graphs.{Work, work, graphOf, Held, Sized}
+use Rattle.graph.specs.Graphs.{Work, work, graphOf, Held}
 use Rattle.graph.specs.declared.Counts.{Counts}
-use Rattle.marks.specs.Marks.{numberIn, stateIn, roleLinkIn, exampleHeld}
+use Rattle.marks.specs.Marks.{NodesMarked, EdgesMarked, numberIn, stateIn, roleLinkIn, exampleHeld}
 use Rattle.marks.specs.declared.Sizes.{Sizes}
 
 -- ---- the areas that the walk looks at
@@ -38,12 +37,11 @@ pub record Holds (w : Work) (c : Counts) : Type 0 where
   pub alternatives : Bytes
   pub held : Held (beside w alternatives) c
 
--- no record of the graph has changed
+-- nothing but marks has changed
 pub record Kept (w w′ : Work) : Type 0 where
-  pub sized : Sized w w′
-  pub nodes : (x : ℕ) → nodeIn (w′ .nodes) x ≡ nodeIn (w .nodes) x
-  pub edges : (i : ℕ) → edgeIn (w′ .edges) i ≡ edgeIn (w .edges) i
-  pub alternatives : (i : ℕ) → alternativeIn (w′ .alternatives) i ≡ alternativeIn (w .alternatives) i
+  pub nodes : NodesMarked (w .nodes) (w′ .nodes)
+  pub edges : EdgesMarked (w .edges) (w′ .edges)
+  pub alternatives : w′ .alternatives ≡ w .alternatives
 
 -- ---- the way down
 
@@ -59,6 +57,11 @@ abbrev pub stateOf : Link → Option ℕ
 stateOf (toState y) = some y
 stateOf unlinked = none
 stateOf lapsed = none
+
+-- a search among the children of x, which is a node
+pub record ChildAsks (w : Work) (c : Counts) (x : ℕ) : Type 0 where
+  pub holds : Holds w c
+  pub inside : x < c .nodes
 
 pub record DescendAsks (w : Work) (c : Counts) (x : ℕ) : Type 0 where
   pub holds : Holds w c

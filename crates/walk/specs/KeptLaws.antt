@@ -1,13 +1,12 @@
--- Areas whose records are kept hold the same graph; what is known of the graph without its alternatives.
+-- Areas that differ by marks alone hold the same graph; what is known of the graph without its alternatives.
 --
--- In order: `Kept`; the graph; the next child (`NextChild`); a finished graph, and the example, without alternatives.
+-- In order: `Kept`; the graph; a step along the children of a node (`NextChild`); a finished graph, and the example, without alternatives.
 -- Assumes nothing.
-use mathlib.Core.Path.{_≡_, refl, ap, ap₂, _∙_, subst}
+use mathlib.Core.Path.{_≡_, refl, _∙_, subst}
 use mathlib.Core.Bool.{Bool}
-use mathlib.Core.List.{List, [], _∷_}
+use mathlib.Core.List.{[], _∷_}
 use Prim.Native.Nat.{ℕ, _+_, _≤_, _<_}
-use Rattle.concepts.specs.Lists.{range}
-use Rattle.concepts.specs.ListLaws.{map-same}
+use native.Mathlib.Omega.{arith}
 use Rattle.concepts.specs.Concept.{Table}
 use Rattle.procedure.specs.Problem.{Problem}
 use Rattle.procedure.specs.Status.{Status}
@@ -15,73 +14,84 @@ use Rattle.procedure.specs.Graph as G
 use Rattle.procedure.specs.Example.{example}
 use Rattle.procedure.specs.WalkLaws.{example-same}
 use Rattle.procedure.proofs.Finished.{Under, Finished}
+use Rattle.words.specs.Sizes.{edgeSize}
 use Rattle.records.specs.Areas.{Bytes, recordsIn}
+use Rattle.records.specs.AreaLaws.{records-same, beside-refl, beside-then}
 use Rattle.records.specs.Records.{nodeIn, edgeIn, alternativeIn}
-use Rattle.graph.specs.Graphs.{Work, graphOf, Held, WithEdges, childrenFrom, IsNext}
-use Rattle.graph.specs.GraphLaws.{sized-refl, sized-trans, held-sized}
+use Rattle.records.specs.RecordLaws.{node-beside, edge-beside}
+use Rattle.graph.specs.Graphs.{Work, graphOf, Held, WithEdges, childrenFrom, AmongChildren, Walks, IsNext}
+use Rattle.graph.specs.GraphLaws.{grown-refl, held-nodes, held-edges}
 use Rattle.graph.specs.declared.Counts.{Counts}
 use Rattle.graph.specs.declared.Next.{Next}
 use Rattle.graph.specs.declared.Next.the-variants as Next
 use Rattle.walk.specs.Contracts.{beside, Holds, Kept}
 
--- ---- records that are kept
+-- ---- areas that differ by marks alone
 
 pub kept-refl : {w : Work} → Kept w w
-kept-refl = record { sized = sized-refl; nodes = λ x. refl; edges = λ i. refl; alternatives = λ i. refl }
+kept-refl = record { nodes = beside-refl; edges = beside-refl; alternatives = refl }
 
 pub kept-trans : {w w′ w″ : Work} → Kept w w′ → Kept w′ w″ → Kept w w″
 kept-trans K L = record {
-  sized = sized-trans (K .sized) (L .sized);
-  nodes = λ x. L .nodes x ∙ K .nodes x;
-  edges = λ i. L .edges i ∙ K .edges i;
-  alternatives = λ i. L .alternatives i ∙ K .alternatives i;
+  nodes = beside-then (K .nodes) (L .nodes);
+  edges = beside-then (K .edges) (L .edges);
+  alternatives = L .alternatives ∙ K .alternatives;
 }
 
 -- and so with other alternatives
 pub kept-beside : {w w′ : Work} → Kept w w′ → (a : Bytes) → Kept (beside w a) (beside w′ a)
-kept-beside K a = record {
-  sized = record { nodes = K .sized .nodes; edges = K .sized .edges; alternatives = refl };
-  nodes = K .nodes;
-  edges = K .edges;
-  alternatives = λ i. refl;
-}
+kept-beside K a = record { nodes = K .nodes; edges = K .edges; alternatives = refl }
 
 -- ---- the graph
+
+pub kept-node : {w w′ : Work} → Kept w w′ → (x : ℕ) → nodeIn (w′ .nodes) x ≡ nodeIn (w .nodes) x
+kept-node K x = node-beside (omega arith) (K .nodes) x
 
 module _ {w w′ : Work} (K : Kept w w′) (c : Counts) where
   pub kept-graph : graphOf w′ c ≡ graphOf w c
   unfolding graphOf
   kept-graph =
-      ap₂ (λ (ns : List G.Node) (es : List G.Edge). record { nodes = ns; edges = es; alternatives = recordsIn alternativeIn (w′ .alternatives) (c .alternatives) })
-      (map-same (nodeIn (w′ .nodes)) (nodeIn (w .nodes)) (range 0 (c .nodes)) (λ x _. K .nodes x))
-      (map-same (edgeIn (w′ .edges)) (edgeIn (w .edges)) (range 0 (c .edges)) (λ i _. K .edges i))
-      ∙ ap (λ (as′ : List G.Alternative). record { nodes = recordsIn nodeIn (w .nodes) (c .nodes); edges = recordsIn edgeIn (w .edges) (c .edges); alternatives = as′ })
-      (map-same (alternativeIn (w′ .alternatives)) (alternativeIn (w .alternatives)) (range 0 (c .alternatives)) (λ i _. K .alternatives i))
+      let nodes = records-same nodeIn (kept-node K) (c .nodes) in
+      let edges = records-same edgeIn (edge-beside (omega arith) (K .edges)) (c .edges) in
+      cc (nodes, edges, K .alternatives)
 
   pub kept-held : {a : Bytes} → Held (beside w a) c → Held (beside w′ a) c
-  kept-held {a} h = held-sized h (kept-beside K a .sized)
+  kept-held h = held-edges (held-nodes h (K .nodes) (omega arith)) (K .edges) (omega arith) (omega arith)
 
   pub kept-holds : Holds w c → Holds w′ c
   kept-holds H = record { alternatives = H .alternatives; held = kept-held (H .held) }
 
--- ---- the next child
+-- ---- a step along the children of a node
 
--- y is the next child of x from edge i on, by edge k
+-- what `next_child` answers, from edge i on
+abbrev pub Answer : Work → Counts → ℕ → ℕ → Next → Type 0
+Answer w c x i r = WithEdges (w .nodes) (w .edges) c (λ g. AmongChildren g x i → IsNext r i (c .edges) (childrenFrom g x) (AmongChildren g x))
+
+-- y is the next child of x from edge i on, by edge k; behind that edge the chain goes on
 pub record NextChild (w : Work) (c : Counts) (x i k y : ℕ) : Type 0 where
   pub from : i ≤ k
   pub below : k < c .edges
   pub more : childrenFrom (graphOf w c) x i ≡ y ∷ childrenFrom (graphOf w c) x (k + 1)
+  pub among : AmongChildren (graphOf w c) x (k + 1)
 
-module _ {w : Work} {c : Counts} (H : Holds w c) (x i : ℕ) {r : Next} (all : WithEdges (w .edges) c (λ g. IsNext r i (c .edges) (childrenFrom g x))) where
-  as-next : (s : Next) → r ≡ s → IsNext s i (c .edges) (childrenFrom (graphOf w c) x)
-  unfolding graphOf childrenFrom
-  as-next s q = subst (λ (t : Next). IsNext t i (c .edges) (childrenFrom (graphOf (beside w (H .alternatives)) c) x)) q (all (w .nodes) (H .alternatives) (H .held))
+module _ {w : Work} {c : Counts} (H : Holds w c) (x i : ℕ) where
+  pub next-walks : x < c .nodes → i ≤ c .edges → Walks edgeSize (w .nodes) (w .edges) (c .nodes) (c .edges) x i
+  next-walks h l = record { node = h; nodes = H .held .nodes; place = l; records = H .held .edges }
 
-  pub next-at : {k y : ℕ} → r ≡ Next.At k y → NextChild w c x i k y
-  next-at {k} {y} q = let (from, below, more) = as-next (Next.At k y) q in record { from = from; below = below; more = more }
+  module _ (o : AmongChildren (graphOf w c) x i) {r : Next} (all : Answer w c x i r) where
+    as-next : (s : Next) → r ≡ s → IsNext s i (c .edges) (childrenFrom (graphOf w c) x) (AmongChildren (graphOf w c) x)
+    unfolding graphOf childrenFrom
+    as-next s q =
+        let g = graphOf (beside w (H .alternatives)) c in
+        subst (λ (t : Next). IsNext t i (c .edges) (childrenFrom g x) (AmongChildren g x)) q (all (H .alternatives) c (H .held) grown-refl o)
 
-  pub next-end : r ≡ Next.End → childrenFrom (graphOf w c) x i ≡ []
-  next-end q = as-next Next.End q
+    pub next-at : {k y : ℕ} → r ≡ Next.At k y → NextChild w c x i k y
+    next-at {k} {y} q =
+        let (from, below, more, among) = as-next (Next.At k y) q in
+        record { from = from; below = below; more = more; among = among }
+
+    pub next-end : r ≡ Next.End → childrenFrom (graphOf w c) x i ≡ []
+    next-end q = as-next Next.End q
 
 -- ---- without alternatives
 

@@ -18,7 +18,7 @@ use Rattle.procedure.specs.Example.{RoleLink, Walk, position, meet}
 use Rattle.procedure.specs.ExampleLaws.{position-there, position-absent}
 use Rattle.words.specs.Sizes.{nodeSize, mostRecords}
 use Rattle.records.specs.Areas.{Bytes, Fits, recordsIn}
-use Rattle.records.specs.AreaLaws.{length-records, getD-records, records-append}
+use Rattle.records.specs.AreaLaws.{length-records, getD-records, records-append, beside-refl, beside-then}
 use Rattle.graph.specs.Graphs.{Work, work}
 use Rattle.graph.specs.declared.Counts.{Counts}
 use Rattle.marks.specs.Marks.{numberIn, stateIn, roleLinkIn}
@@ -116,12 +116,7 @@ module _ {n n₁ n₂ : Bytes} {c : Counts} {m y : ℕ} (N : Numbered n c m) (ne
   states-more = records-append stateIn (S .stored) ∙ ap (λ (xs : List ℕ). xs ++ y ∷ []) (map-same (stateIn n₁) (stateIn n) (range 0 m) (λ d _. P .states d))
 
   nodes-kept : (e a : Bytes) → Kept (work n e a) (work n₂ e a)
-  nodes-kept e a = record {
-    sized = record { nodes = S .stored .size ∙ P .stored .size; edges = refl; alternatives = refl };
-    nodes = λ z. S .nodes z ∙ P .nodes z;
-    edges = λ i. refl;
-    alternatives = λ i. refl;
-  }
+  nodes-kept e a = record { nodes = beside-then (P .beside) (S .beside); edges = beside-refl; alternatives = refl }
 
 -- ---- meeting a state
 
@@ -135,12 +130,7 @@ module _ {w : Work} {c : Counts} {s : Sizes} {d ρ y : ℕ} (A : MeetAsks w c s 
   links-more L p = records-append roleLinkIn (L .stored) ∙ ap (λ (x : ℕ). walkIn w s .links ++ record { from = d; role = ρ; to = x } ∷ []) p
 
   edges-kept : {e′ : Bytes} {l : RoleLink} → LinkStored (w .edges) e′ (s .links) l → Kept w (work (w .nodes) e′ (w .alternatives))
-  edges-kept L = record {
-    sized = record { nodes = refl; edges = L .stored .size; alternatives = refl };
-    nodes = λ z. refl;
-    edges = L .edges;
-    alternatives = λ i. refl;
-  }
+  edges-kept L = record { nodes = beside-refl; edges = L .beside; alternatives = refl }
 
   -- a state that has a number
   pub met-before : {k : ℕ} {e′ : Bytes} → k ≡ numberIn (w .nodes) y → 0 < k → LinkStored (w .edges) e′ (s .links) (record { from = d; role = ρ; to = k - 1 })
@@ -211,12 +201,7 @@ module _ {n n₀ : Bytes} {c : Counts} {y : ℕ} (C : NumbersCleared n n₀ (c .
   pub started : {n₁ n₂ : Bytes} → NumberStored n₀ n₁ y 1 → StateStored n₁ n₂ 0 y → StartGives n c y (sizes 1 0) n₂
   unfolding range
   started P S = record {
-    kept = λ e. record {
-      sized = record { nodes = S .stored .size ∙ P .stored .size ∙ C .size; edges = refl; alternatives = refl };
-      nodes = λ z. S .nodes z ∙ P .nodes z ∙ C .nodes z;
-      edges = λ i. refl;
-      alternatives = λ i. refl;
-    };
+    kept = λ e. record { nodes = beside-then (C .beside) (beside-then (P .beside) (S .beside)); edges = beside-refl; alternatives = refl };
     numbered = numbered-more numbered-none (C .none-has y h) h P S;
     starts = λ e. ap (λ (xs : List ℕ). record { states = xs; links = [] }) (states-more numbered-none (C .none-has y h) h P S);
   }

@@ -25,11 +25,11 @@ use Rattle.settests.specs.Answers.{existsFrom, NextExist}
 use Rattle.settests.specs.ExistLaws.{existsFrom-all}
 use Rattle.settests.specs.declared.Exist.{Exist}
 use Rattle.settests.specs.declared.Exist.the-variants as Exist
-use Rattle.records.specs.Areas.{roomOf, Fits}
+use Rattle.records.specs.Areas.{Fits}
 use Rattle.records.specs.AreaLaws.{length-records}
 use Rattle.records.specs.Records.{nodeOf, nodeIn}
 use Rattle.records.specs.declared.Node as D
-use Rattle.graph.specs.Graphs.{Work, graphOf, childrenFrom, WithEdges, IsNext}
+use Rattle.graph.specs.Graphs.{Work, graphOf, childrenFrom, AmongChildren, Walks}
 use Rattle.graph.specs.GraphLaws.{graph-node, held-node, held-most}
 use Rattle.graph.specs.SearchLaws.{children-all}
 use Rattle.graph.specs.declared.Counts.{Counts}
@@ -38,7 +38,7 @@ use Rattle.graph.specs.declared.Next.the-variants as Next
 use Rattle.marks.specs.Marks.{stateIn, roleLinkIn}
 use Rattle.marks.specs.declared.Sizes.{Sizes}
 use Rattle.walk.specs.Contracts.{Holds, Kept, DescendAsks, DescendGives, walkIn, Numbered, MeetAsks, MeetGives, elementRows, RowsAsks, RowsGives}
-use Rattle.walk.specs.KeptLaws.{kept-refl, kept-trans, kept-graph, kept-holds, next-at, next-end}
+use Rattle.walk.specs.KeptLaws.{Answer, kept-refl, kept-trans, kept-graph, kept-holds, next-walks, next-at, next-end}
 
 -- ---- what is left
 
@@ -68,10 +68,13 @@ module _ (t : Table) (g : Graph) (x : ℕ) (set : RowSet) where
 
 -- ---- the loop's invariant
 
--- what is left gives the whole
+-- what is left, from row k and from edge i of the children of x on, gives the whole
 pub record Turn (ws : List ℕ) (w : Work) (c : Counts) (s : Sizes) (d x : ℕ) (set : RowSet) (w′ : Work) (s′ : Sizes) (k i : ℕ) : Type 0 where
   pub asks : RowsAsks ws w c s d
   pub kept : Kept w w′
+  pub inside : x < c .nodes
+  pub place : i ≤ c .edges
+  pub among : AmongChildren (graphOf w c) x i
   pub numbered : Numbered (w′ .nodes) c (s′ .elements)
   pub ways : (r : ℕ × ℕ) → List·Memᴰ r (left (tableOf ws) (graphOf w c) x set k i) → (y : ℕ) × Way (graphOf w c) (r .1) y
   pub rest : (v : Walk) → walkRows (graphOf w c) d (elementRows ws w c d) (walkIn w s) ≡ some v
@@ -106,6 +109,9 @@ module _ {ws : List ℕ} {w : Work} {c : Counts} {s : Sizes} {d : ℕ} (A : Rows
         record {
           asks = A;
           kept = kept-refl;
+          inside = there;
+          place = omega arith;
+          among = tt;
           numbered = A .numbered;
           ways = λ r m. A .ways r (subst (λ (l : List (ℕ × ℕ)). List·Memᴰ r l) f m);
           rest = λ v u. ap (λ (l : List (ℕ × ℕ)). walkRows h d l (walkIn w s)) f ∙ u;
@@ -129,6 +135,7 @@ module _ {ws : List ℕ} {w : Work} {c : Counts} {s : Sizes} {d x : ℕ} {set : 
   pub record Child (row ρ index y : ℕ) : Type 0 where
     pub from : i ≤ index
     pub below : index < c .edges
+    pub among : AmongChildren h x (index + 1)
     pub todo : left table h x set k i ≡ (ρ, y) ∷ left table h x set (row + 1) (index + 1)
 
   same : graphOf w′ c ≡ h
@@ -137,8 +144,11 @@ module _ {ws : List ℕ} {w : Work} {c : Counts} {s : Sizes} {d x : ℕ} {set : 
   holds : Holds w′ c
   holds = kept-holds (T .kept) c (T .asks .holds)
 
-  pub turn-room : c .edges ≤ roomOf edgeSize (w′ .edges)
-  turn-room = holds .held .edges
+  among-now : AmongChildren (graphOf w′ c) x i
+  among-now = subst (λ (u : Graph). AmongChildren u x i) (sym same) (T .among)
+
+  pub turn-walks : Walks edgeSize (w′ .nodes) (w′ .edges) (c .nodes) (c .edges) x i
+  turn-walks = next-walks holds x i (T .inside) (T .place)
 
   ended : left table h x set k i ≡ [] → RowsGives ws w c s d s′ w′
   ended p =
@@ -160,18 +170,19 @@ module _ {ws : List ℕ} {w : Work} {c : Counts} {s : Sizes} {d x : ℕ} {set : 
   pub turn-count : row + 1 ≤ 64
   turn-count = omega (arith, R .below, length-tableOf ws, T .asks .decoded .few)
 
-  module _ {r : Next} (N : WithEdges (w′ .edges) c (λ u. IsNext r i (c .edges) (childrenFrom u x))) where
+  module _ {r : Next} (N : Answer w′ c x i r) where
     pub turn-childless : r ≡ Next.End → RowsGives ws w c s d s′ w′
     turn-childless q =
         ended T (left-childless (table T) (h T) x set k i ρ l (row + 1) (R .rest)
-        (subst (λ (u : Graph). childrenFrom u x i ≡ []) (same T) (next-end (holds T) x i N q)))
+        (subst (λ (u : Graph). childrenFrom u x i ≡ []) (same T) (next-end (holds T) x i (among-now T) N q)))
 
     pub turn-child : {index y : ℕ} → r ≡ Next.At index y → Child T row ρ index y
     turn-child {index} {y} q =
-        let next = next-at (holds T) x i N q in
+        let next = next-at (holds T) x i (among-now T) N q in
         record {
           from = next .from;
           below = next .below;
+          among = subst (λ (u : Graph). AmongChildren u x (index + 1)) (same T) (next .among);
           todo = left-more (table T) (h T) x set k i ρ l y (row + 1) (index + 1) (R .rest)
               (subst (λ (u : Graph). childrenFrom u x i ≡ y ∷ childrenFrom u x (index + 1)) (same T) (next .more));
         }
@@ -230,6 +241,9 @@ module _ {ws : List ℕ} {w : Work} {c : Counts} {s : Sizes} {d x : ℕ} {set : 
     turn-met M = record {
       asks = T .asks;
       kept = kept-trans (T .kept) (M .kept);
+      inside = T .inside;
+      place = omega (arith, C .below);
+      among = C .among;
       numbered = M .numbered;
       ways = λ a i. T .ways a (subst (λ (l : List (ℕ × ℕ)). List·Memᴰ a l) (sym (C .todo)) (List·Memᴰ·tail i));
       rest = λ v u. ap (walkRows (h T) d more) (M .meets) ∙ goes-on v u;

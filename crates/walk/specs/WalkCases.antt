@@ -36,7 +36,7 @@ use Rattle.graph.specs.declared.Counts.{Counts}
 use Rattle.marks.specs.Marks.{stateIn, roleLinkIn}
 use Rattle.marks.specs.declared.Sizes.{Sizes}
 use Rattle.walk.specs.Contracts.{nodesEdges, Kept, DescendAsks, DescendGives, walkIn, Numbered, RowsAsks, RowsGives, StartAsks, StartGives, WalkAsks, WalkGives}
-use Rattle.walk.specs.KeptLaws.{kept-refl, kept-trans, kept-beside, kept-graph, kept-held, kept-holds, finished-bare, example-bare}
+use Rattle.walk.specs.KeptLaws.{kept-refl, kept-trans, kept-beside, kept-node, kept-graph, kept-held, kept-holds, finished-bare, example-bare}
 
 -- ---- what the definition's walk gives
 
@@ -117,7 +117,7 @@ module _ {ws : List ℕ} {w : Work} {c : Counts} {w′ : Work} {s : Sizes} {d : 
       ∙ map-same (λ i. nodeAt h (stateIn (w′ .nodes) i) .rows) (λ i. nodeIn (w′ .nodes) (stateIn (w′ .nodes) i) .rows) (range 0 (s .elements)) (λ i m.
       let l : i < s .elements = omega (arith, range-mem 0 (s .elements) i m .1) in
       let y = stateIn (w′ .nodes) i in
-      ap (λ (x : Node). x .rows) (graph-node w c y (T .numbered .inside i l) ∙ sym (T .kept .nodes y)))
+      ap (λ (x : Node). x .rows) (graph-node w c y (T .numbered .inside i l) ∙ sym (kept-node (T .kept) y)))
 
   pub turn-end : s .elements ≤ d → WalkGives ws w c s w′
   turn-end l =

@@ -70,12 +70,12 @@ fn status_at(nodes: &[u8], c: Counts, y: u16) -> Status
 
 // The first child of x that has the status looked for.
 fn first_child(nodes: &[u8], edges: &[u8], c: Counts, x: u16, sat: bool) -> FoundNode
-    requires { ⌜ Contracts.Holds (nodesEdges (now nodes) (now edges)) c ⌝ }
+    requires { ⌜ Contracts.ChildAsks (nodesEdges (now nodes) (now edges)) c x ⌝ }
     ensures { λ r. ⌜ foundOf r ≡ Example.firstChild (Contracts.asked sat) (graphOf (nodesEdges (now (nodes .entry)) (now (edges .entry))) c) x ⌝ }
 {
     let mut i: usize = 0;
     loop {
-        let Next::At { index, node } = next_child(edges, c, x, i) else {
+        let Next::At { index, node } = next_child(nodes, edges, c, x, i) else {
             return FoundNode::Nothing;
         };
         i = index + 1;
@@ -87,7 +87,7 @@ fn first_child(nodes: &[u8], edges: &[u8], c: Counts, x: u16, sat: bool) -> Foun
 
 // "The first child that is yes, else the first open".
 fn live_child(nodes: &[u8], edges: &[u8], c: Counts, x: u16) -> FoundNode
-    requires { ⌜ Contracts.Holds (nodesEdges (now nodes) (now edges)) c ⌝ }
+    requires { ⌜ Contracts.ChildAsks (nodesEdges (now nodes) (now edges)) c x ⌝ }
     ensures { λ r. ⌜ foundOf r ≡ Example.liveChild (graphOf (nodesEdges (now (nodes .entry)) (now (edges .entry))) c) x ⌝ }
 {
     match first_child(nodes, edges, c, x, true) {
@@ -187,7 +187,7 @@ fn walk_rows(
         else {
             return cur;
         };
-        let Next::At { index, node } = next_child(edges, c, x, i) else {
+        let Next::At { index, node } = next_child(nodes, edges, c, x, i) else {
             return cur;
         };
         k = row + 1;

@@ -27,5 +27,5 @@ clear-numbers-spec =
     (λ c. omega arith) (λ c. omega arith)
     (λ c. let l : At tie.At-loop = search in let w : At tie.After-store-number = search in (omega arith, cleared-more (l .loop .inv .1) (w .store-number .ensures)))
     -- the end
-    (λ c. c .before .loop .inv .1 .size)
+    (λ c. c .before .loop .inv .1 .beside .long)
     (λ c. let l = c .before .loop in cleared-all (l .inv .1) (l .inv .0) (omega arith)))

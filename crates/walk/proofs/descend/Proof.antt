@@ -4,7 +4,7 @@ use Prim.Native.Nat.{_-_}
 use native.Mathlib.Omega.{arith}
 use borrow.Author.Needs.{needs}
 use Rattle.walk.specs.Contracts.{nodesEdges}
-use Rattle.walk.specs.ChildCases.{Going, Links, going-start, going-fits, going-links, going-lands, going-on, going-less, going-nowhere}
+use Rattle.walk.specs.ChildCases.{Going, Links, going-start, going-fits, going-asks, going-links, going-lands, going-on, going-less, going-nowhere}
 use Rattle.walk.proofs.descend.Statement.{statement}
 use Rattle.walk.proofs.descend.Tie as tie
 
@@ -38,7 +38,7 @@ descend-spec =
     (λ c. let y : At tie.After-y = search in going-lands (links (search)) (y .y .given .1))
     -- Nothing: live_child(nodes, edges, c, x)
     (λ c. search needs)
-    (λ c κs. search needs)
+    (λ c κs. search (going-asks, needs))
     (λ c. search needs)
     -- At(child): the loop again
     (λ c. let n : At tie.After-enum-told = search in let l : At tie.After-live-child = search in let b : At tie.After-child = search in

@@ -4,7 +4,7 @@ use Prim.Native.Nat.{_-_}
 use native.Mathlib.Omega.{arith}
 use borrow.Author.Needs.{needs}
 use Rattle.walk.specs.Contracts.{nodesEdges}
-use Rattle.walk.specs.ChildCases.{Looking, Follows, looking-start, looking-room, looking-nodes, looking-next, looking-end}
+use Rattle.walk.specs.ChildCases.{Looking, Follows, looking-start, looking-walks, looking-nodes, looking-next, looking-end}
 use Rattle.walk.specs.ChildCases.{looking-index, looking-less, looking-found, looking-over}
 use Rattle.walk.proofs.first_child.Statement.{statement}
 use Rattle.walk.proofs.first_child.Tie as tie
@@ -28,9 +28,9 @@ next c = looking-next (the-loop c .loop .inv) (c .before .before .next-child .en
 pub first-child-spec : {M : Type 1} → statement M
 first-child-spec =
     tie.close (tie.spec Inv-loop μ-loop
-    -- loop, next_child(edges, c, x, i)
+    -- loop, next_child(nodes, edges, c, x, i)
     (λ c. search (looking-start, needs))
-    (λ c κs. search (looking-room, needs))
+    (λ c κs. search (looking-walks, needs))
     (λ c. search needs) (λ c. search needs)
     -- return Nothing
     (λ c. let l : At tie.At-loop = search in let n : At tie.After-next-child = search in looking-end (l .loop .inv) (n .next-child .ensures) (c .enum-told .given .1))

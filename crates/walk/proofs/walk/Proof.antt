@@ -44,7 +44,7 @@ walk-spec =
     (λ c. turn-less (element (search)))
     (λ c. let r : At tie.After-walk-rows = search in turn-walked (element (search)) (r .walk-rows .ensures))
     -- s
-    (λ c. let l : At tie.At-loop = search in let b : At tie.After-start = search in l .loop .inv .kept .sized .nodes ∙ b .start .ensures .kept [] .sized .nodes)
+    (λ c. let l : At tie.At-loop = search in let b : At tie.After-start = search in l .loop .inv .kept .nodes .long ∙ b .start .ensures .kept [] .nodes .long)
     (λ c. search needs)
     (λ c. let s : At tie.Start = search in let f : At tie.After-descend = search in let b : At tie.After-start = search in let l : At tie.At-loop = search in
     started-gives (s .pre) (f .descend .ensures) (b .start .ensures) (turn-end (l .loop .inv) (c .if1 .left))))

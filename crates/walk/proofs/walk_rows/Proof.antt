@@ -7,7 +7,7 @@ use native.Mathlib.Omega.{arith}
 use borrow.Author.Needs.{needs}
 use Rattle.rowset.specs.Value.{valueOf}
 use Rattle.walk.specs.Contracts.{nodesEdges}
-use Rattle.walk.specs.RowCases.{Turn, Row, Child, turn-element, turn-state, turn-start, turn-room, turn-rowless, turn-row, turn-count}
+use Rattle.walk.specs.RowCases.{Turn, Row, Child, turn-element, turn-state, turn-start, turn-walks, turn-rowless, turn-row, turn-count}
 use Rattle.walk.specs.RowCases.{turn-childless, turn-child, turn-index, turn-less, turn-asks, turn-meets, turn-met}
 use Rattle.walk.proofs.walk_rows.Statement.{statement}
 use Rattle.walk.proofs.walk_rows.Tie as tie
@@ -29,7 +29,7 @@ the-row : (c : At tie.After-row) → Row (the-loop c .loop .inv) (c .row .given 
 the-row c = turn-row (the-loop c .loop .inv) (c .before .before .next-exist .ensures) (c .row .given .1)
 
 abbrev at-row : At tie.After-index → At tie.After-row
-at-row c = c .before .before .before .before .before
+at-row c = c .before .before .before .before .before .before
 
 -- and a child
 child : (c : At tie.After-index) → let r = at-row c in
@@ -50,8 +50,8 @@ walk-rows-spec = tie.close (tie.spec Inv-loop μ-loop
     -- return cur: no row is left
     (λ c. search needs) (λ c. search needs)
     (λ c. let l : At tie.At-loop = search in turn-rowless (l .loop .inv) (c .before .before .next-exist .ensures) (c .enum-told .given .1))
-    -- next_child(edges, c, x, i)
-    (λ c κs. search (turn-room, needs))
+    -- next_child(nodes, edges, c, x, i)
+    (λ c κs. search (turn-walks, needs))
     (λ c. search needs) (λ c. search needs)
     -- return cur: no child is left
     (λ c. search needs) (λ c. search needs)
