@@ -39,11 +39,11 @@ use records::store_node;
 use records::store_status;
 use rowset::RowSet;
 
-// How many records each area has in use.
+// How many records each area has in use, at most 4,096 of each. In 2 bytes each, since nearly every function takes counts and answers with counts.
 pub struct Counts {
-    pub nodes: usize,
-    pub edges: usize,
-    pub alternatives: usize,
+    pub nodes: u16,
+    pub edges: u16,
+    pub alternatives: u16,
 }
 
 // An area that was short.
@@ -106,7 +106,7 @@ pub fn next_child(nodes: &[u8], edges: &[u8], c: Counts, x: u16, from: usize) ->
         (λ g. Graphs.AmongChildren g x from → Graphs.IsNext r from (c .edges) (Graphs.childrenFrom g x) (Graphs.AmongChildren g x)) ⌝ }
 {
     let index = follow(nodes, edges, CHILDREN, x as usize, from);
-    if index < c.edges {
+    if index < c.edges as usize {
         let d = load_edge(edges, index);
         Next::At { index, node: d.to }
     } else {
@@ -121,7 +121,7 @@ pub fn next_parent(nodes: &[u8], edges: &[u8], c: Counts, x: u16, from: usize) -
         (λ g. Graphs.AmongParents g x from → Graphs.IsNext r from (c .edges) (Graphs.parentsFrom g x) (Graphs.AmongParents g x)) ⌝ }
 {
     let index = follow(nodes, edges, PARENTS, x as usize, from);
-    if index < c.edges {
+    if index < c.edges as usize {
         let d = load_edge(edges, index);
         Next::At {
             index,
@@ -145,7 +145,7 @@ pub fn next_alternative(
         (λ g. Graphs.AmongAlternatives g x from → Graphs.IsNextAlternative r from (c .alternatives) (Graphs.alternativesFrom g x) (Graphs.AmongAlternatives g x)) ⌝ }
 {
     let index = follow(nodes, alternatives, ALTERNATIVES, x as usize, from);
-    if index < c.alternatives {
+    if index < c.alternatives as usize {
         let d = load_alternative(alternatives, index);
         let rows = d.rows;
         NextAlternative::At { index, rows }
@@ -158,14 +158,14 @@ pub fn next_alternative(
 pub fn add_node(nodes: &mut [u8], c: Counts, n: Node) -> Step
     ensures { λ r. ⌜ Graphs.AddsNode (now (nodes .entry)) (now (nodes .exit)) c r (λ k g. addNode k (Records.nodeOf n) g) ⌝ }
 {
-    let x = c.nodes;
+    let x = c.nodes as usize;
     if x < room(nodes.len(), NODE_BYTES) {
         store_node(nodes, x, n);
         begin(nodes, CHILDREN, x);
         begin(nodes, PARENTS, x);
         begin(nodes, ALTERNATIVES, x);
         Step::Done(Counts {
-            nodes: x + 1,
+            nodes: c.nodes + 1,
             edges: c.edges,
             alternatives: c.alternatives,
         })
@@ -179,14 +179,14 @@ pub fn add_edge(nodes: &mut [u8], edges: &mut [u8], c: Counts, from: u16, to: u1
     requires { ⌜ (from < c .nodes) × (to < c .nodes) × (c .nodes ≤ roomOf nodeSize (now nodes)) ⌝ }
     ensures { λ r. ⌜ Graphs.AddsEdge (now (nodes .entry)) (now (nodes .exit)) (now (edges .entry)) (now (edges .exit)) c r (λ k g. addEdge k from to g) ⌝ }
 {
-    let i = c.edges;
+    let i = c.edges as usize;
     if i < room(edges.len(), EDGE_BYTES) {
         store_edge(edges, i, Edge { from, to });
         append(nodes, edges, CHILDREN, from as usize, i);
         append(nodes, edges, PARENTS, to as usize, i);
         Step::Done(Counts {
             nodes: c.nodes,
-            edges: i + 1,
+            edges: c.edges + 1,
             alternatives: c.alternatives,
         })
     } else {
@@ -232,14 +232,14 @@ pub fn add_alternative(
     if has_alternative(nodes, alternatives, c, owner, rows) {
         return Step::Done(c);
     }
-    let i = c.alternatives;
+    let i = c.alternatives as usize;
     if i < room(alternatives.len(), ALTERNATIVE_BYTES) {
         store_alternative(alternatives, i, Alternative { owner, rows });
         append(nodes, alternatives, ALTERNATIVES, owner as usize, i);
         Step::Done(Counts {
             nodes: c.nodes,
             edges: c.edges,
-            alternatives: i + 1,
+            alternatives: c.alternatives + 1,
         })
     } else {
         Step::Full(Area::Alternatives)
@@ -277,7 +277,7 @@ pub fn find_state(nodes: &[u8], c: Counts, rows: RowSet) -> FoundNode
     requires { ⌜ c .nodes ≤ roomOf nodeSize (now nodes) ⌝ }
     ensures { λ r. ⌜ Graphs.WithNodes (now (nodes .entry)) c (λ g. Graphs.foundOf r ≡ findState (valueOf rows) g) ⌝ }
 {
-    let count = c.nodes;
+    let count = c.nodes as usize;
     let mut x = 0;
     while x < count {
         if is_state_with(nodes, x, rows) {
@@ -293,7 +293,7 @@ pub fn lowest_unset(nodes: &[u8], c: Counts, from: usize) -> FoundNode
     requires { ⌜ (c .nodes ≤ roomOf nodeSize (now nodes)) × (from ≤ c .nodes) × NoneBelow (Records.isUnsetAt (now nodes)) from ⌝ }
     ensures { λ r. ⌜ Graphs.WithNodes (now (nodes .entry)) c (λ g. Graphs.foundOf r ≡ lowestUnset g) × Graphs.PassedOver r (Records.isUnsetAt (now (nodes .entry))) ⌝ }
 {
-    let count = c.nodes;
+    let count = c.nodes as usize;
     let mut x = from;
     while x < count {
         if is_unset(nodes, x) {

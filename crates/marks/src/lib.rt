@@ -98,7 +98,7 @@ pub fn clear_numbers(nodes: &mut [u8], c: Counts)
     requires { ⌜ c .nodes ≤ roomOf nodeSize (now nodes) ⌝ }
     ensures { λ _. ⌜ NumbersCleared (now (nodes .entry)) (now (nodes .exit)) (c .nodes) ⌝ }
 {
-    let count = c.nodes;
+    let count = c.nodes as usize;
     let mut y: usize = 0;
     while y < count {
         store_number(nodes, y, 0);

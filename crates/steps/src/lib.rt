@@ -38,7 +38,7 @@ pub fn add_child(nodes: &mut [u8], edges: &mut [u8], c: Counts, from: u16, node:
     ensures { λ r. ⌜ Steps.AddsBelow (now (nodes .entry)) (now (nodes .exit)) (now (edges .entry)) (now (edges .exit)) c r (Steps.addChild from (Records.nodeOf node)) ⌝ }
 {
     match add_node(nodes, c, node) {
-        Step::Done(d) => add_edge(nodes, edges, d, from, c.nodes as u16),
+        Step::Done(d) => add_edge(nodes, edges, d, from, c.nodes),
         Step::Full(area) => Step::Full(area),
     }
 }
@@ -70,7 +70,7 @@ fn link_found(nodes: &mut [u8], edges: &mut [u8], c: Counts, z: u16, rows: RowSe
                 link: Link::None,
             };
             match add_node(nodes, c, state) {
-                Step::Done(d) => link_to(nodes, edges, d, z, c.nodes as u16),
+                Step::Done(d) => link_to(nodes, edges, d, z, c.nodes),
                 Step::Full(area) => Step::Full(area),
             }
         }
@@ -98,7 +98,7 @@ pub fn link_special(
         link: Link::None,
     };
     match add_node(nodes, c, special) {
-        Step::Done(d) => link_found(nodes, edges, d, c.nodes as u16, rows),
+        Step::Done(d) => link_found(nodes, edges, d, c.nodes, rows),
         Step::Full(area) => Step::Full(area),
     }
 }
@@ -144,7 +144,7 @@ pub fn add_lapsed(
     };
     match add_node(nodes, c, lapsed) {
         Step::Done(d) => match join(nodes, alternatives, d, p, lacked) {
-            Step::Done(b) => add_edge(nodes, edges, b, from, c.nodes as u16),
+            Step::Done(b) => add_edge(nodes, edges, b, from, c.nodes),
             Step::Full(area) => Step::Full(area),
         },
         Step::Full(area) => Step::Full(area),

@@ -75,7 +75,7 @@ pub fn put(
     if !is_empty(lacked) {
         return add_lapsed(nodes, edges, alternatives, c, m, p, role, s, lacked);
     }
-    let z = c.nodes as u16;
+    let z = c.nodes;
     match link_special(nodes, edges, c, p, role, s) {
         Step::Full(area) => Step::Full(area),
         Step::Done(d) => match judge(problem, nodes, edges, alternatives, d, z) {

@@ -61,7 +61,7 @@ fn status_at(nodes: &[u8], c: Counts, y: u16) -> Status
     ensures { λ r. ⌜ Contracts.StatusAt (now (nodes .entry)) c y (statusOf r) ⌝ }
 {
     let x = y as usize;
-    if x < c.nodes {
+    if x < c.nodes as usize {
         let node = load_node(nodes, x);
         return node.status;
     }

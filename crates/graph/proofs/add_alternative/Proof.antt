@@ -54,6 +54,7 @@ add-alternative-spec =
     (λ c. search needs) (λ c. search needs)
     returns
     -- room(alternatives.len(), ALTERNATIVE_BYTES)
+    (λ c. search needs)
     (λ c κs. search needs)
     -- store_alternative(alternatives, i, Alternative { owner, rows })
     (λ c κs. search needs)

@@ -27,6 +27,7 @@ add-edge-spec =
     tie.close
     (tie.spec
     -- room(edges.len(), EDGE_BYTES)
+    (λ c. search needs)
     (λ c κs. search needs)
     -- store_edge(edges, i, Edge { from, to })
     (λ c κs. search needs)

@@ -28,6 +28,7 @@ add-node-spec =
     tie.close
     (tie.spec
     -- room(nodes.len(), NODE_BYTES)
+    (λ c. search needs)
     (λ c κs. search needs)
     -- store_node(nodes, x, n)
     (λ c κs. search needs)

@@ -3,6 +3,7 @@
 use mathlib.Core.Path.{sym, _∙_}
 use Prim.Native.Nat.{_-_, _≤_}
 use native.Mathlib.Omega.{arith}
+use borrow.Author.Needs.{needs}
 use borrow.Author.Count.{below-none, below-more}
 use Rattle.concepts.specs.Lists.{NoneBelow}
 use Rattle.rowset.specs.Value.{valueOf}
@@ -50,6 +51,8 @@ find-state-spec =
     (tie.spec
     Inv-loop
     μ-loop
+    -- c.nodes as usize
+    (λ c. search needs)
     loop-holds
     is-state-with-requires
     fits

@@ -41,6 +41,7 @@ next-alternative-spec =
     (tie.spec
     -- follow(nodes, alternatives, ALTERNATIVES, x as usize, from), load_alternative(alternatives, index)
     follow-requires
+    (λ c. search needs)
     load-alternative-requires
     returns
     returns-2)

@@ -41,6 +41,7 @@ next-child-spec =
     (tie.spec
     -- follow(nodes, edges, CHILDREN, x as usize, from), load_edge(edges, index)
     follow-requires
+    (λ c. search needs)
     load-edge-requires
     returns
     returns-2)

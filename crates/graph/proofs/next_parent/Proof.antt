@@ -41,6 +41,7 @@ next-parent-spec =
     (tie.spec
     -- follow(nodes, edges, PARENTS, x as usize, from), load_edge(edges, index)
     follow-requires
+    (λ c. search needs)
     load-edge-requires
     returns
     returns-2)

@@ -2,6 +2,7 @@
 -- Assumes nothing.
 use Prim.Native.Nat.{_-_, _≤_}
 use native.Mathlib.Omega.{arith}
+use borrow.Author.Needs.{needs}
 use Rattle.marks.specs.Marked.{NumbersCleared}
 use Rattle.marks.specs.MarkLaws.{cleared-none, cleared-fits, cleared-more, cleared-all}
 use Rattle.marks.proofs.clear_numbers.Statement.{statement}
@@ -19,7 +20,8 @@ At P = P Inv-loop μ-loop
 pub clear-numbers-spec : {M : Type 1} → statement M
 clear-numbers-spec =
     tie.close (tie.spec Inv-loop μ-loop
-    -- while y < count
+    -- c.nodes as usize, while y < count
+    (λ c. search needs)
     (λ c. (omega arith, cleared-none))
     -- store_number(nodes, y, 0)
     (λ c κs. let s : At tie.Start = search in let l : At tie.At-loop = search in cleared-fits (l .loop .inv .1) (s .pre) (omega arith))

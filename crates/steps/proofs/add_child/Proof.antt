@@ -3,7 +3,6 @@
 use native.Mathlib.Omega.{arith}
 use borrow.Author.Needs.{needs}
 use Rattle.records.specs.Records.{nodeOf}
-use Rattle.graph.specs.GraphLaws.{held-most}
 use Rattle.steps.specs.StepLaws.{node-held, child-done, child-full}
 use Rattle.steps.proofs.add_child.Statement.{statement}
 use Rattle.steps.proofs.add_child.Tie as tie
@@ -14,7 +13,7 @@ add-child-spec =
     -- add_node(nodes, c, node)
     (λ c κs. search needs)
     -- add_edge(nodes, edges, d, from, c.nodes)
-    (λ c. search needs) (λ c. let s : tie.Start = search in omega (arith, held-most (s .pre .1 .1)))
+    (λ c. search needs)
     (λ c κs. let s : tie.Start = search in let n : tie.After-add-node = search in let d : tie.After-d = search in
     let (held, more) = node-held (nodeOf (s .args .node)) (n .add-node .ensures) (d .d .given .1) (s .pre .1 .1) in (omega (arith, s .pre .0, more), omega (arith, more), held .nodes))
     (λ c. search needs)

@@ -6,7 +6,6 @@ use native.Mathlib.Omega.{arith}
 use Rattle.procedure.specs.Status.{toosmall}
 use Rattle.procedure.specs.Graph as Graph
 use Rattle.procedure.specs.Tableau.{below}
-use Rattle.graph.specs.GraphLaws.{held-most}
 use Rattle.steps.specs.StepLaws.{node-held, joined-held, lapsed-done, lapsed-full, lapsed-none}
 use Rattle.steps.proofs.add_lapsed.Statement.{statement}
 use Rattle.steps.proofs.add_lapsed.Tie as tie
@@ -33,7 +32,7 @@ add-lapsed-spec =
     let (held, more) = node-held (below (s .args .p) (s .args .role) (valueOf (s .args .rows)) toosmall Graph.lapsed) (n .add-node .ensures) (d .d .given .1) (s .pre .2) in
     record { edges = _; held = held; node = omega (arith, s .pre .1, more) })
     -- add_edge(nodes, edges, b, from, c.nodes)
-    (λ c. search needs) (λ c. let s : tie.Start = search in omega (arith, held-most (s .pre .2)))
+    (λ c. search needs)
     (λ c κs. let s : tie.Start = search in let b : tie.After-b = search in let j = the-join b in let d = the-counts j in let n = the-node d in
     let (held, more) = node-held (below (s .args .p) (s .args .role) (valueOf (s .args .rows)) toosmall Graph.lapsed) (n .add-node .ensures) (d .d .given .1) (s .pre .2) in
     let (after, kept) = joined-held (s .args .from) (s .args .p) (s .args .role) (valueOf (s .args .rows)) (valueOf (s .args .lacked))

@@ -27,7 +27,7 @@ link-found-spec =
     -- add_node(nodes, c, state)
     (λ c. search needs) (λ c κs. search needs)
     -- link_to(.., d, z, c.nodes)
-    (λ c. search needs) (λ c. search needs)
+    (λ c. search needs)
     (λ c κs. let s : tie.Start = search in let n : tie.After-add-node = search in let d : tie.After-d = search in
     let (held, more) = node-held (state (valueOf (s .args .rows))) (n .add-node .ensures) (d .d .given .1) (s .pre .1 .1) in
     (omega (arith, s .pre .0, more), omega (arith, more), held .nodes))

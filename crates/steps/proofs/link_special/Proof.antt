@@ -16,7 +16,7 @@ link-special-spec =
     -- add_node(nodes, c, special)
     (λ c κs. search needs)
     -- link_found(.., d, c.nodes, rows)
-    (λ c. search needs) (λ c. search needs)
+    (λ c. search needs)
     (λ c κs. let s : tie.Start = search in let n : tie.After-add-node = search in let d : tie.After-d = search in
     let (held, more) = node-held (below (s .args .p) (s .args .role) (valueOf (s .args .rows)) unset Graph.unlinked) (n .add-node .ensures) (d .d .given .1) (s .pre .1) in
     (omega (arith, more), (s .pre .0, held)))

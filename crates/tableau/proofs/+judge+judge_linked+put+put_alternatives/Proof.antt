@@ -182,7 +182,7 @@ abbrev the-link : {t : ℕ} → In-put t put-lts.After-d → In-put t put-lts.Af
 the-link c = c .before .before .before .before .before .before
 
 abbrev the-complete : {t : ℕ} → In-put t put-lts.After-d → In-put t put-lts.Else3
-the-complete c = the-link c .before .before .before .before
+the-complete c = the-link c .before .before .before
 
 abbrev the-asks : {t : ℕ} → In-put t put-lts.After-d → In-put t put-lts.Start
 the-asks c = begun (the-else (the-complete c .before))
@@ -297,7 +297,7 @@ pub +judge+judge-linked+put+put-alternatives-spec : {M : Type 1} → statement M
     (λ c. search needs) (λ c. search needs) (λ c. search needs)
     (λ c. let a : In-put t put-lts.After-add-lapsed = search in put-lapses (weighed t (search)) (search (not-true, needs)) (a .add-lapsed .ensures))
     -- link_special(.., p, role, s)
-    (λ c. search needs) (λ c κs. search needs) (λ c. search needs) (λ c. search needs)
+    (λ c κs. search needs) (λ c. search needs) (λ c. search needs)
     -- judge(.., d, z)
     (λ c κs. let d : In-put t put-lts.After-d = search in
     (omega (arith, the-asks d .pre .0, put-judge-falls (linked-special t d)), put-judge-asks (linked-special t d)))
