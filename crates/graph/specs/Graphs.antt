@@ -162,15 +162,22 @@ parentsFrom g x i = chosenFrom (λ (d : G.Edge). eqb (d .to) x) (λ (d : G.Edge)
 unfoldable pub alternativesFrom : G.Graph → ℕ → ℕ → List RowSet
 alternativesFrom g x i = chosenFrom (λ (d : G.Alternative). eqb (d .owner) x) (λ (d : G.Alternative). d .rows) (g .alternatives) i
 
+-- what stands for a record that is not there
+abbrev pub noEdge : G.Edge
+noEdge = record { from = 0; to = 0 }
+
+abbrev pub noAlternative : G.Alternative
+noAlternative = record { owner = 0; rows = empty }
+
 -- where edge i starts, and where it ends; whose alternative i is
 abbrev pub startOf : G.Graph → ℕ → ℕ
-startOf g i = getD (g .edges) i (record { from = 0; to = 0 }) .from
+startOf g i = getD (g .edges) i noEdge .from
 
 abbrev pub endOf : G.Graph → ℕ → ℕ
-endOf g i = getD (g .edges) i (record { from = 0; to = 0 }) .to
+endOf g i = getD (g .edges) i noEdge .to
 
 abbrev pub ownerOf : G.Graph → ℕ → ℕ
-ownerOf g i = getD (g .alternatives) i (record { owner = 0; rows = empty }) .owner
+ownerOf g i = getD (g .alternatives) i noAlternative .owner
 
 -- place i is one of the chain of x's children: its start, or behind one of their edges; likewise of its parents, and of its alternatives
 abbrev pub AmongChildren : G.Graph → ℕ → ℕ → Type 0

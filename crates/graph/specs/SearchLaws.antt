@@ -12,7 +12,7 @@ use lib.Dec.{eqb, ltb}
 use lib.ListN.{getD}
 use Rattle.concepts.specs.Lists.{range, NoneBelow, any, select}
 use Rattle.concepts.specs.ListLaws.{getD-range, length-range, first-at, first-nowhere}
-use Rattle.concepts.specs.RowSet.{RowSet, empty}
+use Rattle.concepts.specs.RowSet.{RowSet}
 use Rattle.procedure.specs.Status.{isUnset}
 use Rattle.procedure.specs.Graph as G
 use Rattle.words.specs.Sizes.{edgeSize, alternativeSize}
@@ -28,7 +28,7 @@ use Rattle.chains.specs.Places.{keyIn, nextIn, firstIn, ChainIn}
 use Rattle.chains.specs.declared.Places.{Places}
 use Rattle.graph.specs.Chains.{childPlaces, parentPlaces, alternativePlaces}
 use Rattle.graph.specs.Graphs.{Work, work, graphOf, Held, Grown, isStateWith, childrenFrom, parentsFrom, alternativesFrom}
-use Rattle.graph.specs.Graphs.{startOf, endOf, ownerOf, AmongChildren, AmongParents, AmongAlternatives, Walks, IsNext, IsNextAlternative, WithAlternatives, Owns}
+use Rattle.graph.specs.Graphs.{noEdge, noAlternative, startOf, endOf, ownerOf, AmongChildren, AmongParents, AmongAlternatives, Walks, IsNext, IsNextAlternative, WithAlternatives, Owns}
 use Rattle.graph.specs.GraphLaws.{grown-refl, count-nodes, count-edges, count-alternatives, graph-node}
 use Rattle.graph.specs.AddLaws.{picks-first, picks-second}
 use Rattle.graph.specs.declared.Counts.{Counts}
@@ -133,14 +133,14 @@ module _ (g h : G.Graph) (x i : ℕ) where
   parents-same e = ap (λ (l : List G.Edge). chosenFrom (λ (u : G.Edge). eqb (u .to) x) (λ (u : G.Edge). u .from) l i) e
 
   pub among-parents-same : h .edges ≡ g .edges → AmongParents h x i → AmongParents g x i
-  among-parents-same e = subst (λ (l : List G.Edge). Behind (λ j. getD l j (record { from = 0; to = 0 }) .to) x i) e
+  among-parents-same e = subst (λ (l : List G.Edge). Behind (λ j. getD l j noEdge .to) x i) e
 
   pub alternatives-same : h .alternatives ≡ g .alternatives → alternativesFrom h x i ≡ alternativesFrom g x i
   unfolding alternativesFrom
   alternatives-same e = ap (λ (l : List G.Alternative). chosenFrom (λ (u : G.Alternative). eqb (u .owner) x) (λ (u : G.Alternative). u .rows) l i) e
 
   pub among-alternatives-same : h .alternatives ≡ g .alternatives → AmongAlternatives h x i → AmongAlternatives g x i
-  among-alternatives-same e = subst (λ (l : List G.Alternative). Behind (λ j. getD l j (record { owner = 0; rows = empty }) .owner) x i) e
+  among-alternatives-same e = subst (λ (l : List G.Alternative). Behind (λ j. getD l j noAlternative .owner) x i) e
 
 -- so what a step along a chain gives now, it gives of the graph of then
 module _ (g h : G.Graph) (x i count : ℕ) where
