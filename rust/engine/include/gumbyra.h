@@ -2,7 +2,7 @@
    examples/eight_nodes.c is a whole program.
 
    In both calls a pointer may not be null, even with length 0. Nothing is kept after a call, and there is no state: threads may
-   call at the same time, with areas of their own. For a call of this build a stack of 2 MiB suffices. */
+   call at the same time, with areas of their own. For a call of this build a stack of 1 MiB suffices. */
 #ifndef GUMBYRA_H
 #define GUMBYRA_H
 

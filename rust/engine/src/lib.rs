@@ -18,8 +18,7 @@
 //! [`refusal`], [`example`], [`row_set`]), the C convention. The engine is proved; this crate only hands slices over and reads
 //! the numbers and bytes that come back. But for [`Space`] it allocates nothing.
 //!
-//! The archive is for x86-64 Linux only. For a call of this build a stack of 2 MiB suffices, which is what a thread of Rust
-//! has by default.
+//! The archive is for x86-64 Linux only. For a call of this build a stack of 1 MiB suffices; a thread of Rust has 2 by default.
 
 #[allow(unsafe_code)]
 mod convention;
