@@ -116,8 +116,8 @@ pub struct Clock {
     pub tail: usize,
 }
 
-/// The deepest that we found: 706 nested updates. Each takes a state with two special nodes, and they take four edges; so in
-/// 4,096 edges there cannot be more than 1,024.
+/// 706 nested updates; a search among irregular lines found no more than 712. Each takes a state with two special nodes, and
+/// they take four edges; so in 4,096 edges there cannot be more than 1,024.
 pub const DEEPEST: Clock = Clock { period: 6, line: 41, tail: 2 };
 
 /// A line on which a signal may start with each tick of a clock. Each element asks twice for its successor along role 0, so two
@@ -162,9 +162,9 @@ pub fn alternatives(names: u8) -> Vec<u8> {
     encode(b"", &table.rows, &[], wanted)
 }
 
-/// The rungs of a ladder that make 64 rows.
+/// The rungs of a ladder that has 64 rows: 32 nested puts.
 pub const RUNGS: usize = 61;
-/// The same if it is climbed again.
+/// The same if it is climbed again: 55 nested puts. Each adds a row, so there cannot be more than 64.
 pub const RUNGS_AGAIN: usize = 59;
 
 /// A ladder: rows "all" along role 0 and its inverse by turns, each about the next lower one. Every element has the top row and
