@@ -1,6 +1,7 @@
-//! Files whose graphs have long ways, so that a cascade of updates nests deep; and files with many alternatives.
+//! Files whose graphs have long ways, so that a cascade of updates goes far or nests deep; and files with many alternatives.
 //!
-//! In order: a shift register with feedback, the longest way; a delay line, with more states but shorter ways; alternatives.
+//! In order: a shift register with feedback, the longest way; a delay line, with more states but shorter ways; a line with a
+//! clock, the deepest nesting of updates; alternatives; a ladder of them, the deepest nesting of puts.
 
 use crate::files::{encode, Table};
 
@@ -104,6 +105,47 @@ pub fn delay_line(delay: Delay, forbid: bool) -> Vec<u8> {
     encode(b"", &table.rows, &[next, name], name)
 }
 
+/// The lengths of a clocked line.
+#[derive(Clone, Copy, Debug)]
+pub struct Clock {
+    /// Steps from one tick to the next: the last goes along role 1, the others along role 0.
+    pub period: usize,
+    /// Steps from a signal's start to its end.
+    pub line: usize,
+    /// Steps along role 2 that the end of a signal asks for.
+    pub tail: usize,
+}
+
+/// 706 nested updates; a search among irregular lines found no more than 712. Each takes a state with two special nodes, and
+/// they take four edges; so in 4,096 edges there cannot be more than 1,024.
+pub const DEEPEST: Clock = Clock { period: 6, line: 41, tail: 2 };
+
+/// A line on which a signal may start with each tick of a clock. Each element asks twice for its successor along role 0, so two
+/// special nodes are linked to the same state, and an update of the first nests. A step along role 1 starts the clock anew;
+/// when it ticks, there are two successors along that role, one of them with a new signal. Signals go on in time with the clock
+/// alone, so a state's set tells the time and which ticks started one: `period` times two to the power of the ticks on the line.
+/// The end of a signal asks for a tail; if `forbid`, the tail's last element clashes. By then the states are all there, and
+/// "never" goes through nearly all of them without coming back.
+pub fn clocked_line(clock: Clock, forbid: bool) -> Vec<u8> {
+    let (step, tick, tail) = (0, 2, 4);
+    let mut table = Table::default();
+    let (name, not_name) = (table.name(0), table.not_name(0));
+    let once = table.some(step, name);
+    let twice = table.some(step, once);
+    let last = if forbid { not_name } else { name };
+    let end = (0..clock.tail).fold(last, |row, _| table.some(tail, row));
+    let signal = (0..clock.line).rev().fold(end, |row, before| {
+        let ticks = before % clock.period == clock.period - 1;
+        table.all(if ticks { tick } else { step }, row)
+    });
+    let mut at_tick = |row| {
+        let successor = table.some(tick, row);
+        (1..clock.period).fold(successor, |row, _| table.all(step, row))
+    };
+    let (with, without) = (at_tick(signal), at_tick(name));
+    encode(b"", &table.rows, &[name, once, twice, with, without], name)
+}
+
 /// An element with so many successors along role 0, each of which asks for another name where it comes from. Each name is an
 /// alternative of every state that lacks it, so there is a state for each set of names.
 pub fn alternatives(names: u8) -> Vec<u8> {
@@ -118,4 +160,32 @@ pub fn alternatives(names: u8) -> Vec<u8> {
         .collect();
     let wanted = successors.into_iter().reduce(|l, r| table.both(l, r)).expect("one name or more");
     encode(b"", &table.rows, &[], wanted)
+}
+
+/// The rungs of a ladder that has 64 rows: 32 nested puts.
+pub const RUNGS: usize = 61;
+/// The same if it is climbed again: 55 nested puts. Each adds a row, so there cannot be more than 64.
+pub const RUNGS_AGAIN: usize = 59;
+
+/// A ladder: rows "all" along role 0 and its inverse by turns, each about the next lower one. Every element has the top row and
+/// a successor along role 0, which asks for one rung more where it comes from; so each state is small and has one alternative,
+/// the next state. Where a set from the top is put when those below are small already, each put nests in the one before.
+///
+/// If `again`, the lowest rung is a successor along the inverse, which asks for the other rungs in the same way, and first for
+/// a successor along role 1. That one has the top row only and climbs all the way, but 4,096 edges do not suffice.
+pub fn ladder(rungs: usize, again: bool) -> Vec<u8> {
+    let (forward, inverse, other) = (0, 1, 2);
+    let mut table = Table::default();
+    let name = table.name(0);
+    let successor = table.some(forward, name);
+    let lowest = if again {
+        let from_top = table.some(other, name);
+        let asks = table.all(forward, from_top);
+        table.some(inverse, asks)
+    } else {
+        table.name(1)
+    };
+    let top =
+        (0..rungs).rev().fold(lowest, |row, above| table.all(if above % 2 == 0 { inverse } else { forward }, row));
+    encode(b"", &table.rows, &[name, successor, top], name)
 }

@@ -10,7 +10,7 @@ pub trait Answering: FnMut(&[u8], &Lent) -> Answer {}
 
 impl<F: FnMut(&[u8], &Lent) -> Answer> Answering for F {}
 
-/// What a caller's thread may have. Updates can nest as deep as there are nodes, and the whole run must do with it.
+/// What a caller's thread may have. Updates can nest a thousand deep, and the whole run must do with it.
 pub const STACK: usize = 1 << 20;
 
 /// Runs on a thread with a stack of so many bytes.

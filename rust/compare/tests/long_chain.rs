@@ -1,8 +1,13 @@
-//! A cascade of updates through a long chain of states, on a small stack.
+//! A cascade of updates through a long chain of states, on a small stack; and how deep updates and puts nest.
 
-use compare::chains::{delay_line, shift_register, CONTENTS, THOUSAND_STATES};
+use compare::chains::{
+    clocked_line, delay_line, ladder, shift_register, CONTENTS, DEEPEST, RUNGS, RUNGS_AGAIN, THOUSAND_STATES,
+};
 use compare::on_stack;
-use plain::{answer, Answer, Lent};
+use plain::graph::{Edge, Graph, Link, Node};
+use plain::status::Status;
+use plain::{answer, tableau, Answer, Lent, RuleFile};
+use std::mem;
 
 const SMALL_STACK: usize = 1 << 17;
 
@@ -40,4 +45,75 @@ fn a_forbidden_end_settles_the_whole_chain() {
 fn a_thousand_states() {
     check_elements(answer_on_small_stack(delay_line(THOUSAND_STATES, false)), 1000);
     check_cannot(answer_on_small_stack(delay_line(THOUSAND_STATES, true)), 2000);
+}
+
+#[test]
+fn a_line_with_a_clock() {
+    check_elements(answer_on_small_stack(clocked_line(DEEPEST, false)), 6 * 128);
+    check_cannot(answer_on_small_stack(clocked_line(DEEPEST, true)), 2600);
+}
+
+#[test]
+fn ladders() {
+    check_elements(answer_on_small_stack(ladder(RUNGS, false)), 2);
+    assert!(matches!(answer_on_small_stack(ladder(RUNGS_AGAIN, true)), Answer::Short(_)));
+}
+
+fn graph_of(file: &[u8]) -> Graph {
+    let file = RuleFile::read(file).expect("a file that is accepted");
+    tableau::run(&file, Lent::most().capacity()).expect("places for all records")
+}
+
+/// How deep the updates nest when "never" starts at the one node that clashes, in a graph without branches: there every parent
+/// of a node that is never becomes so.
+fn nested_updates(graph: &Graph) -> usize {
+    let is_clash = |node: &Node| !node.is_state() && node.link == Link::None;
+    let clash = graph.nodes.iter().position(is_clash).expect("a node that clashes");
+    let mut never = vec![false; graph.nodes.len()];
+    never[clash] = true;
+    let deepest = nested_calls(graph, clash, &mut never);
+    let statuses = graph.nodes.iter().map(|node| node.status == Status::Unsat);
+    assert!(never.into_iter().eq(statuses), "the cascade of the run goes the same way");
+    deepest
+}
+
+/// Updates the parents of a node. Those of its last parent are updated in the loop, those of another by a nested call.
+fn nested_calls(graph: &Graph, mut node: usize, never: &mut [bool]) -> usize {
+    let mut deepest = 0;
+    loop {
+        let parents = graph.parents(node);
+        let Some((&last, others)) = parents.split_last() else { return deepest };
+        for &parent in others {
+            if !mem::replace(&mut never[parent], true) {
+                deepest = deepest.max(1 + nested_calls(graph, parent, never));
+            }
+        }
+        if mem::replace(&mut never[last], true) {
+            return deepest;
+        }
+        node = last;
+    }
+}
+
+#[test]
+fn updates_nest() {
+    assert_eq!(nested_updates(&graph_of(&delay_line(THOUSAND_STATES, true))), 189);
+    assert_eq!(nested_updates(&graph_of(&clocked_line(DEEPEST, true))), 706);
+}
+
+/// How deep the puts nest, in a graph without branches: special nodes of which each is put under the one just made.
+fn nested_puts(graph: &Graph) -> usize {
+    let is_nested = |n: usize| !graph.nodes[n - 1].is_state() && graph.edges.contains(&Edge { from: n - 1, to: n });
+    let is_special = |n: usize| !graph.nodes[n].is_state();
+    let mut puts = 0;
+    let depths = (1..graph.nodes.len()).filter(|&n| is_special(n)).map(|n| {
+        puts = if is_nested(n) { puts + 1 } else { 1 };
+        puts
+    });
+    depths.max().expect("a node that was put")
+}
+
+#[test]
+fn puts_nest() {
+    assert_eq!(nested_puts(&graph_of(&ladder(RUNGS, false))), 32);
 }

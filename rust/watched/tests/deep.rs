@@ -1,6 +1,6 @@
 //! The deepest chains on a stack of 1 MiB, in areas of the most records that count.
 
-use compare::chains::{delay_line, shift_register, THOUSAND_STATES};
+use compare::chains::{clocked_line, delay_line, ladder, shift_register, DEEPEST, RUNGS, RUNGS_AGAIN, THOUSAND_STATES};
 use compare::checks::STACK;
 use compare::on_stack;
 use plain::{print, Lent};
@@ -25,4 +25,16 @@ fn never_goes_back_through_a_long_chain() {
 fn never_goes_through_a_thousand_states() {
     check(delay_line(THOUSAND_STATES, true), "CANNOT\n");
     check(delay_line(THOUSAND_STATES, false), "CAN ");
+}
+
+#[test]
+fn updates_nest_deepest() {
+    check(clocked_line(DEEPEST, true), "CANNOT\n");
+    check(clocked_line(DEEPEST, false), "CAN ");
+}
+
+#[test]
+fn puts_nest_deepest() {
+    check(ladder(RUNGS, false), "CAN ");
+    check(ladder(RUNGS_AGAIN, true), "REFUSED 10\n");
 }
