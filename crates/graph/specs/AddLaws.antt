@@ -104,7 +104,8 @@ module _ (k : G.Capacity) (x y : ℕ) (g : G.Graph) where
   edge-none h = picks-second (G.reached (G.appendEdge x y g)) (G.noPlace G.edgeArea) (ltb (length (g .edges)) (k .edgeRoom)) (le-ltb _ _ h)
 
 -- nodes that read as before, and one edge more
-graph-append-edge : (n n′ : Bytes) {e e′ : Bytes} (c : Counts) (x y : ℕ) → ((z : ℕ) → nodeIn n′ z ≡ nodeIn n z) → Stored edgeIn e e′ (c .edges) (record { from = x; to = y }) → (a : Bytes)
+graph-append-edge : (n n′ : Bytes) {e e′ : Bytes} (c : Counts) (x y : ℕ) → ((z : ℕ) → nodeIn n′ z ≡ nodeIn n z)
+    → Stored edgeIn e e′ (c .edges) (record { from = x; to = y }) → (a : Bytes)
     → graphOf (work n′ e′ a) (moreEdges c) ≡ G.appendEdge x y (graphOf (work n e a) c)
 unfolding graphOf
 graph-append-edge n n′ c x y same s a = cc (records-same nodeIn same (c .nodes), records-append edgeIn s)

@@ -16,7 +16,7 @@ use Rattle.concepts.specs.RowSet.{RowSet}
 use Rattle.procedure.specs.Status.{isUnset}
 use Rattle.procedure.specs.Graph as G
 use Rattle.words.specs.Sizes.{edgeSize, alternativeSize}
-use Rattle.records.specs.Areas.{Bytes, FirstAt, chosenFrom}
+use Rattle.records.specs.Areas.{Bytes, recordsIn, chosenFrom}
 use Rattle.records.specs.AreaLaws.{getD-records, records-kept, chosen-found, chosen-end}
 use Rattle.rowset.specs.Value.{valueOf}
 use Rattle.rowset.specs.declared.RowSet as Rows
@@ -165,36 +165,40 @@ module _ (g h : G.Graph) (x i count : ℕ) where
 
 -- ---- a step along a chain is what a search finds
 
--- the keys by the bytes are those by the graph
-module _ (w : Work) (c : Counts) where
-  start-of : (j : ℕ) → j < c .edges → startOf (graphOf w c) j ≡ keyIn childPlaces (w .edges) j
-  unfolding graphOf edgeIn
-  start-of j l = ap (λ (d : G.Edge). d .from) (getD-records edgeIn (w .edges) (c .edges) j _ l)
+-- for any kind of record: they are read by `read`, belong to a node by `keyOf`, which stands at the key's place, and are worth `worth`
+module _ {A B : Type 0} (p : Places) (read : Bytes → ℕ → A) (keyOf : A → ℕ) (worth : A → B) (missing : A) (keyed : (b : Bytes) (j : ℕ) → keyOf (read b j) ≡ keyIn p b j) where
+  -- the key of record j, and what the records of x are worth, among the first `count` records
+  abbrev keyAt : Bytes → ℕ → ℕ → ℕ
+  keyAt b count j = keyOf (getD (recordsIn read b count) j missing)
 
-  end-of : (j : ℕ) → j < c .edges → endOf (graphOf w c) j ≡ keyIn parentPlaces (w .edges) j
-  unfolding graphOf edgeIn
-  end-of j l = ap (λ (d : G.Edge). d .to) (getD-records edgeIn (w .edges) (c .edges) j _ l)
+  abbrev restFrom : Bytes → ℕ → ℕ → ℕ → List B
+  restFrom b count x = chosenFrom (λ d. eqb (keyOf d) x) worth (recordsIn read b count)
 
-  owner-of : (j : ℕ) → j < c .alternatives → ownerOf (graphOf w c) j ≡ keyIn alternativePlaces (w .alternatives) j
-  unfolding graphOf alternativeIn
-  owner-of j l = ap (λ (d : G.Alternative). d .owner) (getD-records alternativeIn (w .alternatives) (c .alternatives) j _ l)
+  -- from place `from` of the chain of x on, the chain gives record i
+  module _ (n b : Bytes) {m k count x from i : ℕ} (C : ChainIn p n b m k) (h : x < m) (few : count ≤ k) (l : from ≤ count)
+      (o : Behind (keyAt b count) x from) (s : i ≡ following (nextIn p b) (firstIn p n) x from) where
+    key-here : (j : ℕ) → j < count → keyAt b count j ≡ keyIn p b j
+    key-here j q = ap keyOf (getD-records read b count j missing q) ∙ keyed b j
 
--- from place `from` of the chain of x on, among the first `count` records, the chain gives record i
-module _ (p : Places) (n b : Bytes) {m k count x from i : ℕ} (C : ChainIn p n b m k) (h : x < m) (few : count ≤ k) (l : from ≤ count)
-    (key : ℕ → ℕ) (same : (j : ℕ) → j < count → key j ≡ keyIn p b j) (o : Behind key x from) (s : i ≡ following (nextIn p b) (firstIn p n) x from) where
-  along : First (keyIn p b) x from k i
-  along = rw s (chain-follows C h from (omega arith) (behind-same (λ j q. sym (same j q)) x from l o))
+    along : First (keyIn p b) x from k i
+    along = rw s (chain-follows C h from (omega arith) (behind-same (λ j q. sym (key-here j q)) x from l o))
 
-  along-found : i < count → FirstAt (λ j. eqb (keyIn p b j) x) from count i
-  along-found q = first-found along (C .few) count few q
+    tests : (j : ℕ) → eqb (keyIn p b j) x ≡ eqb (keyOf (read b j)) x
+    tests j = ap (λ (v : ℕ). eqb v x) (sym (keyed b j))
 
-  along-end : count ≤ i → FirstAt (λ j. eqb (keyIn p b j) x) from count count
-  along-end q = first-end along (C .few) count few l q
+    along-next : i < count → (from ≤ i) × (i < count) × (restFrom b count x from ≡ worth (read b i) ∷ restFrom b count x (i + 1)) × Behind (keyAt b count) x (i + 1)
+    along-next q =
+        let f = first-found along (C .few) count few q in
+        let e : suc i ≡ i + 1 = omega arith in (
+          f .start,
+          q,
+          chosen-found (λ d. eqb (keyOf d) x) worth read b count from i (λ j. eqb (keyIn p b j) x) tests f q,
+          subst (λ (v : ℕ). Behind (keyAt b count) x v) e (key-here i q ∙ along .found (omega (arith, C .few)) .2),
+        )
 
-  along-place : i < count → Behind key x (i + 1)
-  along-place q =
-      let e : suc i ≡ i + 1 = omega arith in
-      subst (λ (v : ℕ). Behind key x v) e (same i q ∙ along .found (omega (arith, C .few)) .2)
+    along-end : count ≤ i → restFrom b count x from ≡ []
+    along-end q =
+        chosen-end (λ d. eqb (keyOf d) x) worth read b count from count (λ j. eqb (keyIn p b j) x) tests (first-end along (C .few) count few l q) (omega arith)
 
 module _ {n e a : Bytes} {c d : Counts} (H : Held (work n e a) d) (grown : Grown c d) where
   -- the graph with counts c
@@ -208,57 +212,40 @@ module _ {n e a : Bytes} {c d : Counts} (H : Held (work n e a) d) (grown : Grown
     module _ {i : ℕ} (o : AmongChildren g x from) (s : i ≡ following (nextIn childPlaces e) (firstIn childPlaces n) x from) where
       pub child-next : (y : ℕ) → y ≡ edgeIn e i .to → i < c .edges → IsNext (Node.At i y) from (c .edges) (childrenFrom g x) (AmongChildren g x)
       unfolding childrenFrom graphOf edgeIn
-      child-next y p h =
-          let f = along-found childPlaces n e (H .chains .children) there (grown .edges) (walks .place) (startOf g) (start-of (work n e a) c) o s h in (
-            f .start,
-            h,
-            rw p (chosen-found (λ (d : G.Edge). eqb (d .from) x) (λ (d : G.Edge). d .to) edgeIn e (c .edges) from i _ (λ k. refl) f h),
-            along-place childPlaces n e (H .chains .children) there (grown .edges) (walks .place) (startOf g) (start-of (work n e a) c) o s h,
-          )
+      child-next y q h =
+          rw q (along-next childPlaces edgeIn (λ (d : G.Edge). d .from) (λ (d : G.Edge). d .to) noEdge (λ b j. refl) n e (H .chains .children) there (grown .edges) (walks .place) o s h)
 
       pub child-end : c .edges ≤ i → IsNext Node.End from (c .edges) (childrenFrom g x) (AmongChildren g x)
       unfolding childrenFrom graphOf edgeIn
-      child-end h =
-          chosen-end (λ (d : G.Edge). eqb (d .from) x) (λ (d : G.Edge). d .to) edgeIn e (c .edges) from (c .edges) _ (λ k. refl)
-          (along-end childPlaces n e (H .chains .children) there (grown .edges) (walks .place) (startOf g) (start-of (work n e a) c) o s h) (omega arith)
+      child-end h = along-end childPlaces edgeIn (λ (d : G.Edge). d .from) (λ (d : G.Edge). d .to) noEdge (λ b j. refl) n e (H .chains .children) there (grown .edges) (walks .place) o s h
 
     module _ {i : ℕ} (o : AmongParents g x from) (s : i ≡ following (nextIn parentPlaces e) (firstIn parentPlaces n) x from) where
       pub parent-next : (y : ℕ) → y ≡ edgeIn e i .from → i < c .edges → IsNext (Node.At i y) from (c .edges) (parentsFrom g x) (AmongParents g x)
       unfolding parentsFrom graphOf edgeIn
-      parent-next y p h =
-          let f = along-found parentPlaces n e (H .chains .parents) there (grown .edges) (walks .place) (endOf g) (end-of (work n e a) c) o s h in (
-            f .start,
-            h,
-            rw p (chosen-found (λ (d : G.Edge). eqb (d .to) x) (λ (d : G.Edge). d .from) edgeIn e (c .edges) from i _ (λ k. refl) f h),
-            along-place parentPlaces n e (H .chains .parents) there (grown .edges) (walks .place) (endOf g) (end-of (work n e a) c) o s h,
-          )
+      parent-next y q h =
+          rw q (along-next parentPlaces edgeIn (λ (d : G.Edge). d .to) (λ (d : G.Edge). d .from) noEdge (λ b j. refl) n e (H .chains .parents) there (grown .edges) (walks .place) o s h)
 
       pub parent-end : c .edges ≤ i → IsNext Node.End from (c .edges) (parentsFrom g x) (AmongParents g x)
       unfolding parentsFrom graphOf edgeIn
-      parent-end h =
-          chosen-end (λ (d : G.Edge). eqb (d .to) x) (λ (d : G.Edge). d .from) edgeIn e (c .edges) from (c .edges) _ (λ k. refl)
-          (along-end parentPlaces n e (H .chains .parents) there (grown .edges) (walks .place) (endOf g) (end-of (work n e a) c) o s h) (omega arith)
+      parent-end h = along-end parentPlaces edgeIn (λ (d : G.Edge). d .to) (λ (d : G.Edge). d .from) noEdge (λ b j. refl) n e (H .chains .parents) there (grown .edges) (walks .place) o s h
 
   module _ {x from i : ℕ} (walks : Walks alternativeSize n a (c .nodes) (c .alternatives) x from) (o : AmongAlternatives g x from)
       (s : i ≡ following (nextIn alternativePlaces a) (firstIn alternativePlaces n) x from) where
+    state-there : x < d .nodes
+    state-there = omega (arith, walks .node, grown .nodes)
+
     pub alternative-next : (v : Rows.RowSet) → valueOf v ≡ alternativeIn a i .rows → i < c .alternatives
         → IsNextAlternative (Set.At i v) from (c .alternatives) (alternativesFrom g x) (AmongAlternatives g x)
     unfolding alternativesFrom graphOf alternativeIn
-    alternative-next v p h =
-        let t : x < d .nodes = omega (arith, walks .node, grown .nodes) in
-        let f = along-found alternativePlaces n a (H .chains .alternatives) t (grown .alternatives) (walks .place) (ownerOf g) (owner-of (work n e a) c) o s h in (
-          f .start,
-          h,
-          rw p (chosen-found (λ (d : G.Alternative). eqb (d .owner) x) (λ (d : G.Alternative). d .rows) alternativeIn a (c .alternatives) from i _ (λ k. refl) f h),
-          along-place alternativePlaces n a (H .chains .alternatives) t (grown .alternatives) (walks .place) (ownerOf g) (owner-of (work n e a) c) o s h,
-        )
+    alternative-next v q h =
+        rw q (along-next alternativePlaces alternativeIn (λ (d : G.Alternative). d .owner) (λ (d : G.Alternative). d .rows) noAlternative (λ b j. refl) n a
+        (H .chains .alternatives) state-there (grown .alternatives) (walks .place) o s h)
 
     pub alternative-end : c .alternatives ≤ i → IsNextAlternative Set.End from (c .alternatives) (alternativesFrom g x) (AmongAlternatives g x)
     unfolding alternativesFrom graphOf alternativeIn
     alternative-end h =
-        let t : x < d .nodes = omega (arith, walks .node, grown .nodes) in
-        chosen-end (λ (d : G.Alternative). eqb (d .owner) x) (λ (d : G.Alternative). d .rows) alternativeIn a (c .alternatives) from (c .alternatives) _ (λ k. refl)
-        (along-end alternativePlaces n a (H .chains .alternatives) t (grown .alternatives) (walks .place) (ownerOf g) (owner-of (work n e a) c) o s h) (omega arith)
+        along-end alternativePlaces alternativeIn (λ (d : G.Alternative). d .owner) (λ (d : G.Alternative). d .rows) noAlternative (λ b j. refl) n a
+        (H .chains .alternatives) state-there (grown .alternatives) (walks .place) o s h
 
 -- ---- a search through the alternatives of a state
 

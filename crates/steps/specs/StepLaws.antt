@@ -52,7 +52,8 @@ module _ {n n′ : Bytes} {c : Counts} {first : Step} (v : G.Node) (adds : AddsN
 -- ---- a node with the edge to it
 
 module _ {n n′ e : Bytes} {c : Counts} {first : Step} (x : ℕ) (v : G.Node) (adds : AddsNode n n′ c first (λ k g. G.addNode k v g)) where
-  pub child-done : {n″ e′ : Bytes} {d : Counts} {s : Step} → first ≡ Done d → AddsEdge n′ n″ e e′ d s (λ k g. G.addEdge k x (c .nodes) g) → AddsBelow n n″ e e′ c s (addChild x v)
+  pub child-done : {n″ e′ : Bytes} {d : Counts} {s : Step} → first ≡ Done d → AddsEdge n′ n″ e e′ d s (λ k g. G.addEdge k x (c .nodes) g)
+      → AddsBelow n n″ e e′ c s (addChild x v)
   child-done w edge a h = node-then v adds w (λ m k g. G.addEdge k x m g) h (λ held. edge a held)
 
   pub child-full : {p : Area} → first ≡ Full p → AddsBelow n n′ e e c (Full p) (addChild x v)
