@@ -1,7 +1,7 @@
 //! Files whose graphs have long ways, so that a cascade of updates goes far or nests deep; and files with many alternatives.
 //!
 //! In order: a shift register with feedback, the longest way; a delay line, with more states but shorter ways; a line with a
-//! clock, the deepest nesting of updates; alternatives; a ladder of them, the deepest nesting of puts.
+//! clock, in which updates nest deep; alternatives; a ladder of them, in which puts nest deep.
 
 use crate::files::{encode, Table};
 

@@ -1,4 +1,4 @@
-//! The deepest chains on a stack of 1 MiB, in areas of the most records that count.
+//! Long chains, and updates and puts that nest deep, on a stack of 1 MiB, in areas of the most records that count.
 
 use compare::chains::{clocked_line, delay_line, ladder, shift_register, DEEPEST, RUNGS, RUNGS_AGAIN, THOUSAND_STATES};
 use compare::checks::STACK;
@@ -28,13 +28,13 @@ fn never_goes_through_a_thousand_states() {
 }
 
 #[test]
-fn updates_nest_deepest() {
+fn updates_nest_deep() {
     check(clocked_line(DEEPEST, true), "CANNOT\n");
     check(clocked_line(DEEPEST, false), "CAN ");
 }
 
 #[test]
-fn puts_nest_deepest() {
+fn puts_nest_deep() {
     check(ladder(RUNGS, false), "CAN ");
     check(ladder(RUNGS_AGAIN, true), "REFUSED 10\n");
 }
