@@ -11,10 +11,10 @@ use mathlib.Core.Logic.{_⊎_, inl, inr}
 use mathlib.Core.Option.{Option, none, some}
 use Prim.Native.Nat.{ℕ, zero, suc, _+_, _≤_, _<_}
 use native.Mathlib.Nat.{not-suc-le-zero, le-of-suc-le-suc}
-use native.Mathlib.Decide.{ℕ-discrete}
+use native.Mathlib.Decide.{ℕ-discrete, decLt}
 use native.Mathlib.Omega.{arith}
 use lib.Dec.{T, T-not, not-T}
-use lib.ListN.{length, getD, take, drop, length-map, length-drop}
+use lib.ListN.{length, getD, take, drop, length-map, length-drop, List·getD-eq-default}
 use lib.Seq.{length-take-le, getD-take, getD-drop, ext-getD}
 use Rattle.concepts.specs.Lists.{range, NoneBelow, select, any, every, provided, consAnswer, answers, first}
 use Rattle.concepts.specs.Tests.{impossible, or-cases, or-left, or-right, and-both, by-test, as-true, as-false, from-true, from-false}
@@ -101,6 +101,13 @@ module _ {A : Type 0} where
 
   pub length-map-range : (f : ℕ → A) (i n : ℕ) → length (map f (range i n)) ≡ n
   length-map-range f i n = length-map (range i n) f ∙ length-range i n
+
+  -- an element of a mapped range, or what stands for none
+  pub map-range-cases : (P : A → Type 0) (f : ℕ → A) (n k : ℕ) (d : A) → (k < n → P (f k)) → (n ≤ k → P d) → P (getD (map f (range 0 n)) k d)
+  map-range-cases P f n k d inside past = elim (decLt k n) [
+    | yes h ↦ subst P (sym (getD-map-range f 0 n k d h ∙ ap f (omega arith))) (inside h)
+    | no g ↦ subst P (sym (List·getD-eq-default (map f (range 0 n)) d (omega (arith, length-map-range f 0 n)))) (past (omega arith))
+  ]
 
   pub range-snoc : (f : ℕ → A) (i n : ℕ) → map f (range i (suc n)) ≡ map f (range i n) ++ f (i + n) ∷ []
   unfolding range

@@ -1,4 +1,4 @@
--- A row of a rule file: its four bytes and its concept (01, The rule file; check 5).
+-- A row of a rule file or of a draft: its four bytes and its concept (01, The rule file; check 5; 02, [1]).
 --
 -- In order: the kinds that are allowed; a row by its kind; the decoding, from which both "malformed" and the concept come. Laws are in DecodingLaws.
 -- Assumes nothing.
@@ -7,7 +7,7 @@ use mathlib.Core.Option.{Option, none, some}
 use Prim.Native.Nat.{ℕ, _+_}
 use lib.Dec.{eqb, leb}
 use Rattle.concepts.specs.RowSet.{mem}
-use Rattle.concepts.specs.Concept.{Concept, atomic, negated, conj, disj, univ, exist}
+use Rattle.concepts.specs.Concept.{Concept, atomic, negated, conj, disj, univ, exist, neg, impl}
 
 -- ---- the kinds that are allowed
 
@@ -19,13 +19,17 @@ Kinds = ℕ
 abbrev pub ruleKinds : Kinds
 ruleKinds = 2 + 4 + 8 + 16 + 32 + 64
 
+-- "A draft is a rule file with two more kinds": 8 and 9
+abbrev pub draftKinds : Kinds
+draftKinds = ruleKinds + 256 + 512
+
 -- ---- a row, by its kind
 
 -- the concept, if its bytes pass a test
 abbrev pub only : Bool → Concept → Option Concept
 only test c = cond test (some c) none
 
--- the concept of four bytes by their kind: none for a kind outside 1 to 6, "a non-zero unused byte, a role above 31 or a name above 63"
+-- the concept of four bytes by their kind: none for a kind that there is not, "a non-zero unused byte, a role above 31 or a name above 63"
 unfoldable pub ofKind : ℕ → ℕ → ℕ → ℕ → Option Concept
 ofKind kind role left right =
     cond (eqb kind 1) (only (eqb role 0 && (eqb right 0 && leb left 63)) (atomic left))
@@ -34,7 +38,9 @@ ofKind kind role left right =
     (cond (eqb kind 4) (only (eqb role 0) (disj left right))
     (cond (eqb kind 5) (only (eqb right 0 && leb role 31) (univ role left))
     (cond (eqb kind 6) (only (eqb right 0 && leb role 31) (exist role left))
-    none)))))
+    (cond (eqb kind 8) (only (eqb role 0 && eqb right 0) (neg left))
+    (cond (eqb kind 9) (only (eqb role 0) (impl left right))
+    none)))))))
 
 -- the one decoding of a row: none if its kind is not allowed or its bytes are not as the kind uses them
 unfoldable pub decode : Kinds → ℕ → ℕ → ℕ → ℕ → Option Concept

@@ -25,5 +25,5 @@ rowsOf o = elim o [ some ls ↦ ls | none ↦ [] ]
 abbrev pub namedBy : Row → Option (List ℕ)
 namedBy Row.Malformed = none
 namedBy Row.Literal = some []
-namedBy (Row.Modal l) = some (l ∷ [])
+namedBy (Row.Unary l) = some (l ∷ [])
 namedBy (Row.Binary l r) = some (l ∷ r ∷ [])

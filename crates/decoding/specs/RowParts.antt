@@ -3,7 +3,7 @@
 -- In order: the kind; the left and the right part, 0 if there is none. Its role is `roleOf` of Concept. Laws are in RowPartLaws.
 -- Assumes nothing.
 use Prim.Native.Nat.{ℕ}
-use Rattle.concepts.specs.Concept.{Concept, atomic, negated, conj, disj, univ, exist}
+use Rattle.concepts.specs.Concept.{Concept, atomic, negated, conj, disj, univ, exist, neg, impl}
 
 unfoldable pub kindOf : Concept → ℕ
 kindOf (atomic a) = 1
@@ -12,6 +12,8 @@ kindOf (conj l r) = 3
 kindOf (disj l r) = 4
 kindOf (univ ρ l) = 5
 kindOf (exist ρ l) = 6
+kindOf (neg l) = 8
+kindOf (impl l r) = 9
 
 -- the name, or the first argument
 unfoldable pub leftOf : Concept → ℕ
@@ -21,6 +23,8 @@ leftOf (conj l r) = l
 leftOf (disj l r) = l
 leftOf (univ ρ l) = l
 leftOf (exist ρ l) = l
+leftOf (neg l) = l
+leftOf (impl l r) = l
 
 unfoldable pub rightOf : Concept → ℕ
 rightOf (atomic a) = 0
@@ -29,3 +33,5 @@ rightOf (conj l r) = r
 rightOf (disj l r) = r
 rightOf (univ ρ l) = 0
 rightOf (exist ρ l) = 0
+rightOf (neg l) = 0
+rightOf (impl l r) = r

@@ -1,4 +1,4 @@
-// A row of a rule file, from its four bytes (01, The rule file).
+// A row of a rule file or of a draft, from its four bytes (01, The rule file; 02, [1]).
 //
 // In order: the rows that a row names; the bounds; which kinds are allowed; the decoding; what checks 5 and 6 ask of a decoded row.
 // Which kinds of rows are allowed is a parameter, `kinds`: kind n as bit n.
@@ -10,11 +10,11 @@ ghost use Rattle.concepts.specs.Lists.{any};
 ghost use Rattle.concepts.specs.RowSet.{mem};
 ghost use Rattle.decoding.specs.Named.{namedRows, namedBy, isMalformed, rowsOf};
 
-// The rows that a row names, by what its kind uses: a name, a role and a row, two rows.
+// The rows that a row names, by what its kind uses: a name, one row, two rows.
 pub enum Row {
     Malformed,
     Literal,
-    Modal(u8),
+    Unary(u8),
     Binary(u8, u8),
 }
 
@@ -25,6 +25,9 @@ const LAST_ROLE: u8 = 31;
 
 // The kinds of a rule file, 1 to 6.
 pub const RULE_KINDS: u16 = 2 + 4 + 8 + 16 + 32 + 64;
+
+// The kinds of a draft: 8, "not the left row", and 9, "if left then right", too.
+pub const DRAFT_KINDS: u16 = RULE_KINDS + 256 + 512;
 
 // Whether a kind is allowed.
 fn allowed(kinds: u16, kind: u8) -> bool
@@ -60,7 +63,13 @@ pub fn decode(kinds: u16, kind: u8, role: u8, left: u8, right: u8) -> Row
         return only(role == 0, Row::Binary(left, right));
     }
     if (kind == 5) | (kind == 6) {
-        return only((right == 0) & (role <= LAST_ROLE), Row::Modal(left));
+        return only((right == 0) & (role <= LAST_ROLE), Row::Unary(left));
+    }
+    if kind == 8 {
+        return only((role == 0) & (right == 0), Row::Unary(left));
+    }
+    if kind == 9 {
+        return only(role == 0, Row::Binary(left, right));
     }
     Row::Malformed
 }
@@ -72,7 +81,7 @@ pub fn is_malformed(row: Row) -> bool
     match row {
         Row::Malformed => true,
         Row::Literal => false,
-        Row::Modal(_) => false,
+        Row::Unary(_) => false,
         Row::Binary(_, _) => false,
     }
 }
@@ -84,7 +93,7 @@ pub fn names_from(row: Row, k: usize) -> bool
     match row {
         Row::Malformed => false,
         Row::Literal => false,
-        Row::Modal(l) => k <= l as usize,
+        Row::Unary(l) => k <= l as usize,
         Row::Binary(l, r) => (k <= l as usize) | (k <= r as usize),
     }
 }

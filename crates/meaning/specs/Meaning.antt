@@ -1,4 +1,4 @@
--- The meaning of ALCI (01, The meaning of ALCI).
+-- The meaning of ALCI (01, The meaning of ALCI), and of the two further kinds of rows that a draft has (02, [1]).
 --
 -- In order: interpretations; what a role code leads to; when a row holds at an element; finite worlds; models.
 -- `Holds` is stated over any choice of elements, so that worlds without an end are one more instance.
@@ -9,7 +9,7 @@ use mathlib.Core.List.{List, List·Memᴰ}
 use mathlib.Core.Logic.{_⊎_}
 use Prim.Native.Nat.{ℕ, zero, suc, _/_, _%_, _<_}
 use lib.Dec.{T, eqb}
-use Rattle.concepts.specs.Concept.{Concept, atomic, negated, conj, disj, univ, exist, Table, conceptAt}
+use Rattle.concepts.specs.Concept.{Concept, atomic, negated, conj, disj, univ, exist, neg, impl, Table, conceptAt}
 
 -- an interpretation: which numbers are elements, where each name holds, and which pairs belong to each role
 pub record Interpretation : Type 1 where
@@ -29,6 +29,9 @@ Means I H (conj l r) d = H l d × H r d
 Means I H (disj l r) d = H l d ⊎ H r d
 Means I H (univ ρ l) d = (e : ℕ) → I .Element e → T (leads I ρ d e) → H l e
 Means I H (exist ρ l) d = (e : ℕ) × I .Element e × T (leads I ρ d e) × H l e
+-- "8, not the left row, and 9, if left then right"
+Means I H (neg l) d = H l d → ⊥
+Means I H (impl l r) d = H l d → H r d
 
 -- row k holds at d, for rows below a bound; arguments are lower rows, so the bound falls with them
 unfoldable pub HoldsBelow : Interpretation → Table → ℕ → ℕ → ℕ → Type 0

@@ -9,19 +9,18 @@ use mathlib.Core.List.{List, List·Memᴰ}
 use Prim.Native.Nat.{ℕ, _-_, _≤_, _<_}
 use native.Mathlib.Decide.{ℕ-discrete}
 use native.Mathlib.Omega.{arith}
-use lib.Dec.{eqb, ltb}
+use lib.Dec.{T, eqb, ltb}
 use lib.ListN.{length, List·getD-eq-default}
 use borrow.Author.Tests.{ne-eqb, ltb-true}
 use Rattle.concepts.specs.Tests.{and-nothing}
-use Rattle.concepts.specs.ListLaws.{length-map-range, getD-map-range}
-use Rattle.concepts.specs.Concept.{atomic, conceptAt, arguments, roleOf}
+use Rattle.concepts.specs.ListLaws.{length-map-range, getD-map-range, map-range-cases}
+use Rattle.concepts.specs.Concept.{Concept, atomic, conceptAt, arguments, roleOf, isNormal, Normal}
 use Rattle.concepts.specs.RowSet.{RowSet, mem, empty}
 use Rattle.concepts.specs.RowSetLaws.{mem-empty}
 use Rattle.procedure.specs.Problem.{problem, WellPosed}
 use Rattle.procedure.specs.ProblemLaws.{one-name-opposed}
-use Rattle.decoding.specs.DecodingLaws.{role-small}
 use Rattle.decoding.specs.RowParts.{kindOf}
-use Rattle.decoding.specs.RowPartLaws.{Parts, row-parts}
+use Rattle.decoding.specs.RowPartLaws.{Parts, row-parts, role-small, rule-kinds-normal}
 use Rattle.rowset.specs.Value.{width}
 use Rattle.problem.specs.Rows.{tableIn}
 use Rattle.problem.specs.Decoded.{countOf, partOf, rowOf, tableOf, problemOf, Picked, universal, Decoded, DecodedFrom}
@@ -41,7 +40,7 @@ module _ {w : List ℕ} (ok : Decoded w) where
 
   module _ (k : ℕ) (h : k < countOf w) where
     pub word-parts : Parts (partOf w k 0) (partOf w k 1) (partOf w k 2) (partOf w k 3) (conceptAt (tableOf w) k)
-    word-parts = rw (concept-tableOf w k h) (row-parts (partOf w k 0) (partOf w k 1) (partOf w k 2) (partOf w k 3) (ok .formed k h))
+    word-parts = rw (concept-tableOf w k h) (row-parts _ (partOf w k 0) (partOf w k 1) (partOf w k 2) (partOf w k 3) (ok .formed k h))
 
     argument-lt : (l : ℕ) → List·Memᴰ l (arguments (conceptAt (tableOf w) k)) → l < width
     argument-lt l m = omega (arith, ok .ordered k l m, ok .few)
@@ -77,6 +76,12 @@ module _ {w : List ℕ} (ok : Decoded w) where
     | no d ↦ role-lt k (omega arith)
   ]
 
+  rows-normal : Normal (tableOf w)
+  unfolding tableOf
+  rows-normal k =
+      map-range-cases (λ (c : Concept). T (isNormal c)) (rowOf w) (countOf w) k (atomic 0)
+      (λ h. rule-kinds-normal (partOf w k 0) (partOf w k 1) (partOf w k 2) (partOf w k 3)) (λ h. tt)
+
   -- what the procedure relies on
   pub decoded-posed : WellPosed (problemOf w)
   decoded-posed = record {
@@ -85,6 +90,7 @@ module _ {w : List ℕ} (ok : Decoded w) where
     wantedRows = ok .wantedRows;
     univRole = λ k ρ l e. unfold roleOf in (rw e at (role-all k));
     existRole = λ k ρ l e. unfold roleOf in (rw e at (role-all k));
+    normal = rows-normal;
     names = λ j k a p q. one-name-opposed (tableOf w) j k a p q;
   }
 

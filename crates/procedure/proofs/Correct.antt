@@ -10,7 +10,7 @@ use mathlib.Core.Logic.{_⊎_}
 use mathlib.Core.Option.{some}
 use Prim.Native.Nat.{ℕ}
 use lib.Dec.{T}
-use Rattle.concepts.specs.Concept.{Table, WellFormed}
+use Rattle.concepts.specs.Concept.{Table, WellFormed, Normal}
 use Rattle.concepts.specs.RowSetLaws.{mem-fromList}
 use Rattle.meaning.specs.Meaning.{Model, finite, Obeys, Member}
 use Rattle.procedure.specs.Problem.{Problem, WellPosed, problem}
@@ -27,12 +27,12 @@ use Rattle.procedure.proofs.Can.{goodIf}
 use Rattle.procedure.proofs.Model.{ExampleRight}
 use Rattle.procedure.proofs.Outcome as Outcome
 
-module _ (t : Table) (c : Capacity) (tbox wanted : List ℕ) (W : WellFormed t tbox wanted) where
+module _ (t : Table) (c : Capacity) (tbox wanted : List ℕ) (W : WellFormed t tbox wanted) (N : Normal t) where
   abbrev P : Problem
   P = problem t tbox wanted
 
   abbrev posed : WellPosed P
-  posed = well-posed t tbox wanted W
+  posed = well-posed t tbox wanted W N
 
   abbrev pub runOf : Result
   runOf = run P c

@@ -97,7 +97,7 @@ module _ (P : Problem) (g : Graph) (good : Status → Bool) (codes : (k ρ l : �
       nonempty = omega (arith, written-size g w)
 
       holds : (k d : ℕ) → k < length (P .table) → d < size (written g w) → T (mem k (nodeAt g (stateAt w d) .rows)) → Holds (finite (worldOf (P .table) (written g w))) (P .table) k d
-      holds k d b h m = truth (P .table) (written g w) (posed .ordered) written-hintikka k d b h (subst (λ (u : RowSet). T (mem k u)) (sym (written-set g w d h)) m)
+      holds k d b h m = truth (P .table) (written g w) (posed .ordered) (posed .normal) written-hintikka k d b h (subst (λ (u : RowSet). T (mem k u)) (sym (written-set g w d h)) m)
 
       whole : edgesFrom g (take (length (w .states)) (w .states)) ≡ edgesFrom g (w .states)
       whole = ap (edgesFrom g) (take-length (w .states))

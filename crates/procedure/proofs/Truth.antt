@@ -17,7 +17,7 @@ use borrow.Author.Tests.{eq-eqb, ne-eqb}
 use Rattle.concepts.specs.Tests.{or-cases, or-left, or-right}
 use Rattle.concepts.specs.ListLaws.{any-mem, mem-any}
 use Rattle.concepts.specs.Role.{inverse, inverse-even, inverse-odd, inverse-inverse}
-use Rattle.concepts.specs.Concept.{Concept, atomic, negated, conj, disj, univ, exist, asAtomic, Table, conceptAt, arguments, Ordered}
+use Rattle.concepts.specs.Concept.{Concept, atomic, negated, conj, disj, univ, exist, neg, impl, asAtomic, Table, conceptAt, arguments, Ordered, isNormal, Normal}
 use Rattle.concepts.specs.ConceptLaws.{asAtomic-some}
 use Rattle.concepts.specs.RowSet.{RowSet, mem, members, empty}
 use Rattle.concepts.specs.RowSetLaws.{mem-members, members-mem}
@@ -110,7 +110,11 @@ module _ (t : Table) (x : Example) where
   abbrev True : ℕ → ℕ → Type 0
   True k d = Holds (finite (worldOf t x)) t k d
 
-  module _ (ordered : Ordered t) (H : Hintikka t x) where
+  module _ (ordered : Ordered t) (normal : Normal t) (H : Hintikka t x) where
+    -- the table has no row of the kinds that only drafts have
+    none-such : {A : Type 0} (k : ℕ) (c : Concept) → conceptAt t k ≡ c → (T (isNormal c) → ⊥) → A
+    none-such k c p n = absurd (n (subst (λ (d : Concept). T (isNormal d)) p (normal k)))
+
     -- one row, where the rows that it names are true
     truth-row : (k d : ℕ) → k < length t → d < size x → T (mem k (setAt x d)) → (c : Concept) → conceptAt t k ≡ c
         → ((l e : ℕ) → List·Memᴰ l (arguments c) → e < size x → T (mem l (setAt x e)) → True l e) → Means (finite (worldOf t x)) True c d
@@ -135,6 +139,8 @@ module _ (t : Table) (x : Example) where
     truth-row k d h hd m (exist ρ l) p ih =
         let (e, he, q, i) = H .answered d k ρ l hd h p m in
         (e, he, leads-in ρ d e q, ih l e (List·Memᴰ·head refl) he i)
+    truth-row k d h hd m (neg l) p ih = none-such k (neg l) p (λ n. n)
+    truth-row k d h hd m (impl l r) p ih = none-such k (impl l r) p (λ n. n)
 
     -- by the row number: the rows that a row names are lower
     truth-below : (f k d : ℕ) → k < f → k < length t → d < size x → T (mem k (setAt x d)) → True k d

@@ -9,7 +9,7 @@ use mathlib.Core.Option.{Option, none, some}
 use Prim.Native.Nat.{ℕ, _<_}
 use lib.Dec.{T, eqb}
 use lib.ListN.{length}
-use Rattle.concepts.specs.Concept.{atomic, negated, univ, exist, asAtomic, asNegated, Table, conceptAt, Ordered}
+use Rattle.concepts.specs.Concept.{atomic, negated, univ, exist, asAtomic, asNegated, Table, conceptAt, Ordered, Normal}
 use Rattle.concepts.specs.RowSet.{RowSet, mem, fromList}
 
 pub record Problem : Type 0 where
@@ -35,11 +35,12 @@ problem t tbox wanted = record { table = t; rules = fromList tbox; wanted = from
 
 -- ---- what the procedure relies on
 
--- rows are settled by lower ones, rules and wanted rows are rows, role codes are 0 to 31, and the test misses no clash of names
+-- rows are settled by lower ones, rules and wanted rows are rows, role codes are 0 to 31, rows are in negation normal form, and the test misses no clash of names
 pub record WellPosed (P : Problem) : Type 0 where
   pub ordered : Ordered (P .table)
   pub ruleRows : (k : ℕ) → T (mem k (P .rules)) → k < length (P .table)
   pub wantedRows : (k : ℕ) → T (mem k (P .wanted)) → k < length (P .table)
   pub univRole : (k ρ l : ℕ) → conceptAt (P .table) k ≡ univ ρ l → ρ < 32
   pub existRole : (k ρ l : ℕ) → conceptAt (P .table) k ≡ exist ρ l → ρ < 32
+  pub normal : Normal (P .table)
   pub names : (j k a : ℕ) → conceptAt (P .table) j ≡ atomic a → conceptAt (P .table) k ≡ negated a → T (P .opposed j k)

@@ -1,4 +1,4 @@
--- Laws of Problem: what the test of names finds, and that the problem of a well-formed file is well posed.
+-- Laws of Problem: what the test of names finds, and that the problem of a well-formed file in negation normal form is well posed.
 -- Nothing else looks at what the test is.
 -- Assumes nothing.
 use mathlib.Core.Path.{_≡_, refl, sym, ap, subst}
@@ -6,7 +6,7 @@ use mathlib.Core.List.{List}
 use mathlib.Core.Option.{Option, none, some}
 use Prim.Native.Nat.{ℕ}
 use lib.Dec.{T, eqb→eq, eqb-refl}
-use Rattle.concepts.specs.Concept.{Concept, atomic, negated, asAtomic, asNegated, Table, conceptAt, WellFormed}
+use Rattle.concepts.specs.Concept.{Concept, atomic, negated, asAtomic, asNegated, Table, conceptAt, WellFormed, Normal}
 use Rattle.concepts.specs.ConceptLaws.{asAtomic-some, asNegated-some}
 use Rattle.concepts.specs.RowSetLaws.{fromList-mem}
 use Rattle.procedure.specs.Problem.{sameName, opposedNames, problem, WellPosed}
@@ -31,12 +31,13 @@ module _ (t : Table) (j k : ℕ) where
       subst (λ (c : Concept). T (sameName (asAtomic c) (asNegated (conceptAt t k)))) (sym p)
       (subst (λ (c : Concept). T (sameName (some a) (asNegated c))) (sym q) (eqb-refl a))
 
-pub well-posed : (t : Table) (tbox wanted : List ℕ) → WellFormed t tbox wanted → WellPosed (problem t tbox wanted)
-well-posed t tbox wanted W = record {
+pub well-posed : (t : Table) (tbox wanted : List ℕ) → WellFormed t tbox wanted → Normal t → WellPosed (problem t tbox wanted)
+well-posed t tbox wanted W N = record {
   ordered = W .ordered;
   ruleRows = λ k m. W .ruleRows k (fromList-mem k tbox m);
   wantedRows = λ k m. W .wantedRows k (fromList-mem k wanted m);
   univRole = W .univRole;
   existRole = W .existRole;
+  normal = N;
   names = λ j k a p q. one-name-opposed t j k a p q;
 }

@@ -1,6 +1,6 @@
 -- What the checks give: laws of Format.
 --
--- In order: what an accepted file holds (`Admitted`, `accepted-admitted`, `accepted-length`); that check 9 never refuses a file (`no-refusal-nine`).
+-- In order: what an accepted file holds (`Admitted`, `accepted-admitted`, `accepted-length`; of a rule file, `accepted-normal`); that check 9 never refuses a file (`no-refusal-nine`).
 -- Assumes nothing.
 use mathlib.Core.Path.{_≡_, refl, sym, ap, _∙_, subst}
 use mathlib.Core.Bool.{true, false, not}
@@ -10,18 +10,18 @@ use mathlib.Core.Option.{some}
 use Prim.Native.Nat.{ℕ, _≤_, _<_}
 use native.Mathlib.Decide.{decLt}
 use native.Mathlib.Omega.{arith}
-use lib.Dec.{ltb, leb, leb·zero, ltb→lt, nltb→le}
+use lib.Dec.{T, ltb, leb, leb·zero, ltb→lt}
 use lib.ListN.{length, List·getD-eq-default}
 use borrow.Author.Tests.{leb-false}
 use Rattle.concepts.specs.Tests.{or-neither, decide, as-false, from-false}
 use Rattle.concepts.specs.Lists.{range, any, every}
-use Rattle.concepts.specs.ListLaws.{range-mem, mem-range, every-mem, length-map-range, getD-map-range, not-any, any-range-found, none-any-range, least-below}
-use Rattle.concepts.specs.Concept.{Concept, atomic, conceptAt, arguments, roleOf, Ordered, WellFormed}
+use Rattle.concepts.specs.ListLaws.{range-mem, mem-range, every-mem, length-map-range, map-range-cases, not-any, any-range-found, none-any-range, least-below}
+use Rattle.concepts.specs.Concept.{Concept, atomic, conceptAt, arguments, roleOf, Ordered, WellFormed, isNormal, Normal}
 use Rattle.rulefile.specs.Format.{Bytes, rowCount, ruleCount, wantedRow, rowByte, rule, conceptIn, badRow}
-use Rattle.rulefile.specs.Format.{badArgument, badRule, isName, checks, refusal, RuleFile, contents, accepted, readingOf}
-use Rattle.decoding.specs.Decoding.{Kinds}
+use Rattle.rulefile.specs.Format.{badArgument, badRule, isName, checks, refusal, RuleFile, contents, accepted, readingOf, reading}
+use Rattle.decoding.specs.Decoding.{Kinds, ruleKinds}
 use Rattle.rulefile.specs.Checks.{checkAt, refusesAt, Passed}
-use Rattle.decoding.specs.DecodingLaws.{role-small, literal-kind}
+use Rattle.decoding.specs.RowPartLaws.{role-small, literal-kind, rule-kinds-normal}
 use Rattle.rulefile.specs.CheckLaws.{refusal-at, refusal-none, accepted-contents, accepted-passed, accepted-parted, parted}
 
 -- ---- what an accepted file holds, once checks 1 to 8 have passed
@@ -77,14 +77,7 @@ module _ (kinds : Kinds) (b : Bytes) (passed : Passed kinds b 8) where
   -- row k, or no row
   row-cases : (P : ℕ → Concept → Type 0) → ((k : ℕ) → k < rowCount b → P k (conceptIn kinds b k)) → ((k : ℕ) → P k (atomic 0))
       → (k : ℕ) → P k (conceptAt (contents kinds b .table) k)
-  row-cases P row past k = elim (decide (ltb k (rowCount b))) [
-    | inl t ↦
-        let h = ltb→lt k (rowCount b) t in
-        subst (P k) (sym (getD-map-range (conceptIn kinds b) 0 (rowCount b) k (atomic 0) h ∙ ap (conceptIn kinds b) (omega arith))) (row k h)
-    | inr u ↦
-        let h = nltb→le k (rowCount b) u in
-        subst (P k) (sym (List·getD-eq-default (contents kinds b .table) (atomic 0) (omega (arith, rows-length)))) (past k)
-  ]
+  row-cases P row past k = map-range-cases (P k) (conceptIn kinds b) (rowCount b) k (atomic 0) (row k) (λ h. past k)
 
   contents-ordered : Ordered (contents kinds b .table)
   contents-ordered =
@@ -156,3 +149,11 @@ module _ (kinds : Kinds) (b : Bytes) where
         ]
     | inr p ↦ let q = refusal-none kinds b p in let z : _≡_ {A = ℕ} 0 1 = cc in omega arith
   ]
+
+-- ---- the rows of a rule file are in negation normal form
+
+pub accepted-normal : (b : Bytes) (f : RuleFile) → reading b ≡ accepted f → Normal (f .table)
+accepted-normal b f e k =
+    rw (accepted-contents ruleKinds b f e)
+    (map-range-cases (λ (c : Concept). T (isNormal c)) (conceptIn ruleKinds b) (rowCount b) k (atomic 0)
+    (λ h. rule-kinds-normal (rowByte b k 0) (rowByte b k 1) (rowByte b k 2) (rowByte b k 3)) (λ h. tt))

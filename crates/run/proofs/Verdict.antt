@@ -12,12 +12,12 @@ use native.Mathlib.Omega.{arith}
 use lib.ListN.{length}
 use lib.Pow.{pow-mono}
 use Rattle.concepts.specs.Tests.{impossible}
-use Rattle.concepts.specs.Concept.{WellFormed}
+use Rattle.concepts.specs.Concept.{WellFormed, Normal}
 use Rattle.concepts.specs.RowSet.{RowSet}
 use Rattle.meaning.specs.Meaning.{Model}
 use Rattle.rulefile.specs.Format.{Bytes, RuleFile, Reading, refused, accepted, reading}
 use Rattle.decoding.specs.Decoding.{ruleKinds}
-use Rattle.rulefile.specs.FormatLaws.{accepted-admitted}
+use Rattle.rulefile.specs.FormatLaws.{accepted-admitted, accepted-normal}
 use Rattle.procedure.specs.ProblemLaws.{well-posed}
 use Rattle.procedure.specs.Status.{Status, unset, «open», sat, unsat, toosmall}
 use Rattle.procedure.specs.Graph.{Graph, Capacity, Result, reached, noPlace, outOfFuel, nodeAt, nodeCount}
@@ -62,7 +62,7 @@ claimed f l undefined B = B
 
 -- ---- a run's answer, by its result
 
-module _ (f : RuleFile) (W : WellFormed (f .table) (f .tbox) (f .wanted)) (few : length (f .table) ≤ 64) (l : Lengths) where
+module _ (f : RuleFile) (W : WellFormed (f .table) (f .tbox) (f .wanted)) (N : Normal (f .table)) (few : length (f .table) ≤ 64) (l : Lengths) where
   abbrev c : Capacity
   c = capacity l
 
@@ -71,14 +71,14 @@ module _ (f : RuleFile) (W : WellFormed (f .table) (f .tbox) (f .wanted)) (few :
 
   shows-of : (g : Graph) (x : Example) → ExampleRight (fileProblem f) g x → Shows f x
   shows-of g x R = record {
-    obeys = example-obeys (f .table) c (f .tbox) (f .wanted) W g x R;
-    member = example-member (f .table) c (f .tbox) (f .wanted) W g x R;
+    obeys = example-obeys (f .table) c (f .tbox) (f .wanted) W N g x R;
+    member = example-member (f .table) c (f .tbox) (f .wanted) W N g x R;
   }
 
   -- a run makes no more nodes than there are places
   nodes-fit : (g : Graph) → runOf ≡ reached g → nodeCount g ≤ mostRecords
   nodes-fit g e =
-      let S = bare (fileProblem f) c (well-posed (f .table) (f .tbox) (f .wanted) W) in
+      let S = bare (fileProblem f) c (well-posed (f .table) (f .tbox) (f .wanted) W N) in
       let E : Ended S g = subst (λ (r : Result). Sure (Ended S) r) e (run-ends S) in
       omega (arith, E .inv .fits)
 
@@ -106,21 +106,21 @@ module _ (f : RuleFile) (W : WellFormed (f .table) (f .tbox) (f .wanted)) (few :
 
   root-backed : (g : Graph) → runOf ≡ reached g → (v : Status) → nodeAt g 0 .status ≡ v → Backs f l (answerRoot v l (f .table) g)
   unfolding answerRoot
-  root-backed g e unset q = root-set (f .table) c (f .tbox) (f .wanted) W g e q
+  root-backed g e unset q = root-set (f .table) c (f .tbox) (f .wanted) W N g e q
   root-backed g e sat q =
-      let (x, p, R) = example-there (f .table) c (f .tbox) (f .wanted) W g e false (λ w. impossible cc) (rw q tt) in
+      let (x, p, R) = example-there (f .table) c (f .tbox) (f .wanted) W N g e false (λ w. impossible cc) (rw q tt) in
       subst (λ (o : Option Example). Backs f l (answerCan l (used g) o)) (sym p) (can-backed g e x R)
   root-backed g e «open» q =
-      let (x, p, R) = example-there (f .table) c (f .tbox) (f .wanted) W g e true (λ w. rw q tt) (rw q tt) in
+      let (x, p, R) = example-there (f .table) c (f .tbox) (f .wanted) W N g e true (λ w. rw q tt) (rw q tt) in
       subst (λ (o : Option Example). Backs f l (answerCan l (used g) o)) (sym p) (can-backed g e x R)
-  root-backed g e unsat q = no-model (f .table) c (f .tbox) (f .wanted) W g e (inl q)
-  root-backed g e toosmall q = no-model (f .table) c (f .tbox) (f .wanted) W g e (inr q)
+  root-backed g e unsat q = no-model (f .table) c (f .tbox) (f .wanted) W N g e (inl q)
+  root-backed g e toosmall q = no-model (f .table) c (f .tbox) (f .wanted) W N g e (inr q)
 
   result-backed : (r : Result) → runOf ≡ r → Backs f l (answerResult l (f .table) r)
   unfolding answerResult
   result-backed (reached g) e = root-backed g e (nodeAt g 0 .status) refl
   result-backed (noPlace a) e = e
-  result-backed outOfFuel e = no-fuel (f .table) c (f .tbox) (f .wanted) W e
+  result-backed outOfFuel e = no-fuel (f .table) c (f .tbox) (f .wanted) W N e
 
 -- ---- the answer to a file
 
@@ -135,7 +135,7 @@ answer-refused b l n e = ap (answerReading l) e
 pub answer-backed : (b : Bytes) (l : Lengths) (f : RuleFile) → reading b ≡ accepted f → Backs f l (answer b l)
 answer-backed b l f e =
     subst (Backs f l) (sym (answer-accepted b l f e))
-    (result-backed f (accepted-admitted ruleKinds b f e .wellFormed) (accepted-admitted ruleKinds b f e .fewRows) l (run (fileProblem f) (capacity l)) refl)
+    (result-backed f (accepted-admitted ruleKinds b f e .wellFormed) (accepted-normal b f e) (accepted-admitted ruleKinds b f e .fewRows) l (run (fileProblem f) (capacity l)) refl)
 
 pub answer-right : (b : Bytes) (l : Lengths) (f : RuleFile) → reading b ≡ accepted f → Claim f (answer b l)
 answer-right b l f e = claimed f l (answer b l) (answer-backed b l f e)
