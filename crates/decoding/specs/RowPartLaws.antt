@@ -1,7 +1,7 @@
 -- Laws of RowParts.
 --
 -- In order: what a row that is not malformed is like (`Parts`, `row-parts`, `role-small`, `literal-kind`); the rows of a rule file are in negation
--- normal form (`rule-kinds-normal`); a kind is below 16 (`kindOf-lt`); the views of a concept, by its parts (`views-by-parts`).
+-- normal form (`rule-kinds-normal`), and decoded from their own parts (`decode-own`); a kind is below 16 (`kindOf-lt`); the views of a concept, by its parts (`views-by-parts`).
 -- Assumes nothing.
 use mathlib.Core.Path.{_≡_, refl, sym, _∙_}
 use mathlib.Core.Bool.{Bool, true, false, _&&_, _||_, cond}
@@ -9,19 +9,19 @@ use mathlib.Core.List.{List, [], _∷_, List·Memᴰ, List·Memᴰ·head, List·
 use mathlib.Core.Option.{Option, none, some}
 use Prim.Native.Nat.{ℕ, zero, suc, _<_}
 use native.Mathlib.Omega.{arith}
-use lib.Dec.{eqb, leb, T, eqb→eq, leb→le, lit<}
+use lib.Dec.{eqb, leb, T, eqb→eq, leb→le, le→leb, lit<}
 use borrow.Author.Tests.{ne-eqb}
-use Rattle.concepts.specs.Tests.{impossible, and-both, from-true}
+use Rattle.concepts.specs.Tests.{impossible, and-both, as-true, from-true}
 use Rattle.concepts.specs.RowSet.{mem}
 use Rattle.concepts.specs.RowSetLaws.{mem-lt}
 use Rattle.concepts.specs.Concept.{Concept, atomic, negated, conj, disj, univ, exist, neg, impl, arguments, roleOf, isNormal}
 use Rattle.concepts.specs.Concept.{asAtomic, asNegated, asConj, asDisj, asUniv, asExist}
 use Rattle.decoding.specs.Decoding.{ruleKinds, only, ofKind, decode, conceptOf, malformed}
 use Rattle.decoding.specs.DecodingLaws.{only-some, formed-kind}
-use Rattle.decoding.specs.RowParts.{kindOf, leftOf, rightOf}
+use Rattle.decoding.specs.RowParts.{kindOf, leftOf, rightOf, inRange}
 
 -- a concept's parts are the four bytes; left and right are below 64, as names are, where the arguments are; its role is a code from 0 to 31;
--- without an argument its kind is 1 or 2; kinds up to 6 are those of negation normal form
+-- names and roles are in their range; without an argument its kind is 1 or 2; kinds up to 6 are those of negation normal form
 pub record Parts (kind role left right : ℕ) (c : Concept) : Type 0 where
   pub kind-is : kindOf c ≡ kind
   pub role-is : roleOf c ≡ role
@@ -30,6 +30,7 @@ pub record Parts (kind role left right : ℕ) (c : Concept) : Type 0 where
   pub left-small : ((l : ℕ) → List·Memᴰ l (arguments c) → l < 64) → left < 64
   pub right-small : ((l : ℕ) → List·Memᴰ l (arguments c) → l < 64) → right < 64
   pub role-lt : role < 32
+  pub in-range : T (inRange c)
   pub literal : arguments c ≡ [] → (eqb kind 1 || eqb kind 2) ≡ true
   pub normal : kind < 7 → T (isNormal c)
 
@@ -61,9 +62,9 @@ names-row n e = impossible cc
 
 -- a row by its kind
 module _ (role left right : ℕ) (c : Concept) where
-  literal : (kind : ℕ) (d : Concept) → kindOf d ≡ kind → roleOf d ≡ 0 → leftOf d ≡ left → rightOf d ≡ 0 → (eqb kind 1 || eqb kind 2) ≡ true → T (isNormal d)
+  literal : (kind : ℕ) (d : Concept) → kindOf d ≡ kind → roleOf d ≡ 0 → leftOf d ≡ left → rightOf d ≡ 0 → (eqb kind 1 || eqb kind 2) ≡ true → inRange d ≡ leb left 63 → T (isNormal d)
       → only (eqb role 0 && (eqb right 0 && leb left 63)) d ≡ some c → Parts kind role left right c
-  literal kind d k r l i n normal e =
+  literal kind d k r l i n range normal e =
       let (t, same) = only-some (eqb role 0 && (eqb right 0 && leb left 63)) d c e in
       let (p, q, h) = name-bytes role left right t in
       rw same
@@ -75,13 +76,14 @@ module _ (role left right : ℕ) (c : Concept) where
         left-small = λ a. omega (arith, h);
         right-small = λ a. omega arith;
         role-lt = omega arith;
+        in-range = rw range (le→leb left 63 (omega (arith, h)));
         literal = λ x. n;
         normal = λ x. normal;
       })
 
   binary : (kind : ℕ) (d : Concept) → kindOf d ≡ kind → roleOf d ≡ 0 → leftOf d ≡ left → rightOf d ≡ right → arguments d ≡ left ∷ right ∷ []
-      → (kind < 7 → T (isNormal d)) → only (eqb role 0) d ≡ some c → Parts kind role left right c
-  binary kind d k r l i n normal e =
+      → T (inRange d) → (kind < 7 → T (isNormal d)) → only (eqb role 0) d ≡ some c → Parts kind role left right c
+  binary kind d k r l i n range normal e =
       let (t, same) = only-some (eqb role 0) d c e in
       let z = zero-byte role t in
       rw same
@@ -93,14 +95,15 @@ module _ (role left right : ℕ) (c : Concept) where
         left-small = λ a. a left (rw n (List·Memᴰ·head refl));
         right-small = λ a. a right (rw n (List·Memᴰ·tail (List·Memᴰ·head refl)));
         role-lt = omega arith;
+        in-range = range;
         literal = names-row n;
         normal = normal;
       })
 
   -- one argument, whatever is asked of the role
   unary : (kind : ℕ) (d : Concept) (test : Bool) → kindOf d ≡ kind → (T test → (roleOf d ≡ role) × (role < 32)) → leftOf d ≡ left → rightOf d ≡ 0 → arguments d ≡ left ∷ []
-      → (kind < 7 → T (isNormal d)) → (T test → right ≡ 0) → only test d ≡ some c → Parts kind role left right c
-  unary kind d test k r l i n normal z e =
+      → (T test → T (inRange d)) → (kind < 7 → T (isNormal d)) → (T test → right ≡ 0) → only test d ≡ some c → Parts kind role left right c
+  unary kind d test k r l i n range normal z e =
       let (t, same) = only-some test d c e in
       let q = z t in
       rw same
@@ -112,35 +115,37 @@ module _ (role left right : ℕ) (c : Concept) where
         left-small = λ a. a left (rw n (List·Memᴰ·head refl));
         right-small = λ a. omega arith;
         role-lt = r t .1;
+        in-range = range t;
         literal = names-row n;
         normal = normal;
       })
 
-  modal : (kind : ℕ) (d : Concept) → kindOf d ≡ kind → roleOf d ≡ role → leftOf d ≡ left → rightOf d ≡ 0 → arguments d ≡ left ∷ [] → T (isNormal d)
-      → only (eqb right 0 && leb role 31) d ≡ some c → Parts kind role left right c
-  modal kind d k r l i n normal e =
-      unary kind d (eqb right 0 && leb role 31) k (λ t. (r, omega (arith, leb→le role 31 (and-both (eqb right 0) (leb role 31) t .1)))) l i n (λ x. normal)
-      (λ t. zero-byte right (and-both (eqb right 0) (leb role 31) t .0)) e
+  modal : (kind : ℕ) (d : Concept) → kindOf d ≡ kind → roleOf d ≡ role → leftOf d ≡ left → rightOf d ≡ 0 → arguments d ≡ left ∷ []
+      → inRange d ≡ leb role 31 → T (isNormal d) → only (eqb right 0 && leb role 31) d ≡ some c → Parts kind role left right c
+  modal kind d k r l i n range normal e =
+      let both : T (eqb right 0 && leb role 31) → T (eqb right 0) × T (leb role 31) = and-both (eqb right 0) (leb role 31) in
+      unary kind d (eqb right 0 && leb role 31) k (λ t. (r, omega (arith, leb→le role 31 (both t .1)))) l i n (λ t. rw range (both t .1)) (λ x. normal)
+      (λ t. zero-byte right (both t .0)) e
 
   negation : only (eqb role 0 && eqb right 0) (neg left) ≡ some c → Parts 8 role left right c
-  unfolding kindOf roleOf leftOf rightOf
+  unfolding kindOf roleOf leftOf rightOf inRange
   negation e =
       let zero-role : T (eqb role 0 && eqb right 0) → role ≡ 0 = λ t. zero-byte role (and-both (eqb role 0) (eqb right 0) t .0) in
-      unary 8 (neg left) (eqb role 0 && eqb right 0) refl (λ t. (sym (zero-role t), omega (arith, zero-role t))) refl refl refl (λ h. absurd (omega (arith, h)))
+      unary 8 (neg left) (eqb role 0 && eqb right 0) refl (λ t. (sym (zero-role t), omega (arith, zero-role t))) refl refl refl (λ t. tt) (λ h. absurd (omega (arith, h)))
       (λ t. zero-byte right (and-both (eqb role 0) (eqb right 0) t .1)) e
 
   by-kind : (kind : ℕ) → ofKind kind role left right ≡ some c → Parts kind role left right c
-  unfolding ofKind kindOf roleOf leftOf rightOf
+  unfolding ofKind kindOf roleOf leftOf rightOf inRange
   by-kind zero e = impossible cc
-  by-kind (suc zero) e = literal 1 (atomic left) refl refl refl refl refl tt e
-  by-kind (suc (suc zero)) e = literal 2 (negated left) refl refl refl refl refl tt e
-  by-kind (suc (suc (suc zero))) e = binary 3 (conj left right) refl refl refl refl refl (λ h. tt) e
-  by-kind (suc (suc (suc (suc zero)))) e = binary 4 (disj left right) refl refl refl refl refl (λ h. tt) e
-  by-kind (suc (suc (suc (suc (suc zero))))) e = modal 5 (univ role left) refl refl refl refl refl tt e
-  by-kind (suc (suc (suc (suc (suc (suc zero)))))) e = modal 6 (exist role left) refl refl refl refl refl tt e
+  by-kind (suc zero) e = literal 1 (atomic left) refl refl refl refl refl refl tt e
+  by-kind (suc (suc zero)) e = literal 2 (negated left) refl refl refl refl refl refl tt e
+  by-kind (suc (suc (suc zero))) e = binary 3 (conj left right) refl refl refl refl refl tt (λ h. tt) e
+  by-kind (suc (suc (suc (suc zero)))) e = binary 4 (disj left right) refl refl refl refl refl tt (λ h. tt) e
+  by-kind (suc (suc (suc (suc (suc zero))))) e = modal 5 (univ role left) refl refl refl refl refl refl tt e
+  by-kind (suc (suc (suc (suc (suc (suc zero)))))) e = modal 6 (exist role left) refl refl refl refl refl refl tt e
   by-kind (suc (suc (suc (suc (suc (suc (suc zero))))))) e = impossible cc
   by-kind (suc (suc (suc (suc (suc (suc (suc (suc zero)))))))) e = negation e
-  by-kind (suc (suc (suc (suc (suc (suc (suc (suc (suc zero))))))))) e = binary 9 (impl left right) refl refl refl refl refl (λ h. absurd (omega (arith, h))) e
+  by-kind (suc (suc (suc (suc (suc (suc (suc (suc (suc zero))))))))) e = binary 9 (impl left right) refl refl refl refl refl tt (λ h. absurd (omega (arith, h))) e
   by-kind (suc (suc (suc (suc (suc (suc (suc (suc (suc (suc kind)))))))))) e =
       let t = unknown-kind (suc (suc (suc (suc (suc (suc (suc (suc (suc (suc kind)))))))))) role left right (omega arith) in
       impossible cc
@@ -168,6 +173,19 @@ rule-kinds-normal kind role left right = of (mem kind ruleKinds) refl (ofKind ki
     of true a (some c) e = by-kind role left right c kind e .normal (mem-lt 7 kind ruleKinds (lit< tt) (from-true (mem kind ruleKinds) a))
     of true a none e = tt
     of false a o e = tt
+
+-- ---- the four parts of a row in negation normal form decode to it
+
+pub decode-own : (c : Concept) → T (isNormal c) → T (inRange c) → decode ruleKinds (kindOf c) (roleOf c) (leftOf c) (rightOf c) ≡ some c
+unfolding decode ofKind mem kindOf roleOf leftOf rightOf inRange
+decode-own (atomic a) n h = rw (as-true (leb a 63) h)
+decode-own (negated a) n h = rw (as-true (leb a 63) h)
+decode-own (conj l r) n h = refl
+decode-own (disj l r) n h = refl
+decode-own (univ ρ l) n h = rw (as-true (leb ρ 31) h)
+decode-own (exist ρ l) n h = rw (as-true (leb ρ 31) h)
+decode-own (neg l) n h = absurd n
+decode-own (impl l r) n h = absurd n
 
 -- ---- the kind, which decoding takes as a bit of a `u16`
 

@@ -1,8 +1,10 @@
 -- The parts of a concept, as they stand in a row's four bytes: "kind, role, left, right" (01, The rule file).
 --
--- In order: the kind; the left and the right part, 0 if there is none. Its role is `roleOf` of Concept. Laws are in RowPartLaws.
+-- In order: the kind; the left and the right part, 0 if there is none; names and roles that a row can have. Its role is `roleOf` of Concept. Laws are in RowPartLaws.
 -- Assumes nothing.
+use mathlib.Core.Bool.{Bool, true}
 use Prim.Native.Nat.{ℕ}
+use lib.Dec.{leb}
 use Rattle.concepts.specs.Concept.{Concept, atomic, negated, conj, disj, univ, exist, neg, impl}
 
 unfoldable pub kindOf : Concept → ℕ
@@ -35,3 +37,14 @@ rightOf (univ ρ l) = 0
 rightOf (exist ρ l) = 0
 rightOf (neg l) = 0
 rightOf (impl l r) = r
+
+-- "name 0 to 63"; role codes 0 to 31
+unfoldable pub inRange : Concept → Bool
+inRange (atomic a) = leb a 63
+inRange (negated a) = leb a 63
+inRange (conj l r) = true
+inRange (disj l r) = true
+inRange (univ ρ l) = leb ρ 31
+inRange (exist ρ l) = leb ρ 31
+inRange (neg l) = true
+inRange (impl l r) = true

@@ -12,8 +12,7 @@ use Rattle.concepts.specs.ListLaws.{getD-mem, length-map-range, getD-map-range}
 use Rattle.concepts.specs.Concept.{atomic, conceptAt, roleOf}
 use Rattle.concepts.specs.RowSet.{mem, fromList}
 use Rattle.concepts.specs.RowSetLaws.{fromList-mem}
-use Rattle.decoding.specs.DecodingLaws.{role-small}
-use Rattle.decoding.specs.RowPartLaws.{Parts, row-parts}
+use Rattle.decoding.specs.RowPartLaws.{Parts, row-parts, role-small}
 use Rattle.rowset.specs.Value.{AreRows}
 use Rattle.problem.specs.Rows.{rowByte, rowCount, conceptIn, tableIn, Rows, ListsRows}
 
@@ -31,7 +30,7 @@ concept-tableIn b k h = getD-map-range (conceptIn b) 0 (rowCount b) k (atomic 0)
 
 module _ {b : List ℕ} (rows : Rows b) (k : ℕ) (h : k < rowCount b) where
   pub byte-parts : Parts (rowByte b k 0) (rowByte b k 1) (rowByte b k 2) (rowByte b k 3) (conceptAt (tableIn b) k)
-  byte-parts = rw (concept-tableIn b k h) (row-parts (rowByte b k 0) (rowByte b k 1) (rowByte b k 2) (rowByte b k 3) (rows .formed k h))
+  byte-parts = rw (concept-tableIn b k h) (row-parts _ (rowByte b k 0) (rowByte b k 1) (rowByte b k 2) (rowByte b k 3) (rows .formed k h))
 
   pub byte-role : roleOf (conceptAt (tableIn b) k) < 32
   byte-role = rw (concept-tableIn b k h) (role-small _ (rowByte b k 0) (rowByte b k 1) (rowByte b k 2) (rowByte b k 3) (rows .formed k h))

@@ -21,7 +21,8 @@ use Rattle.rulefile.specs.Format.{Bytes, rowCount, ruleCount, wantedRow,
 use Rattle.rulefile.specs.Format.{badArgument, badRule, isName, checks, refusal, RuleFile, contents, accepted, readingOf, reading}
 use Rattle.decoding.specs.Decoding.{Kinds, ruleKinds}
 use Rattle.rulefile.specs.Checks.{checkAt, refusesAt, Passed}
-use Rattle.decoding.specs.RowPartLaws.{role-small, literal-kind, rule-kinds-normal}
+use Rattle.decoding.specs.RowParts.{inRange}
+use Rattle.decoding.specs.RowPartLaws.{row-parts, role-small, literal-kind, rule-kinds-normal}
 use Rattle.rulefile.specs.CheckLaws.{refusal-at, refusal-none, accepted-contents, accepted-passed, accepted-parted, parted}
 
 -- ---- what an accepted file holds, once checks 1 to 8 have passed
@@ -30,6 +31,7 @@ pub record Admitted (f : RuleFile) : Type 0 where
   pub someRows : 0 < length (f .table)
   pub fewRows : length (f .table) ≤ 64
   pub wellFormed : WellFormed (f .table) (f .tbox) (f .wanted)
+  pub inRange : (k : ℕ) → T (inRange (conceptAt (f .table) k))
 
 -- below row 0 there is no row to name
 none-below-zero : (ls : List ℕ) → any (λ l. leb 0 l) ls ≡ false → ls ≡ []
@@ -83,6 +85,12 @@ module _ (kinds : Kinds) (b : Bytes) (passed : Passed kinds b 8) where
   contents-ordered =
       row-cases (λ k c. (l : ℕ) → List·Memᴰ l (arguments c) → l < k) (λ k h l m. argument-lower k l h m) (λ k l m. absurd (List·Memᴰ·not-nil m))
 
+  contents-range : (k : ℕ) → T (inRange (conceptAt (contents kinds b .table) k))
+  contents-range =
+      row-cases (λ k c. T (inRange c))
+      (λ k h. row-parts kinds (rowByte b k 0) (rowByte b k 1) (rowByte b k 2) (rowByte b k 3) (unfold badRow in row-formed k h) .in-range)
+      (λ k. unfold inRange in tt)
+
   contents-role : (k : ℕ) → roleOf (conceptAt (contents kinds b .table) k) < 32
   contents-role =
       row-cases (λ k c. roleOf c < 32)
@@ -111,6 +119,7 @@ module _ (kinds : Kinds) (b : Bytes) (passed : Passed kinds b 8) where
           univRole = λ k ρ l e. unfold roleOf in (rw e at (contents-role k));
           existRole = λ k ρ l e. unfold roleOf in (rw e at (contents-role k));
         };
+        inRange = contents-range;
       }
 
 module _ (kinds : Kinds) (b : Bytes) where

@@ -1,0 +1,1 @@
+-- Drafts: the proofs.

@@ -1,0 +1,7 @@
+-- Drafts and their conversion into rule files: which rows are written (Normalize), a file in bytes (Encoding), the whole (Conversion), what is promised of it (Promise).
+-- Definitions apart from their laws.
+pub mod Normalize
+pub mod Encoding
+pub mod Conversion
+pub mod Promise
+pub mod Sound
