@@ -5,3 +5,6 @@ pub mod Encoding
 pub mod Conversion
 pub mod Promise
 pub mod Sound
+pub mod ShareLaws
+pub mod PutLaws
+pub mod SoundLaws
