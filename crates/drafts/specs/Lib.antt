@@ -8,3 +8,4 @@ pub mod Sound
 pub mod ShareLaws
 pub mod PutLaws
 pub mod SoundLaws
+pub mod NeededLaws
