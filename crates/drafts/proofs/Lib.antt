@@ -1,1 +1,2 @@
--- Drafts: the proofs.
+-- The normalized draft keeps what the draft says (Normalized).
+pub mod Normalized

@@ -9,3 +9,6 @@ pub mod ShareLaws
 pub mod PutLaws
 pub mod SoundLaws
 pub mod NeededLaws
+pub mod ShapeMeaning
+pub mod MeaningLaws
+pub mod PutListLaws

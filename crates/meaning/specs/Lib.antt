@@ -1,3 +1,4 @@
 -- What a row means, in any interpretation. Nothing here knows of the procedure.
 pub mod Meaning
 pub mod MeaningLaws
+pub mod FiniteLaws

@@ -30,6 +30,8 @@ use Rattle.rulefile.specs.CheckLaws.{refusal-at, refusal-none, accepted-
 pub record Admitted (f : RuleFile) : Type 0 where
   pub someRows : 0 < length (f .table)
   pub fewRows : length (f .table) ≤ 64
+  pub fewRules : length (f .tbox) ≤ 64
+  pub oneWanted : length (f .wanted) ≡ 1
   pub wellFormed : WellFormed (f .table) (f .tbox) (f .wanted)
   pub inRange : (k : ℕ) → T (inRange (conceptAt (f .table) k))
 
@@ -112,6 +114,8 @@ module _ (kinds : Kinds) (b : Bytes) (passed : Passed kinds b 8) where
       record {
         someRows = omega (arith, rows-length, p .someRows);
         fewRows = omega (arith, rows-length, p .fewRows);
+        fewRules = omega (arith, length-map-range (rule b) 0 (ruleCount b), p .fewRules);
+        oneWanted = refl;
         wellFormed = record {
           ordered = contents-ordered;
           ruleRows = contents-rules;

@@ -1,0 +1,118 @@
+-- The normalized draft: it can be written as a rule file, and keeps what the draft says.
+--
+-- In order: the rules and the wanted rows, put one list after the other; the places are rows (`normalized-writable`); each is needed, and means what it meant
+-- (`normalized-keeps`).
+-- Assumes nothing.
+use mathlib.Core.Path.{_≡_, refl, sym, ap, _∙_, subst}
+use mathlib.Core.Bool.{false, _||_}
+use mathlib.Core.List.{List, [], _∷_, List·Memᴰ}
+use mathlib.Core.Logic.{_↔_, Iff·symm}
+use Prim.Native.Nat.{ℕ, _≤_, _<_}
+use native.Mathlib.Decide.{decLt}
+use native.Mathlib.Omega.{arith}
+use lib.Dec.{ltb}
+use lib.ListN.{length, getD}
+use borrow.Author.Tests.{ltb-false}
+use Rattle.concepts.specs.Tests.{or-neither}
+use Rattle.concepts.specs.ListLaws.{getD-mem, mem-getD}
+use Rattle.concepts.specs.Begins.{Begins, begins-refl}
+use Rattle.concepts.specs.Concept.{Table, Ordered}
+use Rattle.meaning.specs.Meaning.{World}
+use Rattle.rulefile.specs.Format.{RuleFile}
+use Rattle.rulefile.specs.FormatLaws.{Admitted}
+use Rattle.drafts.specs.Normalize.{asIs, stands, Put, put, PutList, putList, normalized}
+use Rattle.drafts.specs.Encoding.{fileBytes}
+use Rattle.drafts.specs.Conversion.{tooLarge}
+use Rattle.drafts.specs.Promise.{Needed, byRule, byKit, byRow, Same, Keeps}
+use Rattle.drafts.specs.Sound.{Sound, Writable}
+use Rattle.drafts.specs.PutLaws.{put-grown}
+use Rattle.drafts.specs.SoundLaws.{empty-sound}
+use Rattle.drafts.specs.NeededLaws.{Reaches, itself, through, reaches-grown}
+use Rattle.drafts.specs.MeaningLaws.{MeansRow, put-means}
+use Rattle.drafts.specs.PutListLaws.{ListGrown, putList-grown, putList-sound}
+
+-- ---- a list of rows at its places in a table that has all of them
+
+module _ (t : Table) (ordered : Ordered t) (ks places : List ℕ) (u : Table)
+    (settled : (i : ℕ) → i < length ks → put t asIs (getD ks i 0) u ≡ stands u (getD places i 0)) where
+  -- a place is a row
+  place-inside : (i : ℕ) → i < length ks → getD places i 0 < length u
+  place-inside i h = subst (λ (p : Put). p .at < length (p .rows)) (settled i h) (put-grown t ordered asIs (getD ks i 0) u .inside)
+
+  place-listed : length places ≡ length ks → (k : ℕ) → List·Memᴰ k places → k < length u
+  place-listed count k m = let (i, h, e) = mem-getD places k 0 m in omega (arith, e, place-inside i (omega arith))
+
+  -- and means what the row of the list does
+  place-means : Ordered u → (W : World) (i : ℕ) → i < length ks → Same W t (getD ks i 0) u (getD places i 0)
+  place-means o W i h d e =
+      let k = getD ks i 0 in
+      Iff·symm (subst (λ (p : Put). Begins (p .rows) u → MeansRow W t ordered asIs k u (p .at)) (settled i h) (put-means W t ordered asIs k u u o) (begins-refl u) d)
+
+-- what is reached from a needed row is needed
+needed-from : (f : RuleFile) {j i : ℕ} → Needed f j → Reaches (f .table) j i → Needed f i
+needed-from f n itself = n
+needed-from f n (through r m) = byRow (needed-from f n r) m
+
+-- ---- the draft
+
+module _ (draft : RuleFile) (A : Admitted draft) where
+  abbrev t : Table
+  t = draft .table
+
+  abbrev ordered : Ordered t
+  ordered = A .wellFormed .ordered
+
+  abbrev rules : PutList
+  rules = putList t (draft .tbox) []
+
+  abbrev kit : PutList
+  kit = putList t (draft .wanted) (rules .rows)
+
+  abbrev R : ListGrown t ordered (draft .tbox) [] rules
+  R = putList-grown t ordered (draft .tbox) []
+
+  abbrev K : ListGrown t ordered (draft .wanted) (rules .rows) kit
+  K = putList-grown t ordered (draft .wanted) (rules .rows)
+
+  rule-settled : (i : ℕ) → i < length (draft .tbox) → put t asIs (getD (draft .tbox) i 0) (kit .rows) ≡ stands (kit .rows) (getD (rules .places) i 0)
+  rule-settled i h = R .settled i h (kit .rows) (K .more)
+
+  kit-settled : (i : ℕ) → i < length (draft .wanted) → put t asIs (getD (draft .wanted) i 0) (kit .rows) ≡ stands (kit .rows) (getD (kit .places) i 0)
+  kit-settled i h = K .settled i h (kit .rows) (begins-refl (kit .rows))
+
+  sound : Sound (kit .rows)
+  sound = putList-sound t ordered (A .inRange) (draft .wanted) (rules .rows) (putList-sound t ordered (A .inRange) (draft .tbox) [] empty-sound)
+
+  pub normalized-writable : (room : ℕ) → tooLarge room (normalized draft) ≡ false → Writable (normalized draft)
+  unfolding normalized tooLarge
+  normalized-writable room e =
+      let f = normalized draft in
+      let (fewRows, bytes) = or-neither (ltb 64 (length (f .table))) (ltb 4096 (length (fileBytes f)) || ltb room (length (fileBytes f))) e in
+      let (short, fits) = or-neither (ltb 4096 (length (fileBytes f))) (ltb room (length (fileBytes f))) bytes in
+      record {
+        sound = sound;
+        fewRows = ltb-false 64 (length (f .table)) fewRows;
+        fewRules = omega (arith, R .count, A .fewRules);
+        ruleRows = place-listed t ordered (draft .tbox) (rules .places) (kit .rows) rule-settled (R .count);
+        oneWanted = K .count ∙ A .oneWanted;
+        wantedRows = place-listed t ordered (draft .wanted) (kit .places) (kit .rows) kit-settled (K .count);
+        short = ltb-false 4096 (length (fileBytes f)) short;
+      }
+
+  rows-needed : (k : ℕ) → k < length (kit .rows) → Needed (normalized draft) k
+  unfolding normalized
+  rows-needed k h = elim (decLt k (length (rules .rows))) [
+    | yes l ↦ let (j, m, r) = R .reached k (omega arith) l in needed-from (normalized draft) (byRule m) (reaches-grown (K .more) r)
+    | no g ↦ let (j, m, r) = K .reached k (omega arith) h in needed-from (normalized draft) (byKit m) r
+  ]
+
+  pub normalized-keeps : Keeps draft (normalized draft)
+  unfolding normalized
+  normalized-keeps = record {
+    text = refl;
+    needed = rows-needed;
+    ruleCount = R .count;
+    rules = place-means t ordered (draft .tbox) (rules .places) (kit .rows) rule-settled (sound .ordered);
+    kitCount = K .count;
+    kit = place-means t ordered (draft .wanted) (kit .places) (kit .rows) kit-settled (sound .ordered);
+  }
