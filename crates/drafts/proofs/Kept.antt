@@ -1,0 +1,71 @@
+-- The converter's promise is kept by whoever answers what the definition answers and leaves the area as the definition leaves it.
+-- Assumes nothing.
+use mathlib.Core.Path.{_≡_, refl, sym, ap, _∙_, subst}
+use mathlib.Core.Bool.{Bool, true, false}
+use mathlib.Core.List.{_++_}
+use Prim.Native.Nat.{ℕ}
+use native.Mathlib.Omega.{arith}
+use lib.ListN.{length, take, drop}
+use lib.Seq.{take-at}
+use Rattle.rulefile.specs.Format.{Bytes, RuleFile, refused, accepted, reading}
+use Rattle.rulefile.specs.FormatLaws.{accepted-admitted}
+use Rattle.decoding.specs.Decoding.{draftKinds}
+use Rattle.drafts.specs.Normalize.{normalized}
+use Rattle.drafts.specs.Encoding.{fileBytes}
+use Rattle.drafts.specs.EncodingLaws.{written-back}
+use Rattle.drafts.specs.Conversion.{draftReading, Conversion, refusedWith, written, tooLarge, writtenOr, conversionOf, conversion, numbers, areaAfter}
+use Rattle.drafts.specs.Promise.{Right, Promise}
+use Rattle.drafts.proofs.Normalized.{normalized-writable, normalized-keeps}
+
+-- ---- what comes of a draft, by its reading
+
+pub conversion-refused : (draft : Bytes) (room n : ℕ) → draftReading draft ≡ refused n → conversion draft room ≡ refusedWith n
+unfolding conversion conversionOf
+conversion-refused draft room n e = ap (conversionOf room) e
+
+pub conversion-accepted : (draft : Bytes) (room : ℕ) (d : RuleFile) → draftReading draft ≡ accepted d
+    → conversion draft room ≡ writtenOr (tooLarge room (normalized d)) (normalized d)
+unfolding conversion conversionOf
+conversion-accepted draft room d e = ap (conversionOf room) e
+
+-- ---- the promise
+
+refused-kept : (draft before : Bytes) (n : ℕ) → draftReading draft ≡ refused n
+    → (numbers (conversion draft (length before)) ≡ record { refusal = n; length = 0 }) × (areaAfter (conversion draft (length before)) before ≡ before)
+unfolding numbers areaAfter
+refused-kept draft before n e =
+    let q = conversion-refused draft (length before) n e in
+    (ap numbers q, ap (λ (c : Conversion). areaAfter c before) q)
+
+module _ (d : RuleFile) (draft before : Bytes) (e : draftReading draft ≡ accepted d) where
+  by-size : (large : Bool) → tooLarge (length before) (normalized d) ≡ large
+      → Right d before (numbers (writtenOr large (normalized d))) (areaAfter (writtenOr large (normalized d)) before)
+  unfolding numbers areaAfter writtenOr
+  by-size true q = record {
+    tooLarge = (λ x. rw q tt, λ x. refl);
+    noOther = λ n. absurd (n refl);
+    result = λ x. absurd (omega (arith, x));
+  }
+  by-size false q =
+      let A = accepted-admitted draftKinds draft d e in
+      let f = normalized d in
+      let bytes = fileBytes f in
+      record {
+        tooLarge = (λ x. absurd (omega (arith, x)), λ x. absurd (rw q at x));
+        noOther = λ n. refl;
+        result = λ x.
+            (f, ap reading (take-at bytes (drop (length bytes) before) (length bytes) refl) ∙ written-back f (normalized-writable d A (length before) q), normalized-keeps d A);
+      }
+
+  right-kept : Right d before (numbers (conversion draft (length before))) (areaAfter (conversion draft (length before)) before)
+  right-kept =
+      subst (λ (c : Conversion). Right d before (numbers c) (areaAfter c before)) (sym (conversion-accepted draft (length before) d e))
+      (by-size (tooLarge (length before) (normalized d)) refl)
+
+pub promise-kept : (draft before : Bytes) → Promise draft before (numbers (conversion draft (length before))) (areaAfter (conversion draft (length before)) before)
+promise-kept draft before = record {
+  numbersAre = refl;
+  areaIs = refl;
+  refusal = refused-kept draft before;
+  right = λ d e. right-kept d draft before e;
+}
