@@ -1,7 +1,7 @@
 -- Laws of RowParts.
 --
 -- In order: what a row that is not malformed is like (`Parts`, `row-parts`, `role-small`, `literal-kind`); the rows of a rule file are in negation
--- normal form (`rule-kinds-normal`), and decoded from their own parts (`decode-own`); a kind is below 16 (`kindOf-lt`); the views of a concept, by its parts (`views-by-parts`).
+-- normal form (`rule-kinds-normal`), and decoded from their own parts (`decode-own`); a concept is its parts (`parts-own`, `same-parts`); a kind is below 16 (`kindOf-lt`); the views of a concept, by its parts (`views-by-parts`).
 -- Assumes nothing.
 use mathlib.Core.Path.{_≡_, refl, sym, _∙_}
 use mathlib.Core.Bool.{Bool, true, false, _&&_, _||_, cond}
@@ -18,7 +18,7 @@ use Rattle.concepts.specs.Concept.{Concept, atomic, negated, conj, disj, univ, 
 use Rattle.concepts.specs.Concept.{asAtomic, asNegated, asConj, asDisj, asUniv, asExist}
 use Rattle.decoding.specs.Decoding.{ruleKinds, only, ofKind, decode, conceptOf, malformed}
 use Rattle.decoding.specs.DecodingLaws.{only-some, formed-kind}
-use Rattle.decoding.specs.RowParts.{kindOf, leftOf, rightOf, inRange}
+use Rattle.decoding.specs.RowParts.{kindOf, leftOf, rightOf, ofParts, inRange}
 
 -- a concept's parts are the four bytes; left and right are below 64, as names are, where the arguments are; its role is a code from 0 to 31;
 -- names and roles are in their range; without an argument its kind is 1 or 2; kinds up to 6 are those of negation normal form
@@ -186,6 +186,22 @@ decode-own (univ ρ l) n h = rw (as-true (leb ρ 31) h)
 decode-own (exist ρ l) n h = rw (as-true (leb ρ 31) h)
 decode-own (neg l) n h = absurd n
 decode-own (impl l r) n h = absurd n
+
+-- ---- a concept is its four parts
+
+pub parts-own : (c : Concept) → ofParts (kindOf c) (roleOf c) (leftOf c) (rightOf c) ≡ c
+unfolding ofParts kindOf roleOf leftOf rightOf
+parts-own (atomic a) = refl
+parts-own (negated a) = refl
+parts-own (conj l r) = refl
+parts-own (disj l r) = refl
+parts-own (univ ρ l) = refl
+parts-own (exist ρ l) = refl
+parts-own (neg l) = refl
+parts-own (impl l r) = refl
+
+pub same-parts : (c d : Concept) → kindOf c ≡ kindOf d → roleOf c ≡ roleOf d → leftOf c ≡ leftOf d → rightOf c ≡ rightOf d → c ≡ d
+same-parts c d k r l i = sym (parts-own c) ∙ rw (k, r, l, i) (parts-own d)
 
 -- ---- the kind, which decoding takes as a bit of a `u16`
 

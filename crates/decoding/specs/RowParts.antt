@@ -1,10 +1,10 @@
 -- The parts of a concept, as they stand in a row's four bytes: "kind, role, left, right" (01, The rule file).
 --
--- In order: the kind; the left and the right part, 0 if there is none; names and roles that a row can have. Its role is `roleOf` of Concept. Laws are in RowPartLaws.
+-- In order: the kind; the left and the right part, 0 if there is none; the concept of four parts; names and roles that a row can have. Its role is `roleOf` of Concept. Laws are in RowPartLaws.
 -- Assumes nothing.
-use mathlib.Core.Bool.{Bool, true}
+use mathlib.Core.Bool.{Bool, true, cond}
 use Prim.Native.Nat.{ℕ}
-use lib.Dec.{leb}
+use lib.Dec.{eqb, leb}
 use Rattle.concepts.specs.Concept.{Concept, atomic, negated, conj, disj, univ, exist, neg, impl}
 
 unfoldable pub kindOf : Concept → ℕ
@@ -37,6 +37,17 @@ rightOf (univ ρ l) = 0
 rightOf (exist ρ l) = 0
 rightOf (neg l) = 0
 rightOf (impl l r) = r
+
+-- the concept that has these four parts
+unfoldable pub ofParts : ℕ → ℕ → ℕ → ℕ → Concept
+ofParts kind role left right =
+    cond (eqb kind 1) (atomic left)
+    (cond (eqb kind 2) (negated left)
+    (cond (eqb kind 3) (conj left right)
+    (cond (eqb kind 4) (disj left right)
+    (cond (eqb kind 5) (univ role left)
+    (cond (eqb kind 6) (exist role left)
+    (cond (eqb kind 8) (neg left) (impl left right)))))))
 
 -- "name 0 to 63"; role codes 0 to 31
 unfoldable pub inRange : Concept → Bool

@@ -17,36 +17,12 @@ use Rattle.concepts.specs.Tests.{and-both, and-make, as-true, from-true}
 use Rattle.concepts.specs.Lists.{range, NoneBelow, first}
 use Rattle.concepts.specs.ListLaws.{length-range, getD-range, least-below, first-at, first-nowhere}
 use Rattle.concepts.specs.Begins.{Begins, begins-refl, begins-length, begins-getD}
-use Rattle.concepts.specs.Concept.{Concept, atomic, negated, conj, disj, univ, exist, neg, impl, Table, conceptAt, roleOf}
+use Rattle.concepts.specs.Concept.{Concept, atomic, Table, conceptAt, roleOf}
 use Rattle.decoding.specs.RowParts.{kindOf, leftOf, rightOf}
+use Rattle.decoding.specs.RowPartLaws.{same-parts}
 use Rattle.drafts.specs.Normalize.{sameRow, placeOf, Put, stands, share}
 
 -- ---- rows with the same four bytes
-
--- the concept of four parts
-ofParts : ℕ → ℕ → ℕ → ℕ → Concept
-ofParts kind role left right =
-    cond (eqb kind 1) (atomic left)
-    (cond (eqb kind 2) (negated left)
-    (cond (eqb kind 3) (conj left right)
-    (cond (eqb kind 4) (disj left right)
-    (cond (eqb kind 5) (univ role left)
-    (cond (eqb kind 6) (exist role left)
-    (cond (eqb kind 8) (neg left) (impl left right)))))))
-
-parts-own : (c : Concept) → ofParts (kindOf c) (roleOf c) (leftOf c) (rightOf c) ≡ c
-unfolding ofParts kindOf roleOf leftOf rightOf
-parts-own (atomic a) = refl
-parts-own (negated a) = refl
-parts-own (conj l r) = refl
-parts-own (disj l r) = refl
-parts-own (univ ρ l) = refl
-parts-own (exist ρ l) = refl
-parts-own (neg l) = refl
-parts-own (impl l r) = refl
-
-pub same-parts : (c d : Concept) → kindOf c ≡ kindOf d → roleOf c ≡ roleOf d → leftOf c ≡ leftOf d → rightOf c ≡ rightOf d → c ≡ d
-same-parts c d k r l i = sym (parts-own c) ∙ rw (k, r, l, i) (parts-own d)
 
 pub sameRow-path : (c d : Concept) → sameRow c d ≡ true → c ≡ d
 unfolding sameRow

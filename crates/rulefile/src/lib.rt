@@ -100,7 +100,7 @@ fn wanted_row(file: &[u8]) -> u8
 }
 
 // Byte i of row k.
-fn row_byte(file: &[u8], k: usize, i: usize) -> u8
+pub fn row_byte(file: &[u8], k: usize, i: usize) -> u8
     requires { ⌜ Parted (now file) × (k < Format.rowCount (now file)) × (i < 4) ⌝ }
     ensures { λ r. ⌜ r ≡ Format.rowByte (now (file .entry)) k i ⌝ }
 {

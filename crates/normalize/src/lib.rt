@@ -1,0 +1,229 @@
+// The rows of a draft in negation normal form (02, [1]): what its rules and its wanted row need, each row once.
+//
+// In order: what becomes of a row; rows as words, and sharing equal ones; a row with all that it needs; a list of rows.
+// Rows that are written stand in words, so many at the start of a slice. Which place a row of the draft, or its opposite, has got is remembered, so that each is put once.
+ghost use mathlib.Core.Path.{_≡_};
+ghost use Prim.Native.Nat.{_+_, _*_, _≤_, _<_};
+ghost use lib.ListN.{length};
+ghost use Rattle.rulefile.specs.Format.{rowCount};
+ghost use Rattle.normalize.specs.Words.{Finds};
+ghost use Rattle.normalize.specs.Shapes.{writtenKind, ShapeAt, slotOf};
+ghost use Rattle.normalize.specs.Contracts.{Draft, ShareAsks, SharesRow, PutAsks, PutGives, ListAsks, ListGives};
+use rulefile::row_byte;
+
+// What becomes of a row: a row without arguments (kind, name); what becomes of another row (sign, row); a row over one (kind, role, sign, row) or over two
+// (kind, sign, row, sign, row). The sign says whether the row is needed as it stands or its opposite is.
+enum Shape {
+    Literal(u8, u8),
+    Other(bool, u8),
+    Unary(u8, u8, bool, u8),
+    Binary(u8, bool, u8, bool, u8),
+}
+
+// Where a row stands, and how many rows are written; or there are more than a file can have.
+enum Put {
+    At(u8, usize),
+    Full,
+}
+
+// How many rows are written; or there are more than a file can have.
+pub enum Listed {
+    Rows(usize),
+    Full,
+}
+
+// "more than 64 rows"
+pub const MOST_ROWS: usize = 64;
+
+// Places that are remembered: two for each row of a draft.
+pub const SLOTS: usize = 128;
+
+// No place yet.
+pub const NO_PLACE: u8 = 255;
+
+// The kinds of "both" and "either" over which "if" is written.
+const CONJ: u8 = 3;
+
+const DISJ: u8 = 4;
+
+// The kind that is written for a row of a kind, or for its opposite.
+fn written_kind(kind: u8, sign: bool) -> u8
+    ensures { λ r. ⌜ r ≡ writtenKind kind sign ⌝ }
+{
+    if sign {
+        if kind == 9 {
+            return DISJ;
+        }
+        return kind;
+    }
+    match kind {
+        1 => 2,
+        2 => 1,
+        3 => 4,
+        4 => 3,
+        5 => 6,
+        6 => 5,
+        _ => CONJ,
+    }
+}
+
+// What becomes of row k of the draft, or of its opposite.
+fn shape(draft: &[u8], k: usize, sign: bool) -> Shape
+    requires { ⌜ Draft (now draft) × (k < rowCount (now draft)) ⌝ }
+    ensures { λ r. ⌜ ShapeAt (now (draft .entry)) k sign r ⌝ }
+{
+    let kind = row_byte(draft, k, 0);
+    let role = row_byte(draft, k, 1);
+    let left = row_byte(draft, k, 2);
+    let right = row_byte(draft, k, 3);
+    let written = written_kind(kind, sign);
+    if kind <= 2 {
+        return Shape::Literal(written, left);
+    }
+    if (kind == 5) | (kind == 6) {
+        return Shape::Unary(written, role, sign, left);
+    }
+    if kind == 8 {
+        return Shape::Other(!sign, left);
+    }
+    if kind == 9 {
+        return Shape::Binary(written, !sign, left, sign, right);
+    }
+    Shape::Binary(written, sign, left, sign, right)
+}
+
+// A row as a word: its four bytes, low byte first.
+fn row_word(kind: u8, role: u8, left: u8, right: u8) -> u32
+    ensures { λ r. ⌜ r ≡ kind + 256 * role + 65536 * left + 16777216 * right ⌝ }
+{
+    kind as u32 + 256 * role as u32 + 65536 * left as u32 + 16777216 * right as u32
+}
+
+// The first of the written rows that is equal to this one, or their number.
+fn find(written: &[u32], count: usize, word: u32) -> usize
+    requires { ⌜ count ≤ length (now written) ⌝ }
+    ensures { λ r. ⌜ Finds (now (written .entry)) count word r ⌝ }
+{
+    let mut i: usize = 0;
+    while i < count {
+        if written[i] == word {
+            return i;
+        }
+        i += 1;
+    }
+    count
+}
+
+// The place of a row: that of an equal row, or a new one.
+fn share(written: &mut [u32], count: usize, word: u32) -> Put
+    requires { ⌜ ShareAsks (now written) count word ⌝ }
+    ensures { λ r. ⌜ SharesRow (now (written .entry)) count word (now (written .exit)) r ⌝ }
+{
+    let at = find(written, count, word);
+    if at < count {
+        return Put::At(at as u8, count);
+    }
+    if count < MOST_ROWS {
+        written[count] = word;
+        return Put::At(count as u8, count + 1);
+    }
+    Put::Full
+}
+
+// Where the place of a row, or of its opposite, is remembered.
+fn slot(k: usize, sign: bool) -> usize
+    requires { ⌜ k < 64 ⌝ }
+    ensures { λ r. ⌜ (r ≡ slotOf k sign) × (r < 128) ⌝ }
+{
+    if sign { 2 * k } else { 2 * k + 1 }
+}
+
+// Puts row k of the draft, or its opposite, which was not put before.
+fn put_new(
+    draft: &[u8],
+    memo: &mut [u8],
+    written: &mut [u32],
+    count: usize,
+    k: usize,
+    sign: bool,
+) -> Put
+    requires { ⌜ PutAsks (now draft) (now memo) (now written) count k ⌝ }
+    ensures { λ r. ⌜ PutGives (now (draft .entry)) (now (written .entry)) count k sign (now (memo .exit)) (now (written .exit)) r ⌝ }
+{
+    match shape(draft, k, sign) {
+        Shape::Literal(kind, name) => share(written, count, row_word(kind, 0, name, 0)),
+        Shape::Other(s, l) => put(draft, memo, written, count, l as usize, s),
+        Shape::Unary(kind, role, s, l) => {
+            match put(draft, memo, written, count, l as usize, s) {
+                Put::At(i, n) => share(written, n, row_word(kind, role, i, 0)),
+                Put::Full => Put::Full,
+            }
+        }
+        Shape::Binary(kind, s, l, z, r) => {
+            match put(draft, memo, written, count, l as usize, s) {
+                Put::At(i, n) => {
+                    match put(draft, memo, written, n, r as usize, z) {
+                        Put::At(j, m) => share(written, m, row_word(kind, 0, i, j)),
+                        Put::Full => Put::Full,
+                    }
+                }
+                Put::Full => Put::Full,
+            }
+        }
+    }
+}
+
+// Puts row k of the draft, or its opposite, with all that it needs.
+fn put(
+    draft: &[u8],
+    memo: &mut [u8],
+    written: &mut [u32],
+    count: usize,
+    k: usize,
+    sign: bool,
+) -> Put
+    requires { ⌜ PutAsks (now draft) (now memo) (now written) count k ⌝ }
+    ensures { λ r. ⌜ PutGives (now (draft .entry)) (now (written .entry)) count k sign (now (memo .exit)) (now (written .exit)) r ⌝ }
+{
+    let at = slot(k, sign);
+    let known = memo[at];
+    if known < NO_PLACE {
+        return Put::At(known, count);
+    }
+    match put_new(draft, memo, written, count, k, sign) {
+        Put::At(place, n) => {
+            memo[at] = place;
+            Put::At(place, n)
+        }
+        Put::Full => Put::Full,
+    }
+}
+
+// Puts the rows of a list, one after the other, and tells the place of each.
+pub fn put_list(
+    draft: &[u8],
+    list: &[u8],
+    memo: &mut [u8],
+    written: &mut [u32],
+    count: usize,
+    places: &mut [u8],
+) -> Listed
+    requires { ⌜ ListAsks (now draft) (now list) (now memo) (now written) count (now places) ⌝ }
+    ensures { λ r. ⌜ ListGives (now (draft .entry)) (now (list .entry)) (now (written .entry)) count (now (memo .exit)) (now (written .exit)) (now (places .entry)) (now (places .exit)) r ⌝ }
+{
+    let mut n = count;
+    let mut i: usize = 0;
+    while i < list.len() {
+        match put(draft, memo, written, n, list[i] as usize, true) {
+            Put::At(place, more) => {
+                places[i] = place;
+                n = more;
+            }
+            Put::Full => {
+                return Listed::Full;
+            }
+        }
+        i += 1;
+    }
+    Listed::Rows(n)
+}
