@@ -5,3 +5,4 @@ pub mod Encoding
 pub mod Conversion
 pub mod Promise
 pub mod Sound
+pub mod EncodingLaws

@@ -134,7 +134,7 @@ module _ (kinds : Kinds) (b : Bytes) where
 
   -- ---- check 9 never refuses a file: row 0 of a file that passed checks 1 to 8 is a name or the negation of one
 
-  passed-last : Passed kinds b 8 → refusesAt kinds b 8 ≡ false
+  pub passed-last : Passed kinds b 8 → refusesAt kinds b 8 ≡ false
   unfolding checks
   passed-last p = ap not (any-range-found (isName b) (rowCount b) 0 (parted kinds b p (omega arith) .someRows) (row-zero kinds b p))
 
