@@ -1,6 +1,7 @@
 -- What the checks give: laws of Format.
 --
--- In order: what an accepted file holds (`Admitted`, `accepted-admitted`, `accepted-length`; of a rule file, `accepted-normal`); that check 9 never refuses a file (`no-refusal-nine`).
+-- In order: what an accepted file holds (`Admitted`, `accepted-admitted`, `accepted-length`; of a rule file, `accepted-normal`);
+-- that check 9 never refuses a file (`passed-last`, `no-refusal-nine`).
 -- Assumes nothing.
 use mathlib.Core.Path.{_≡_, refl, sym, ap, _∙_, subst}
 use mathlib.Core.Bool.{true, false, not}
