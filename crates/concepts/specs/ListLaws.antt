@@ -133,6 +133,13 @@ module _ {A : Type 0} where
       let z : 0 + i ≡ i = omega arith in
       getD-map-range f 0 n i d l ∙ ap f z ∙ sym (getD-take n (drop p xs) i d l ∙ getD-drop p xs i d))
 
+  -- a whole list, place by place
+  pub map-range-whole : (f : ℕ → A) (xs : List A) (d : A) {n : ℕ} → n ≡ length xs → ((k : ℕ) → k < length xs → f k ≡ getD xs k d) → map f (range 0 n) ≡ xs
+  map-range-whole f xs d {n} e h =
+      ext-getD d (map f (range 0 n)) xs (length-map-range f 0 n ∙ e) (λ k l.
+      let z : 0 + k ≡ k = omega arith in
+      getD-map-range f 0 n k d (omega (arith, length-map-range f 0 n)) ∙ ap f z ∙ h k (omega (arith, length-map-range f 0 n)))
+
   -- ---- take
 
   pub take-length-take : (n : ℕ) (xs : List A) → take (length (take n xs)) xs ≡ take n xs
@@ -221,6 +228,11 @@ module _ {A : Type 0} where
   pub not-any : (f : A → Bool) (xs : List A) (x : A) → T (not (any f xs)) → List·Memᴰ x xs → T (not (f x))
   not-any f xs x n m = not-T (f x) (λ t. T-not (any f xs) n (any-mem f xs x m t))
 
+  pub any-none : (f : A → Bool) (xs : List A) → ((x : A) → List·Memᴰ x xs → f x ≡ false) → any f xs ≡ false
+  unfolding any
+  any-none f [] h = refl
+  any-none f (x ∷ xs) h = rw (h x (List·Memᴰ·head refl)) (any-none f xs (λ y m. h y (List·Memᴰ·tail m)))
+
   pub every-mem : (f : A → Bool) (xs : List A) (x : A) → T (every f xs) → List·Memᴰ x xs → T (f x)
   unfolding every
   every-mem f [] x t m = absurd (List·Memᴰ·not-nil m)
@@ -252,14 +264,14 @@ any-range-found f n i h e =
     as-true (any f (range 0 n)) (any-mem f (range 0 n) i (mem-range 0 n i (omega arith) (omega arith)) (from-true (f i) e))
 
 pub any-range-none : (f : ℕ → Bool) (n : ℕ) → NoneBelow f n → any f (range 0 n) ≡ false
-any-range-none f n all = as-false (any f (range 0 n)) (not-T (any f (range 0 n)) (λ t.
-    let (k, m, u) = mem-any f (range 0 n) t in
-    let (a, b) = range-mem 0 n k m in
-    T-not (f k) (from-false (f k) (all k (omega arith))) u))
+any-range-none f n all = any-none f (range 0 n) (λ k m. all k (omega (arith, range-mem 0 n k m .1)))
 
 pub none-any-range : (f : ℕ → Bool) (n : ℕ) → any f (range 0 n) ≡ false → NoneBelow f n
 none-any-range f n e k h =
     as-false (f k) (not-any f (range 0 n) k (from-false (any f (range 0 n)) e) (mem-range 0 n k (omega arith) (omega arith)))
+
+pub NoneBelow-suc : (f : ℕ → Bool) (n : ℕ) → NoneBelow f n → f n ≡ false → NoneBelow f (suc n)
+NoneBelow-suc f n all e k h = elim (ℕ-discrete k n) [ yes p ↦ ap f p ∙ e | no d ↦ all k (omega arith) ]
 
 -- the least number below n that passes, or none does
 pub least-below : (f : ℕ → Bool) (n : ℕ) → ((k : ℕ) × (k < n) × NoneBelow f k × (f k ≡ true)) ⊎ NoneBelow f n
@@ -271,7 +283,7 @@ least-below f (suc n) = elim (least-below f n) [
   where
     here : (x : Bool) → f n ≡ x → NoneBelow f n → ((k : ℕ) × (k < suc n) × NoneBelow f k × (f k ≡ true)) ⊎ NoneBelow f (suc n)
     here true e all = inl (n, omega arith, all, e)
-    here false e all = inr (λ k h. elim (ℕ-discrete k n) [ yes p ↦ ap f p ∙ e | no d ↦ all k (omega arith) ])
+    here false e all = inr (NoneBelow-suc f n all e)
 
 module _ {A B : Type 0} where
   -- ---- map

@@ -12,3 +12,4 @@ pub mod NeededLaws
 pub mod ShapeMeaning
 pub mod MeaningLaws
 pub mod PutListLaws
+pub mod EncodingLaws

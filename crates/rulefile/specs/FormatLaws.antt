@@ -1,6 +1,7 @@
 -- What the checks give: laws of Format.
 --
--- In order: what an accepted file holds (`Admitted`, `accepted-admitted`, `accepted-length`; of a rule file, `accepted-normal`); that check 9 never refuses a file (`no-refusal-nine`).
+-- In order: what an accepted file holds (`Admitted`, `accepted-admitted`, `accepted-length`; of a rule file, `accepted-normal`);
+-- that check 9 never refuses a file (`passed-last`, `no-refusal-nine`).
 -- Assumes nothing.
 use mathlib.Core.Path.{_≡_, refl, sym, ap, _∙_, subst}
 use mathlib.Core.Bool.{true, false, not}
@@ -138,7 +139,7 @@ module _ (kinds : Kinds) (b : Bytes) where
 
   -- ---- check 9 never refuses a file: row 0 of a file that passed checks 1 to 8 is a name or the negation of one
 
-  passed-last : Passed kinds b 8 → refusesAt kinds b 8 ≡ false
+  pub passed-last : Passed kinds b 8 → refusesAt kinds b 8 ≡ false
   unfolding checks
   passed-last p = ap not (any-range-found (isName b) (rowCount b) 0 (parted kinds b p (omega arith) .someRows) (row-zero kinds b p))
 
