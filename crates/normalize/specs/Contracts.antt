@@ -13,16 +13,17 @@ use Rattle.rulefile.specs.Format.{Bytes, rowCount}
 use Rattle.rulefile.specs.Checks.{Passed}
 use Rattle.drafts.specs.Normalize as Normalize
 use Rattle.drafts.specs.Normalize.{Sign, stands, share, put, PutList, putList}
-use Rattle.normalize.specs.declared.Put.{Put}
-use Rattle.normalize.specs.declared.Put.the-variants.{At, Full}
+use Rattle.normalize.specs.declared.Placement.{Placement}
+use Rattle.normalize.specs.declared.Placement.the-variants.{At, Full}
 use Rattle.normalize.specs.declared.Listed.{Listed}
 use Rattle.normalize.specs.declared.Listed.the-variants as Listed
 use Rattle.normalize.specs.Words.{Own, rowIn, rowsIn, Held}
 use Rattle.normalize.specs.Shapes.{tableOf, slotOf}
 
--- ---- the draft passed all checks
-abbrev pub Draft : Bytes → Type 0
-Draft b = Passed draftKinds b 9
+-- ---- a draft that passed all checks
+
+pub record Draft (b : Bytes) : Type 0 where
+  pub passed : Passed draftKinds b 9
 
 -- ---- places that are remembered
 
@@ -47,11 +48,11 @@ pub record Stands (p : Normalize.Put) (ws : List ℕ) (place n : ℕ) : Type 0 w
   pub at : place ≡ p .at
 
 -- or there are more rows than a file can have
-abbrev pub Gives : Normalize.Put → List ℕ → Put → Type 0
+abbrev pub Gives : Normalize.Put → List ℕ → Placement → Type 0
 Gives p ws (At place n) = Stands p ws place n
 Gives p ws Full = 64 < length (p .rows)
 
-pub record SharesRow (ws : List ℕ) (n w : ℕ) (ws′ : List ℕ) (r : Put) : Type 0 where
+pub record SharesRow (ws : List ℕ) (n w : ℕ) (ws′ : List ℕ) (r : Placement) : Type 0 where
   pub size : length ws′ ≡ length ws
   pub gives : Gives (share (rowIn w) (rowsIn ws n)) ws′ r
 
@@ -61,14 +62,14 @@ pub record PutAsks (b : Bytes) (memo ws : List ℕ) (n k : ℕ) : Type 0 where
   pub draft : Draft b
   pub row : k < rowCount b
   pub held : Held ws n
-  pub memo : Remembers b (rowsIn ws n) memo
+  pub remembered : Remembers b (rowsIn ws n) memo
 
 -- what is remembered holds of the rows that are written then
-abbrev pub Still : Bytes → List ℕ → List ℕ → Put → Type 0
+abbrev pub Still : Bytes → List ℕ → List ℕ → Placement → Type 0
 Still b memo ws (At place n) = Remembers b (rowsIn ws n) memo
 Still b memo ws Full = Unit {0}
 
-pub record PutGives (b : Bytes) (ws : List ℕ) (n k : ℕ) (s : Sign) (memo′ ws′ : List ℕ) (r : Put) : Type 0 where
+pub record PutGives (b : Bytes) (ws : List ℕ) (n k : ℕ) (s : Sign) (memo′ ws′ : List ℕ) (r : Placement) : Type 0 where
   pub memoSize : length memo′ ≡ 128
   pub size : length ws′ ≡ 64
   pub gives : Gives (put (tableOf b) s k (rowsIn ws n)) ws′ r
@@ -80,14 +81,14 @@ pub record ListAsks (b list memo ws : List ℕ) (n : ℕ) (places : List ℕ) : 
   pub draft : Draft b
   pub listed : (k : ℕ) → List·Memᴰ k list → k < rowCount b
   pub held : Held ws n
-  pub memo : Remembers b (rowsIn ws n) memo
+  pub remembered : Remembers b (rowsIn ws n) memo
   pub room : length list ≤ length places
 
 pub record ListStands (b : Bytes) (q : PutList) (count : ℕ) (memo ws places : List ℕ) (n : ℕ) : Type 0 where
   pub held : Held ws n
-  pub memo : Remembers b (rowsIn ws n) memo
+  pub remembered : Remembers b (rowsIn ws n) memo
   pub rows : rowsIn ws n ≡ q .rows
-  pub places : take count places ≡ q .places
+  pub told : take count places ≡ q .places
 
 abbrev pub ListGot : Bytes → PutList → ℕ → List ℕ → List ℕ → List ℕ → Listed → Type 0
 ListGot b q count memo ws places (Listed.Rows n) = ListStands b q count memo ws places n

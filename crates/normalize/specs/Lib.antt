@@ -2,3 +2,5 @@
 pub mod Words
 pub mod Shapes
 pub mod Contracts
+pub mod ShapeLaws
+pub mod WordLaws

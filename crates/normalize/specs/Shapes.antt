@@ -1,9 +1,10 @@
 -- What becomes of a row, as the code tells it: by kinds and bytes. Laws are in ShapeLaws.
 --
--- In order: a shape of the code as one of the definitions; the kind that is written; a shape by a row's four bytes; where a place is remembered.
+-- In order: a shape of the code as one of the definitions, and its kind; the kind that is written; a shape by a row's four bytes; where a place is remembered.
 -- Assumes nothing.
 use mathlib.Core.Path.{_≡_}
 use mathlib.Core.Bool.{not, cond, _||_}
+use mathlib.Core.Logic.{_⊎_}
 use Prim.Native.Nat.{ℕ, _+_, _*_}
 use lib.Dec.{eqb, leb}
 use Rattle.concepts.specs.Concept.{Table, conceptAt}
@@ -23,13 +24,30 @@ shapeOf (Other s l) = other s l
 shapeOf (Unary kind role s l) = unary (λ (i : ℕ). ofParts kind role i 0) s l
 shapeOf (Binary kind s l z r) = binary (λ (i j : ℕ). ofParts kind 0 i j) s l z r
 
+-- the kinds of names, of rows with a role, and of rows with two arguments
+abbrev pub IsLiteral : ℕ → Type 0
+IsLiteral kind = (kind ≡ 1) ⊎ (kind ≡ 2)
+
+abbrev pub IsModal : ℕ → Type 0
+IsModal kind = (kind ≡ 5) ⊎ (kind ≡ 6)
+
+abbrev pub IsPair : ℕ → Type 0
+IsPair kind = (kind ≡ 3) ⊎ (kind ≡ 4)
+
+abbrev pub KindFits : Shape → Type 0
+KindFits (Literal kind name) = IsLiteral kind
+KindFits (Other s l) = Unit {0}
+KindFits (Unary kind role s l) = IsModal kind
+KindFits (Binary kind s l z r) = IsPair kind
+
 -- the rows of a draft
 abbrev pub tableOf : Bytes → Table
 tableOf b = contents draftKinds b .table
 
 -- it is what becomes of row k of the draft, or of its opposite
-abbrev pub ShapeAt : Bytes → ℕ → Sign → Shape → Type 0
-ShapeAt b k s σ = shapeOf σ ≡ shape (conceptAt (tableOf b) k) s
+pub record ShapeAt (b : Bytes) (k : ℕ) (s : Sign) (σ : Shape) : Type 0 where
+  pub becomes : shapeOf σ ≡ shape (conceptAt (tableOf b) k) s
+  pub fits : KindFits σ
 
 -- ---- by a row's bytes
 

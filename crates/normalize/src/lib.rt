@@ -21,7 +21,7 @@ enum Shape {
 }
 
 // Where a row stands, and how many rows are written; or there are more than a file can have.
-enum Put {
+enum Placement {
     At(u8, usize),
     Full,
 }
@@ -68,7 +68,7 @@ fn written_kind(kind: u8, sign: bool) -> u8
 }
 
 // What becomes of row k of the draft, or of its opposite.
-fn shape(draft: &[u8], k: usize, sign: bool) -> Shape
+fn shape_of(draft: &[u8], k: usize, sign: bool) -> Shape
     requires { ⌜ Draft (now draft) × (k < rowCount (now draft)) ⌝ }
     ensures { λ r. ⌜ ShapeAt (now (draft .entry)) k sign r ⌝ }
 {
@@ -115,19 +115,19 @@ fn find(written: &[u32], count: usize, word: u32) -> usize
 }
 
 // The place of a row: that of an equal row, or a new one.
-fn share(written: &mut [u32], count: usize, word: u32) -> Put
+fn share(written: &mut [u32], count: usize, word: u32) -> Placement
     requires { ⌜ ShareAsks (now written) count word ⌝ }
     ensures { λ r. ⌜ SharesRow (now (written .entry)) count word (now (written .exit)) r ⌝ }
 {
     let at = find(written, count, word);
     if at < count {
-        return Put::At(at as u8, count);
+        return Placement::At(at as u8, count);
     }
     if count < MOST_ROWS {
         written[count] = word;
-        return Put::At(count as u8, count + 1);
+        return Placement::At(count as u8, count + 1);
     }
-    Put::Full
+    Placement::Full
 }
 
 // Where the place of a row, or of its opposite, is remembered.
@@ -146,28 +146,28 @@ fn put_new(
     count: usize,
     k: usize,
     sign: bool,
-) -> Put
+) -> Placement
     requires { ⌜ PutAsks (now draft) (now memo) (now written) count k ⌝ }
     ensures { λ r. ⌜ PutGives (now (draft .entry)) (now (written .entry)) count k sign (now (memo .exit)) (now (written .exit)) r ⌝ }
 {
-    match shape(draft, k, sign) {
+    match shape_of(draft, k, sign) {
         Shape::Literal(kind, name) => share(written, count, row_word(kind, 0, name, 0)),
         Shape::Other(s, l) => put(draft, memo, written, count, l as usize, s),
         Shape::Unary(kind, role, s, l) => {
             match put(draft, memo, written, count, l as usize, s) {
-                Put::At(i, n) => share(written, n, row_word(kind, role, i, 0)),
-                Put::Full => Put::Full,
+                Placement::At(i, n) => share(written, n, row_word(kind, role, i, 0)),
+                Placement::Full => Placement::Full,
             }
         }
         Shape::Binary(kind, s, l, z, r) => {
             match put(draft, memo, written, count, l as usize, s) {
-                Put::At(i, n) => {
+                Placement::At(i, n) => {
                     match put(draft, memo, written, n, r as usize, z) {
-                        Put::At(j, m) => share(written, m, row_word(kind, 0, i, j)),
-                        Put::Full => Put::Full,
+                        Placement::At(j, m) => share(written, m, row_word(kind, 0, i, j)),
+                        Placement::Full => Placement::Full,
                     }
                 }
-                Put::Full => Put::Full,
+                Placement::Full => Placement::Full,
             }
         }
     }
@@ -181,21 +181,21 @@ fn put(
     count: usize,
     k: usize,
     sign: bool,
-) -> Put
+) -> Placement
     requires { ⌜ PutAsks (now draft) (now memo) (now written) count k ⌝ }
     ensures { λ r. ⌜ PutGives (now (draft .entry)) (now (written .entry)) count k sign (now (memo .exit)) (now (written .exit)) r ⌝ }
 {
     let at = slot(k, sign);
     let known = memo[at];
     if known < NO_PLACE {
-        return Put::At(known, count);
+        return Placement::At(known, count);
     }
     match put_new(draft, memo, written, count, k, sign) {
-        Put::At(place, n) => {
+        Placement::At(place, n) => {
             memo[at] = place;
-            Put::At(place, n)
+            Placement::At(place, n)
         }
-        Put::Full => Put::Full,
+        Placement::Full => Placement::Full,
     }
 }
 
@@ -215,11 +215,11 @@ pub fn put_list(
     let mut i: usize = 0;
     while i < list.len() {
         match put(draft, memo, written, n, list[i] as usize, true) {
-            Put::At(place, more) => {
+            Placement::At(place, more) => {
                 places[i] = place;
                 n = more;
             }
-            Put::Full => {
+            Placement::Full => {
                 return Listed::Full;
             }
         }
