@@ -80,7 +80,7 @@ putShape-same f g (binary make s k z l) h out =
 
 module _ (t : Table) (ordered : Ordered t) where
   -- the rows of what becomes of row k are lower
-  rows-lower : (s : Sign) (k l : ℕ) → List·Memᴰ l (shapeRows (shape (conceptAt t k) s)) → l < k
+  pub rows-lower : (s : Sign) (k l : ℕ) → List·Memᴰ l (shapeRows (shape (conceptAt t k) s)) → l < k
   rows-lower s k l m = ordered k l (subst (List·Memᴰ l) (shape-rows (conceptAt t k) s) m)
 
   bound-free : (f g : ℕ) (s : Sign) (k : ℕ) (out : Table) → k < f → k < g → putBelow t f s k out ≡ putBelow t g s k out

@@ -4,3 +4,4 @@ pub mod Shapes
 pub mod Contracts
 pub mod ShapeLaws
 pub mod WordLaws
+pub mod PutCases

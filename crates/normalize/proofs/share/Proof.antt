@@ -1,71 +1,35 @@
+-- `normalize::share` meets its contract.
+-- Assumes nothing.
+use native.Mathlib.Omega.{arith}
 use borrow.Author.Needs.{needs}
+use lib.ListN.{length-set}
+use Rattle.normalize.specs.PutCases.{share-there, share-next, share-none}
 use Rattle.normalize.proofs.share.Statement.{statement}
 use Rattle.normalize.proofs.share.Tie as tie
-use Rattle.normalize.proofs.share.Reads as reads
-use Rattle.normalize.proofs.share.Lts as lts
-use Rattle.normalize.proofs.find.Reads as find-reads
 
--- src/lib.rt:122:9
 find-requires : tie.Need-find-requires
-find-requires c κs = search needs
+find-requires c κs = let begun : tie.Start = search in omega (arith, begun .pre .held .few, begun .pre .held .size)
 
--- src/lib.rt:124:30
 cast-t8 : tie.Need-cast-t8
-cast-t8 c = search needs
+cast-t8 c = let begun : tie.Start = search in omega (arith, begun .pre .held .few)
 
--- src/lib.rt:124:9
-same-length : tie.Need-same-length
-same-length c = search needs
-
--- src/lib.rt:124:9
 returns : tie.Need-returns
-returns c = ?
+returns c = let begun : tie.Start = search in share-there (begun .pre) (c .before .find .ensures) (c .if1 .taken)
 
--- src/lib.rt:127:9
-mul-written : tie.Need-mul-written
-mul-written c = search needs
-
--- src/lib.rt:127:9
 slice-write-written : tie.Need-slice-write-written
-slice-write-written c = search needs
+slice-write-written c = let begun : tie.Start = search in omega (arith, begun .pre .held .size)
 
--- src/lib.rt:128:30
-cast-t11 : tie.Need-cast-t11
-cast-t11 c = search needs
-
--- src/lib.rt:128:43
-add-t9 : tie.Need-add-t9
-add-t9 c = search needs
-
--- src/lib.rt:128:9
-same-length-2 : tie.Need-same-length-2
-same-length-2 c = search needs
-
--- src/lib.rt:128:9
 returns-2 : tie.Need-returns-2
-returns-2 c = ?
+returns-2 c = let begun : tie.Start = search in share-next (begun .pre) (c .before .before .find .ensures) (c .before .if1 .left) (c .if2 .taken)
 
--- src/lib.rt:118:1
-same-length-3 : tie.Need-same-length-3
-same-length-3 c = search needs
+same-length-2 : tie.Need-same-length-2
+same-length-2 c = simp length-set
 
--- src/lib.rt:118:1
 returns-3 : tie.Need-returns-3
-returns-3 c = ?
+returns-3 c = let begun : tie.Start = search in share-none (begun .pre) (c .before .before .find .ensures) (c .before .if1 .left) (c .if2 .left)
 
 pub share-spec : {M : Type 1} → statement M
 share-spec =
-    tie.close
-    (tie.spec
-    find-requires
-    cast-t8
-    same-length
-    returns
-    mul-written
-    slice-write-written
-    cast-t11
-    add-t9
-    same-length-2
-    returns-2
-    same-length-3
-    returns-3)
+    tie.close (tie.spec
+    find-requires cast-t8 (λ c. search needs) returns (λ c. search needs) slice-write-written (λ c. search needs) (λ c. search needs) same-length-2 returns-2
+    (λ c. search needs) returns-3)
