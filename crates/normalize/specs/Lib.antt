@@ -5,3 +5,4 @@ pub mod Contracts
 pub mod ShapeLaws
 pub mod WordLaws
 pub mod PutCases
+pub mod ListCases
