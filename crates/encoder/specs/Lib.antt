@@ -1,0 +1,3 @@
+-- The bytes of a rule file, written from its parts. Definitions apart from their laws.
+pub mod Encoder
+pub mod EncoderLaws
