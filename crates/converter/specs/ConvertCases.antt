@@ -1,0 +1,1 @@
+-- The ways through the converter, on plain values.
