@@ -12,8 +12,8 @@ pub mod random;
 pub mod record_order;
 pub mod small_worlds;
 
-pub use cases::{cases, vectors, Case};
-pub use checks::{check_cases, check_example, on_stack, Answering};
+pub use cases::{cases, draft_cases, vectors, Case, DraftCase};
+pub use checks::{check_cases, check_draft_cases, check_example, on_stack, Answering, Converting};
 pub use files::encode;
-pub use questions::{one_line, Fit};
+pub use questions::{conversion_line, one_line, Conversion, Convert, Fit};
 pub use random::{damage, random_bytes, random_file, random_lent, Prng, Shape};
