@@ -64,7 +64,7 @@ pub fn random_file(prng: &mut Prng, shape: Shape) -> Vec<u8> {
 }
 
 /// One file of four has a text, if the shape allows it one.
-fn random_text(prng: &mut Prng, most: usize) -> Vec<u8> {
+pub(crate) fn random_text(prng: &mut Prng, most: usize) -> Vec<u8> {
     if most == 0 || prng.below(4) > 0 {
         return Vec::new();
     }
@@ -92,7 +92,7 @@ fn random_rows(prng: &mut Prng, shape: Shape) -> Vec<Row> {
 }
 
 /// A row of kind 3 to 6. Kinds 5 and 6 come more often than 3, since they drive the graph.
-fn random_row(prng: &mut Prng, shape: Shape, number: usize) -> Row {
+pub(crate) fn random_row(prng: &mut Prng, shape: Shape, number: usize) -> Row {
     let (left, right) = (argument(prng, number), argument(prng, number));
     let role = prng.byte_below(2 * shape.roles);
     match prng.below(10) {
@@ -104,7 +104,7 @@ fn random_row(prng: &mut Prng, shape: Shape, number: usize) -> Row {
 }
 
 /// A lower row, rather a late one: so rows nest.
-fn argument(prng: &mut Prng, number: usize) -> u8 {
+pub(crate) fn argument(prng: &mut Prng, number: usize) -> u8 {
     prng.byte_below(number).max(prng.byte_below(number))
 }
 
