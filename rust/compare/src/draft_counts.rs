@@ -32,8 +32,6 @@ pub struct DraftCounts {
     /// The area is longer than any file.
     long_areas: usize,
     just_enough: usize,
-    /// Worlds in which the wanted row holds somewhere, but not everywhere.
-    telling_worlds: usize,
 }
 
 impl DraftCounts {
@@ -48,11 +46,6 @@ impl DraftCounts {
                 }
             }
         }
-    }
-
-    /// Counts worlds that tell something.
-    pub fn count_worlds(&mut self, telling: usize) {
-        self.telling_worlds += telling;
     }
 
     /// Why there is refusal 12: in an area that is long enough another cause stays, and without its text too many rows.
@@ -88,6 +81,13 @@ impl DraftCounts {
         add(&mut self.just_enough, area == file.len());
     }
 
+    /// Fails if one of refusals 1 to 8 and 12 was rare, or if 9 came: row 0 names no lower row, so it is a name or a negation.
+    pub fn assert_each_refusal(&self, least: usize) {
+        let came = [1, 2, 3, 4, 5, 6, 7, 8, 12].map(|number| self.refusals[number]);
+        assert!(came.iter().all(|&times| times >= least) && self.refusals[9] == 0, "{:?}", self.refusals);
+        assert!(self.converted >= least, "only {} drafts are converted", self.converted);
+    }
+
     /// Fails if something was rare that has to come with drafts that pass the checks.
     pub fn assert_often(&self) {
         let often = [
@@ -102,7 +102,6 @@ impl DraftCounts {
             ("repeated rules", self.repeated_rules),
             ("long areas", self.long_areas),
             ("just enough", self.just_enough),
-            ("telling worlds", self.telling_worlds),
         ];
         let opposites = [1, 2, 3, 4, 5, 6, 8, 9].map(|kind| ("opposite of a kind", self.opposites[kind]));
         for (what, times) in often.into_iter().chain(opposites) {

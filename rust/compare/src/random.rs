@@ -117,9 +117,9 @@ pub fn damage(prng: &mut Prng, file: &mut Vec<u8>) {
         let at = prng.below(file.len()).max(prng.below(file.len()));
         match prng.below(12) {
             0 => drop(file.remove(at)),
-            1 => file.insert(at, prng.byte_below(8)),
+            1 => file.insert(at, prng.byte_below(10)),
             2 => file.truncate(at),
-            3..8 => file[at] = prng.byte_below(8),
+            3..8 => file[at] = prng.byte_below(10),
             _ => file[at] = prng.byte_below(256),
         }
     }
@@ -139,7 +139,7 @@ pub fn random_bytes(prng: &mut Prng) -> Vec<u8> {
 /// A file whose text, one or two rows, rules and wanted row are random bytes, rather zeros.
 fn random_parts(prng: &mut Prng) -> Vec<u8> {
     let (text, rows, rules) = (prng.below(4), 1 + prng.below(2), prng.below(3));
-    let bound = [2, 7][prng.below(2)];
+    let bound = [2, 10][prng.below(2)];
     let mut bytes =
         |count: usize| -> Vec<u8> { (0..count).map(|_| prng.byte_below(bound) * prng.byte_below(2)).collect() };
     encode(&bytes(text), bytes(4 * rows).as_chunks().0, &bytes(rules), bytes(1)[0])

@@ -13,9 +13,10 @@ int main(void) {
     static uint8_t nodes[64 * GUMBYRA_NODE], edges[64 * GUMBYRA_EDGE], alternatives[8 * GUMBYRA_ALTERNATIVE], elements[64], links[64];
     gumbyra_conversion c = gumbyra_convert(draft, sizeof draft, area, sizeof area);
     printf("refusal %u, length %u\n", c.refusal, c.length);
+    if (c.refusal != 0) return 1;
     size_t text = gumbyra_text(area, c.length);
     printf("text: %.*s\n", (int)text, (const char *)area);
-    for (size_t row = text; row < c.length - 9; row += 4)
+    for (size_t row = text; row < c.length - 9; row += 4) /* one rule and the trailer come after the rows */
         printf("row %u %u %u %u\n", area[row], area[row + 1], area[row + 2], area[row + 3]);
     gumbyra_answer a = gumbyra_fit(area, c.length, nodes, sizeof nodes, edges, sizeof edges, alternatives, sizeof alternatives,
                                    elements, sizeof elements, links, sizeof links);
