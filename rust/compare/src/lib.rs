@@ -8,6 +8,7 @@ pub mod chains;
 pub mod checks;
 pub mod conversions;
 pub mod draft_counts;
+pub mod draft_worlds;
 pub mod drafts;
 pub mod files;
 pub mod needs;

@@ -1,10 +1,11 @@
 //! The converter against the plain one: the answer and every byte of the area, on valid and damaged drafts and random bytes in areas
-//! of random lengths; random drafts against the meaning of drafts; towers on a stack of 1 MiB.
+//! of random lengths; random drafts against the meaning of drafts, and what the engine then says of them; towers on a stack of 1 MiB.
 
 use compare::checks::STACK;
 use compare::conversions::{check_random_drafts, check_towers};
+use compare::draft_worlds::check_draft_worlds;
 use compare::{damage, draft_cases, on_stack, random_area, random_bytes, random_draft, DraftCounts, Prng, Shape};
-use watched::Converter;
+use watched::{Converter, Lending};
 
 /// The area must be as the plain converter's answer says.
 fn check(converter: &mut Converter, draft: &[u8], area: usize, counts: &mut DraftCounts) {
@@ -78,4 +79,10 @@ fn results_mean_what_the_drafts_mean() {
 fn rows_that_very_many_ways_lead_to_are_soon_converted() {
     let mut converter = Converter::new();
     on_stack(STACK, move || check_towers(|draft, area| converter.convert(draft, area)));
+}
+
+#[test]
+fn verdicts_are_true_of_the_drafts() {
+    let (mut converter, mut lending) = (Converter::new(), Lending::new());
+    check_draft_worlds(|draft, area| converter.convert(draft, area), |file, lent| lending.answer(file, lent));
 }
