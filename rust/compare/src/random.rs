@@ -108,7 +108,8 @@ pub(crate) fn argument(prng: &mut Prng, number: usize) -> u8 {
     prng.byte_below(number).max(prng.byte_below(number))
 }
 
-/// Some byte changes, rather near the end where the trailer is, and now and then a cut or an added byte.
+/// Some byte changes, rather near the end where the trailer is, and now and then a cut or an added byte. 8 and 9 are kinds that only
+/// a draft may have.
 pub fn damage(prng: &mut Prng, file: &mut Vec<u8>) {
     for _ in 0..1 + prng.below(3) {
         if file.is_empty() {
@@ -117,9 +118,10 @@ pub fn damage(prng: &mut Prng, file: &mut Vec<u8>) {
         let at = prng.below(file.len()).max(prng.below(file.len()));
         match prng.below(12) {
             0 => drop(file.remove(at)),
-            1 => file.insert(at, prng.byte_below(10)),
+            1 => file.insert(at, prng.byte_below(8)),
             2 => file.truncate(at),
-            3..8 => file[at] = prng.byte_below(10),
+            3..8 => file[at] = prng.byte_below(8),
+            8 => file[at] = 8 + prng.byte_below(2),
             _ => file[at] = prng.byte_below(256),
         }
     }
