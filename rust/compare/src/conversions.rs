@@ -3,7 +3,7 @@
 
 use crate::drafts::{random_area, random_draft, tower};
 use crate::needs::needs;
-use crate::{Converting, DraftCounts, Prng, Shape};
+use crate::{encode, Converting, DraftCounts, Prng, Shape};
 use plain::{Draft, RuleFile};
 use std::time::{Duration, Instant};
 use worlds::{Ontology, World};
@@ -13,7 +13,7 @@ const SHAPES: [(Shape, usize); 4] = [
     (Shape { names: 1, roles: 1, compound: 6, rules: 2, text: 4 }, 6000),
     (Shape { names: 2, roles: 1, compound: 14, rules: 4, text: 300 }, 8000),
     (Shape { names: 4, roles: 16, compound: 30, rules: 8, text: 3000 }, 8000),
-    (Shape { names: 6, roles: 3, compound: 120, rules: 64, text: 40 }, 8000),
+    (Shape { names: 6, roles: 3, compound: 120, rules: 64, text: 40 }, 10_000),
 ];
 
 /// How many worlds a draft and its result are compared in.
@@ -83,6 +83,20 @@ fn random_world(prng: &mut Prng, shape: Shape) -> World {
         }
     }
     world
+}
+
+/// Checks the longest results: a draft whose result is four bytes longer, with texts that bring it up to its longest; in an area
+/// that is longer than any file, just enough and one byte short.
+pub fn check_bounds(mut convert: impl Converting) {
+    let (rows, empty) = ([[1, 0, 0, 0], [9, 0, 0, 0]], 8 + 2 * 4);
+    for length in 4096 - 10..=4096 {
+        let draft = encode(&vec![b'-'; length - empty], &rows, &[], 1);
+        let needed = length + 4;
+        let expected = if needed <= 4096 { Ok(needed) } else { Err(12) };
+        assert_eq!(convert(&draft, 5000).map(|file| file.len()), expected, "{needed} bytes");
+        assert_eq!(convert(&draft, needed).map(|file| file.len()), expected, "{needed} bytes");
+        assert_eq!(convert(&draft, needed - 1), Err(12), "{needed} bytes");
+    }
 }
 
 /// Towers of 64 rows and what becomes of them: so many rows, or refusal 12.

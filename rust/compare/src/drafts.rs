@@ -15,7 +15,7 @@ pub fn random_draft(prng: &mut Prng, shape: Shape) -> Vec<u8> {
     let text = match prng.below(4) {
         0 => {
             let room = LONGEST_FILE - encode(b"", &rows, &rules, wanted).len();
-            let mut text = vec![0; room - 4 * prng.below(3)];
+            let mut text = vec![0; room - prng.below(9)];
             prng.fill(&mut text);
             text
         }

@@ -15,6 +15,7 @@ pub mod needs;
 pub mod questions;
 pub mod random;
 pub mod record_order;
+pub mod small_drafts;
 pub mod small_worlds;
 
 pub use cases::{cases, draft_cases, vectors, Case, DraftCase};

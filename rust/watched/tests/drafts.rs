@@ -2,8 +2,9 @@
 //! of random lengths; random drafts against the meaning of drafts, and what the engine then says of them; towers on a stack of 1 MiB.
 
 use compare::checks::STACK;
-use compare::conversions::{check_random_drafts, check_towers};
+use compare::conversions::{check_bounds, check_random_drafts, check_towers};
 use compare::draft_worlds::check_draft_worlds;
+use compare::small_drafts::check_small_drafts;
 use compare::{damage, draft_cases, on_stack, random_area, random_bytes, random_draft, DraftCounts, Prng, Shape};
 use watched::{Converter, Lending};
 
@@ -70,9 +71,21 @@ fn bytes_at_random() {
 }
 
 #[test]
+fn small_drafts_become_what_is_expected() {
+    let mut converter = Converter::new();
+    check_small_drafts(|draft, area| converter.convert(draft, area));
+}
+
+#[test]
 fn results_mean_what_the_drafts_mean() {
     let mut converter = Converter::new();
     check_random_drafts(|draft, area| converter.convert(draft, area));
+}
+
+#[test]
+fn results_of_4096_bytes_and_more() {
+    let mut converter = Converter::new();
+    check_bounds(|draft, area| converter.convert(draft, area));
 }
 
 #[test]
