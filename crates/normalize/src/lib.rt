@@ -159,10 +159,10 @@ fn put_new(
                 Placement::Full => Placement::Full,
             }
         }
-        Shape::Binary(kind, s, l, z, r) => {
-            match put(draft, memo, written, count, l as usize, s) {
+        Shape::Binary(kind, ls, l, rs, r) => {
+            match put(draft, memo, written, count, l as usize, ls) {
                 Placement::At(i, n) => {
-                    match put(draft, memo, written, n, r as usize, z) {
+                    match put(draft, memo, written, n, r as usize, rs) {
                         Placement::At(j, m) => share(written, m, row_word(kind, 0, i, j)),
                         Placement::Full => Placement::Full,
                     }
