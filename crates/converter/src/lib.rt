@@ -71,10 +71,10 @@ fn finish(
     }
     write_file(
         area,
-        &draft[0..first],
+        &draft[..first],
         written,
         count,
-        &rules[0..list],
+        &rules[..list],
         wanted,
     );
     Conversion {
@@ -97,15 +97,7 @@ fn convert_accepted(draft: &[u8], layout: Layout, area: &mut [u8]) -> Conversion
     match put_list(draft, tbox, &mut memo, &mut written, 0, &mut rules) {
         Listed::Rows(n) => {
             match put_list(draft, kit, &mut memo, &mut written, n, &mut wanted) {
-                Listed::Rows(m) => finish(
-                    draft,
-                    layout,
-                    &written,
-                    m,
-                    &rules,
-                    wanted[0],
-                    area,
-                ),
+                Listed::Rows(m) => finish(draft, layout, &written, m, &rules, wanted[0], area),
                 Listed::Full => refused(TOO_LARGE),
             }
         }

@@ -9,7 +9,7 @@ use mathlib.Core.List.{List, [], _∷_, _++_, List·Memᴰ}
 use Prim.Native.Nat.{ℕ, _+_, _*_, _≤_, _<_}
 use native.Mathlib.Decide.{ℕ-discrete}
 use native.Mathlib.Omega.{arith}
-use lib.ListN.{length, getD, set, length-set, length-append}
+use lib.ListN.{length, getD, set, replicate, length-set, length-append, getD-replicate}
 use lib.Seq.{getD-set-same, getD-set-other}
 use Rattle.concepts.specs.Lists.{NoneBelow}
 use Rattle.concepts.specs.Begins.{Begins, begins-refl, begins-trans, begins-length}
@@ -85,8 +85,11 @@ module _ {b : Bytes} where
   remembers-grown {t} {u} R more = record { size = R .size; settled = λ k s h l v c. R .settled k s h l v (begins-trans t u v more c) }
 
   -- nothing is remembered at first
-  pub remembers-none : (t : Table) {memo : List ℕ} → length memo ≡ 128 → ((i : ℕ) → i < 128 → getD memo i 0 ≡ 255) → rowCount b ≤ 64 → Remembers b t memo
-  remembers-none t size none few = record { size = size; settled = λ k s h l. absurd (omega (arith, none (slotOf k s) (slot-lt k s (omega arith)))) }
+  pub remembers-none : (t : Table) → rowCount b ≤ 64 → Remembers b t (replicate 128 255)
+  remembers-none t few = record {
+    size = refl;
+    settled = λ k s h l. absurd (omega (arith, getD-replicate {A = ℕ} 128 (slotOf k s) 255 0 (slot-lt k s (omega arith))));
+  }
     where
       slot-lt : (k : ℕ) (s : Sign) → k < 64 → slotOf k s < 128
       slot-lt k true h = omega arith

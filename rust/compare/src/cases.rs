@@ -1,17 +1,25 @@
 //! The questions of tests/vectors with their answers; the README beside them tells how to read them.
 
-use crate::questions::Fit;
+use crate::questions::{Convert, Fit};
 use plain::Lent;
 use std::path::PathBuf;
 
 /// The vectors that are in force.
-const VECTORS: &str = "../../tests/vectors/level-00.txt";
+const VECTORS: &str = "../../tests/vectors/level-01.txt";
 
 /// A question `fit` with its answer.
 pub struct Case {
     pub question: String,
     pub file: Vec<u8>,
     pub lent: Lent,
+    pub expected: String,
+}
+
+/// A question `convert` with its answer.
+pub struct DraftCase {
+    pub question: String,
+    pub draft: Vec<u8>,
+    pub area: usize,
     pub expected: String,
 }
 
@@ -28,6 +36,16 @@ pub fn cases() -> Vec<Case> {
     let case = |(question, expected): (String, String)| {
         let fit = Fit::parse(question.strip_prefix("fit ")?).unwrap_or_else(|| panic!("no question: `{question}`"));
         Some(Case { question, file: fit.file, lent: fit.lent, expected })
+    };
+    vectors().into_iter().filter_map(case).collect()
+}
+
+/// The questions `convert` among them.
+pub fn draft_cases() -> Vec<DraftCase> {
+    let case = |(question, expected): (String, String)| {
+        let words = question.strip_prefix("convert ")?;
+        let Convert { draft, area } = Convert::parse(words).unwrap_or_else(|| panic!("no question: `{question}`"));
+        Some(DraftCase { question, draft, area, expected })
     };
     vectors().into_iter().filter_map(case).collect()
 }

@@ -1,7 +1,7 @@
-//! Checks of an answering function, `plain::answer` or another with the same words.
+//! Checks of an answering function, `plain::answer` or another with the same words, and of a converting one.
 
-use crate::cases;
-use crate::questions::one_line;
+use crate::questions::{conversion_line, one_line, Conversion};
+use crate::{cases, draft_cases};
 use plain::{Answer, Area, Lent};
 use worlds::{Ontology, World};
 
@@ -9,6 +9,11 @@ use worlds::{Ontology, World};
 pub trait Answering: FnMut(&[u8], &Lent) -> Answer {}
 
 impl<F: FnMut(&[u8], &Lent) -> Answer> Answering for F {}
+
+/// A converting function: what becomes of a draft in an area of so many bytes.
+pub trait Converting: FnMut(&[u8], usize) -> Conversion {}
+
+impl<F: FnMut(&[u8], usize) -> Conversion> Converting for F {}
 
 /// What a caller's thread may have. Updates can nest a thousand deep, and the whole run must do with it.
 pub const STACK: usize = 1 << 20;
@@ -26,6 +31,15 @@ pub fn check_cases(mut answer: impl Answering) {
         let answer = answer(&case.file, &case.lent);
         assert_eq!(one_line(&answer), case.expected, "{}", case.question);
         check_example(&case.file, &answer);
+    }
+}
+
+/// Every question `convert` of tests/vectors: the answer is equal.
+pub fn check_draft_cases(mut convert: impl Converting) {
+    let cases = draft_cases();
+    assert!(cases.len() > 200, "the vectors are there");
+    for case in cases {
+        assert_eq!(conversion_line(&convert(&case.draft, case.area)), case.expected, "{}", case.question);
     }
 }
 

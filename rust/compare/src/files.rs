@@ -1,17 +1,7 @@
 //! Rule files written row by row.
 
-/// A row: kind, role, left, right.
-pub type Row = [u8; 4];
-
-/// The bytes of a rule file: text, rows, rule list, trailer.
-pub fn encode(text: &[u8], rows: &[Row], rules: &[u8], wanted: u8) -> Vec<u8> {
-    let count = |n: usize| u8::try_from(n).expect("a count of one byte");
-    let place = u16::try_from(text.len()).expect("a place of two bytes").to_le_bytes();
-    let mut file = [text, rows.as_flattened(), rules].concat();
-    file.extend([place[0], place[1], count(rows.len()), count(rules.len()), wanted]);
-    file.extend(b"FIT");
-    file
-}
+pub use plain::concept::Row;
+pub use plain::rulefile::encode;
 
 /// Rows written one after the other, equal rows once; each call gives the number of its row.
 #[derive(Default)]

@@ -1,19 +1,27 @@
 //! What the tests share: the questions of tests/vectors and the words they are in, rule files written row by row, random and
-//! damaged rule files, long chains; and checks of an answering function against the vectors, against itself in other areas and
-//! against the meaning of ALCI.
+//! damaged rule files and drafts, long chains; and checks of an answering function against the vectors, against itself in other
+//! areas and against the meaning of ALCI, and of a converting function against the vectors and the meaning of drafts.
 
 pub mod areas;
 pub mod cases;
 pub mod chains;
 pub mod checks;
+pub mod conversions;
+pub mod draft_counts;
+pub mod draft_worlds;
+pub mod drafts;
 pub mod files;
+pub mod needs;
 pub mod questions;
 pub mod random;
 pub mod record_order;
+pub mod small_drafts;
 pub mod small_worlds;
 
-pub use cases::{cases, vectors, Case};
-pub use checks::{check_cases, check_example, on_stack, Answering};
+pub use cases::{cases, draft_cases, vectors, Case, DraftCase};
+pub use checks::{check_cases, check_draft_cases, check_example, on_stack, Answering, Converting};
+pub use draft_counts::DraftCounts;
+pub use drafts::{random_area, random_draft};
 pub use files::encode;
-pub use questions::{one_line, Fit};
+pub use questions::{conversion_line, one_line, Conversion, Convert, Fit};
 pub use random::{damage, random_bytes, random_file, random_lent, Prng, Shape};

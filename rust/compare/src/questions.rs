@@ -25,6 +25,21 @@ impl Fit {
     }
 }
 
+/// The question `convert DRAFT AREA`.
+pub struct Convert {
+    pub draft: Vec<u8>,
+    /// The length of the lent area.
+    pub area: usize,
+}
+
+impl Convert {
+    /// Reads what follows the word `convert`; `None` if it is something else.
+    pub fn parse(words: &str) -> Option<Convert> {
+        let (draft, area) = words.split_once(' ')?;
+        Some(Convert { draft: parse_bytes(draft)?, area: parse_size(area)? })
+    }
+}
+
 /// Bytes in lower-case hexadecimal digits; `-` stands for no bytes.
 fn parse_bytes(word: &str) -> Option<Vec<u8>> {
     if word == "-" {
@@ -49,6 +64,17 @@ fn parse_size(word: &str) -> Option<usize> {
     word.parse().ok().filter(|&size| decimal && size <= LONGEST_AREA)
 }
 
+/// What a conversion gives: the file that is written, or a refusal's number.
+pub type Conversion = Result<Vec<u8>, u8>;
+
+/// A conversion in one line.
+pub fn conversion_line(conversion: &Conversion) -> String {
+    match conversion {
+        Ok(file) => file.iter().fold("OK ".to_string(), |line, byte| line + &format!("{byte:02x}")),
+        Err(number) => format!("REFUSED {number}"),
+    }
+}
+
 /// What the printing program prints, its lines joined by `;`.
 pub fn one_line(answer: &Answer) -> String {
     print(answer).trim_end().replace('\n', ";")
@@ -63,6 +89,21 @@ mod tests {
         let fit = Fit::parse("00ff10 1 2 3 4 5").expect("a question");
         assert_eq!((fit.file, fit.lent), (vec![0x00, 0xff, 0x10], Lent::records(1, 2, 3, 4, 5)));
         assert_eq!(Fit::parse("- 70000 0 0 0 0").expect("a question").file, b"");
+    }
+
+    #[test]
+    fn a_question_about_a_draft_is_read() {
+        let convert = Convert::parse("00ff10 4096").expect("a question");
+        assert_eq!((convert.draft, convert.area), (vec![0x00, 0xff, 0x10], 4096));
+        assert_eq!(Convert::parse("- 0").expect("a question").draft, b"");
+        let others = ["", " ", "-", "- ", " -", "- -1", "- 1 2", "-  1", "0 1", "0F 1", "- 67108865"];
+        assert!(others.iter().all(|words| Convert::parse(words).is_none()));
+    }
+
+    #[test]
+    fn a_conversion_is_one_line() {
+        assert_eq!(conversion_line(&Ok(vec![0x00, 0xff, 0x10])), "OK 00ff10");
+        assert_eq!(conversion_line(&Err(12)), "REFUSED 12");
     }
 
     #[test]

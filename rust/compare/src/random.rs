@@ -64,7 +64,7 @@ pub fn random_file(prng: &mut Prng, shape: Shape) -> Vec<u8> {
 }
 
 /// One file of four has a text, if the shape allows it one.
-fn random_text(prng: &mut Prng, most: usize) -> Vec<u8> {
+pub(crate) fn random_text(prng: &mut Prng, most: usize) -> Vec<u8> {
     if most == 0 || prng.below(4) > 0 {
         return Vec::new();
     }
@@ -92,7 +92,7 @@ fn random_rows(prng: &mut Prng, shape: Shape) -> Vec<Row> {
 }
 
 /// A row of kind 3 to 6. Kinds 5 and 6 come more often than 3, since they drive the graph.
-fn random_row(prng: &mut Prng, shape: Shape, number: usize) -> Row {
+pub(crate) fn random_row(prng: &mut Prng, shape: Shape, number: usize) -> Row {
     let (left, right) = (argument(prng, number), argument(prng, number));
     let role = prng.byte_below(2 * shape.roles);
     match prng.below(10) {
@@ -104,11 +104,12 @@ fn random_row(prng: &mut Prng, shape: Shape, number: usize) -> Row {
 }
 
 /// A lower row, rather a late one: so rows nest.
-fn argument(prng: &mut Prng, number: usize) -> u8 {
+pub(crate) fn argument(prng: &mut Prng, number: usize) -> u8 {
     prng.byte_below(number).max(prng.byte_below(number))
 }
 
-/// Some byte changes, rather near the end where the trailer is, and now and then a cut or an added byte.
+/// Some byte changes, rather near the end where the trailer is, and now and then a cut or an added byte. 8 and 9 are kinds that only
+/// a draft may have.
 pub fn damage(prng: &mut Prng, file: &mut Vec<u8>) {
     for _ in 0..1 + prng.below(3) {
         if file.is_empty() {
@@ -120,6 +121,7 @@ pub fn damage(prng: &mut Prng, file: &mut Vec<u8>) {
             1 => file.insert(at, prng.byte_below(8)),
             2 => file.truncate(at),
             3..8 => file[at] = prng.byte_below(8),
+            8 => file[at] = 8 + prng.byte_below(2),
             _ => file[at] = prng.byte_below(256),
         }
     }
@@ -139,7 +141,7 @@ pub fn random_bytes(prng: &mut Prng) -> Vec<u8> {
 /// A file whose text, one or two rows, rules and wanted row are random bytes, rather zeros.
 fn random_parts(prng: &mut Prng) -> Vec<u8> {
     let (text, rows, rules) = (prng.below(4), 1 + prng.below(2), prng.below(3));
-    let bound = [2, 7][prng.below(2)];
+    let bound = [2, 10][prng.below(2)];
     let mut bytes =
         |count: usize| -> Vec<u8> { (0..count).map(|_| prng.byte_below(bound) * prng.byte_below(2)).collect() };
     encode(&bytes(text), bytes(4 * rows).as_chunks().0, &bytes(rules), bytes(1)[0])

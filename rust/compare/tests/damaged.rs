@@ -1,7 +1,10 @@
-//! Damaged files get an answer, never a panic; and a file that is accepted all the same gets a right one.
+//! Damaged files get an answer, never a panic; and a file that is accepted all the same gets a right one. The same with drafts.
 
-use compare::{cases, check_example, damage, random_bytes, random_file, Prng, Shape};
-use plain::{answer, print, Lent, RuleFile, Used};
+use compare::{
+    cases, check_example, damage, draft_cases, random_bytes, random_draft, random_file, DraftCounts, Prng, Shape,
+};
+use plain::{answer, convert, print, Draft, Lent, RuleFile, Used};
+use worlds::Ontology;
 
 const SHAPE: Shape = Shape { names: 2, roles: 2, compound: 12, rules: 4, text: 8 };
 
@@ -46,4 +49,27 @@ fn random_bytes_never_panic() {
         check(&random_bytes(&mut prng), &Lent::by_program(), &mut refusals);
     }
     assert_often(&refusals, 50);
+}
+
+/// Two readers, written apart, accept the same drafts.
+fn check_draft(draft: &[u8], counts: &mut DraftCounts) {
+    assert_eq!(Ontology::decode_draft(draft).is_some(), Draft::read(draft).is_ok(), "{draft:02x?}");
+    counts.count(draft, 4000, &convert(draft, 4000));
+}
+
+#[test]
+fn damaged_drafts_never_panic() {
+    let mut prng = Prng::new(9);
+    let mut counts = DraftCounts::default();
+    let vectors: Vec<Vec<u8>> = draft_cases().into_iter().map(|case| case.draft).collect();
+    for round in 0..40_000 {
+        let mut draft = match round % 4 {
+            0 => vectors[prng.below(vectors.len())].clone(),
+            _ => random_draft(&mut prng, SHAPE),
+        };
+        damage(&mut prng, &mut draft);
+        check_draft(&draft, &mut counts);
+    }
+    println!("{counts:?}");
+    counts.assert_each_refusal(50);
 }

@@ -1,7 +1,7 @@
-//! The text of a file, and the order of the checks.
+//! The text of a file, the order of the checks, and the kinds of a draft.
 
 use compare::encode;
-use plain::{text, RuleFile};
+use plain::{text, Draft, RuleFile};
 
 const ROWS: [[u8; 4]; 3] = [[1, 0, 0, 0], [5, 31, 0, 0], [6, 0, 1, 0]];
 
@@ -33,4 +33,23 @@ fn each_check_covers_all_rows_before_the_next() {
     assert_eq!(refusal(&[name], &[1], 0), Some(8));
     assert_eq!(refusal(&[name], &[0], 1), Some(8));
     assert_eq!(refusal(&[name], &[0], 0), None);
+}
+
+#[test]
+fn a_draft_has_two_kinds_more() {
+    let name = [1, 0, 0, 0];
+    let refusals = |row: [u8; 4]| {
+        let bytes = encode(b"", &[name, row], &[], 1);
+        (RuleFile::read(&bytes).err(), Draft::read(&bytes).err())
+    };
+    assert_eq!(refusals([3, 0, 0, 0]), (None, None));
+    assert_eq!(refusals([8, 0, 0, 0]), (Some(5), None));
+    assert_eq!(refusals([9, 0, 0, 0]), (Some(5), None));
+    // An unused byte, an argument that isn't lower: check 6 follows check 5.
+    for row in [[7, 0, 0, 0], [10, 0, 0, 0], [0, 0, 0, 0], [8, 1, 0, 0], [8, 0, 0, 1], [9, 1, 0, 0]] {
+        assert_eq!(refusals(row), (Some(5), Some(5)), "{row:?}");
+    }
+    for row in [[8, 0, 1, 0], [9, 0, 1, 0], [9, 0, 0, 1]] {
+        assert_eq!(refusals(row), (Some(5), Some(6)), "{row:?}");
+    }
 }

@@ -1,9 +1,14 @@
-//! Every case of tests/vectors through the plain engine.
+//! Every case of tests/vectors through the plain engine and the plain converter.
 
 use compare::checks::STACK;
-use compare::{check_cases, on_stack};
+use compare::{check_cases, check_draft_cases, on_stack};
 
 #[test]
 fn every_case_prints_what_is_expected() {
     on_stack(STACK, || check_cases(plain::answer));
+}
+
+#[test]
+fn every_draft_becomes_what_is_expected() {
+    on_stack(STACK, || check_draft_cases(plain::convert));
 }

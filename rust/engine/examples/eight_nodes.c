@@ -1,4 +1,4 @@
-/* Document 01's eight-node run, with a text: cc -I include examples/eight_nodes.c -L DIR -lengine, DIR being the archive's folder. */
+/* Document 01's eight-node run, with a text: cc -I include examples/eight_nodes.c -L DIR -lgumbyra, DIR being the archive's folder. */
 #include <stdio.h>
 #include "gumbyra.h"
 

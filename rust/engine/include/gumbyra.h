@@ -1,7 +1,7 @@
-/* The fit engine: two calls on a rule file. Link with libengine.a, which is for x86-64 Linux only.
-   examples/eight_nodes.c is a whole program.
+/* The fit engine: two calls on a rule file, and one that makes a rule file of a draft. Link with libgumbyra.a, which is for
+   x86-64 Linux only. examples/eight_nodes.c and examples/draft.c are whole programs.
 
-   In both calls a pointer may not be null, even with length 0. Nothing is kept after a call, and there is no state: threads may
+   In all calls a pointer may not be null, even with length 0. Nothing is kept after a call, and there is no state: threads may
    call at the same time, with areas of their own. For a call of this build a stack of 1 MiB suffices. */
 #ifndef GUMBYRA_H
 #define GUMBYRA_H
@@ -21,6 +21,9 @@ enum {
     GUMBYRA_ELEMENT = 8, /* the row set, row k as bit k, low byte first */
     GUMBYRA_LINK = 6     /* from, role code, to, 2 bytes each, low byte first */
 };
+
+/* The most bytes of a rule file: an area of so many suffices for gumbyra_convert. */
+enum { GUMBYRA_LONGEST_FILE = 4096 };
 
 enum { GUMBYRA_REFUSED = 0, GUMBYRA_CAN = 1, GUMBYRA_CANNOT = 2 };
 
@@ -43,6 +46,16 @@ gumbyra_answer gumbyra_fit(const uint8_t *file, size_t file_len,
 
 /* How many leading bytes of a rule file are its text; 0 for a file that is refused with 1 to 9. */
 size_t gumbyra_text(const uint8_t *file, size_t file_len);
+
+typedef struct {
+    uint32_t refusal; /* 0 if a file was written; else 1 to 9: the draft; 12: the result is too long for a file or for the area */
+    uint32_t length;  /* how many bytes at the start of the area are the file; 0 with a refusal */
+} gumbyra_conversion;
+
+/* Converts a draft, a rule file with two more kinds of row (8: not the left row; 9: if left then right), into a rule file of the
+   same text and the same meaning. The area may be of any length and hold anything; it may not overlap the draft. Its bytes past
+   the result are kept, and after a refusal it is as it was. */
+gumbyra_conversion gumbyra_convert(const uint8_t *draft, size_t draft_len, uint8_t *area, size_t area_len);
 
 #ifdef __cplusplus
 }

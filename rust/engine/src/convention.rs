@@ -1,4 +1,4 @@
-//! The engine's calls by the C convention, as in include/gumbyra.h. The only unsafe code.
+//! The calls by the C convention, as in include/gumbyra.h. The only unsafe code.
 
 use crate::Areas;
 
@@ -13,6 +13,14 @@ pub struct Answer {
     pub alternatives: u32,
     pub elements: u32,
     pub links: u32,
+}
+
+/// The numbers of a conversion.
+#[repr(C)]
+#[derive(Debug)]
+pub struct Conversion {
+    pub refusal: u32,
+    pub length: u32,
 }
 
 extern "C" {
@@ -32,6 +40,8 @@ extern "C" {
     ) -> Answer;
 
     fn gumbyra_text(file: *const u8, file_len: usize) -> usize;
+
+    fn gumbyra_convert(draft: *const u8, draft_len: usize, area: *mut u8, area_len: usize) -> Conversion;
 }
 
 /// Decides a rule file.
@@ -60,4 +70,11 @@ pub fn fit(file: &[u8], areas: &mut Areas) -> Answer {
 pub fn text_len(file: &[u8]) -> usize {
     // SAFETY: the pointer comes with the length of its slice, which the engine only reads, and only during the call.
     unsafe { gumbyra_text(file.as_ptr(), file.len()) }
+}
+
+/// Converts a draft.
+pub fn convert(draft: &[u8], area: &mut [u8]) -> Conversion {
+    // SAFETY: each pointer comes with the length of its slice. The area is borrowed alone, so the two do not overlap, and the
+    // converter keeps no pointer.
+    unsafe { gumbyra_convert(draft.as_ptr(), draft.len(), area.as_mut_ptr(), area.len()) }
 }

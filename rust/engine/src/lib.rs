@@ -14,20 +14,23 @@
 //! }
 //! ```
 //!
-//! In order: the calls ([`fit`](fit()) and [`text`]), the space that they work in ([`space`]), what comes back ([`verdict`],
-//! [`refusal`], [`example`], [`row_set`]), the C convention. The engine is proved; this crate only hands slices over and reads
-//! the numbers and bytes that come back. But for [`Space`] it allocates nothing.
+//! In order: the calls ([`fit`](fit()), [`text`] and [`convert`], which makes a rule file of a draft with "not" and "if"), the
+//! space that they work in ([`space`]), what comes back ([`verdict`], [`refusal`], [`example`], [`row_set`], [`conversion`]), the
+//! C convention. The engine and the converter are proved; this crate only hands slices over and reads the numbers and bytes that
+//! come back. But for [`Space`] it allocates nothing.
 //!
 //! The archive is for x86-64 Linux only. For a call of this build a stack of 1 MiB suffices; a thread of Rust has 2 by default.
 
 #[allow(unsafe_code)]
 mod convention;
+pub mod conversion;
 pub mod example;
 pub mod refusal;
 pub mod row_set;
 pub mod space;
 pub mod verdict;
 
+pub use conversion::LONGEST_FILE;
 pub use example::{Example, Link, LINK_BYTES};
 pub use refusal::Refusal;
 pub use row_set::{RowSet, ELEMENT_BYTES};
@@ -78,4 +81,37 @@ pub fn fit<'a>(file: &[u8], mut areas: Areas<'a>) -> Result<Verdict<'a>, Refusal
 /// ```
 pub fn text(file: &[u8]) -> &[u8] {
     &file[..convention::text_len(file)]
+}
+
+/// Converts a draft, a rule file with two more kinds of row: 8, not the left row, and 9, if left then right. Gives the part of
+/// the area that is the file, a rule file of the same text and the same meaning without these kinds.
+///
+/// Bytes of the area past the result are kept, and after a refusal it is as it was. It may be of any length and hold anything;
+/// [`LONGEST_FILE`] bytes suffice.
+///
+/// ```
+/// use gumbyra::{convert, Refusal, Space, Verdict, LONGEST_FILE};
+///
+/// // Rows: a name; another; if row 0 then row 1; not row 1; both row 0 and row 3. Rule: row 2. Wanted: row 4.
+/// let rows = [[1, 0, 0, 0], [1, 0, 1, 0], [9, 0, 0, 1], [8, 0, 1, 0], [3, 0, 0, 3]];
+/// let draft = [rows.as_flattened(), &[2], &[0, 0, 5, 1, 4], b"FIT"].concat();
+///
+/// let mut area = [0; LONGEST_FILE];
+/// let file = convert(&draft, &mut area)?;
+/// // Not name 0; name 1; either row 0 or row 1; name 0; not name 1; both row 3 and row 4. Rule: row 2. Wanted: row 5.
+/// let rows = [[2, 0, 0, 0], [1, 0, 1, 0], [4, 0, 0, 1], [1, 0, 0, 0], [2, 0, 1, 0], [3, 0, 3, 4]];
+/// assert_eq!(file, [rows.as_flattened(), &[2], &[0, 0, 6, 1, 5], b"FIT"].concat());
+/// assert!(matches!(Space::usual().fit(file)?, Verdict::Cannot { .. }));
+///
+/// // The draft itself is no rule file, and a short area does not do.
+/// assert_eq!(Space::usual().fit(&draft), Err(Refusal::Row));
+/// assert_eq!(convert(&draft, &mut [0; 32]), Err(Refusal::ResultTooLong));
+/// # Ok::<(), gumbyra::Refusal>(())
+/// ```
+///
+/// # Panics
+/// If the numbers that come back are of no answer: then the archive is not the one that this crate was written for.
+pub fn convert<'a>(draft: &[u8], area: &'a mut [u8]) -> Result<&'a [u8], Refusal> {
+    let answer = convention::convert(draft, area);
+    conversion::outcome(&answer, area).unwrap_or_else(|| panic!("no answer of the converter: {answer:?}"))
 }

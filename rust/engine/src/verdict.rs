@@ -35,7 +35,7 @@ pub(crate) fn outcome<'a>(answer: &Answer, areas: [&'a [u8]; 2]) -> Option<Resul
     match (verdict, refusal, [nodes, edges, alternatives], counts) {
         (CAN, 0, _, _) => Some(Ok(Verdict::Can { used, example: Example::read(areas, counts)? })),
         (CANNOT, 0, _, [0, 0]) => Some(Ok(Verdict::Cannot { used })),
-        (REFUSED, _, [0, 0, 0], _) => Some(Err(Refusal::of_numbers(refusal, counts)?)),
+        (REFUSED, _, [0, 0, 0], _) => Some(Err(Refusal::of_run(refusal, counts)?)),
         _ => None,
     }
 }

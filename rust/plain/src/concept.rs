@@ -14,7 +14,26 @@ pub fn inverse(role: Role) -> Role {
     }
 }
 
-/// What a row says; arguments are numbers of lower rows.
+/// Bytes of a row.
+pub const ROW: usize = 4;
+
+/// A row's bytes: kind, role, left, right.
+pub type Row = [u8; ROW];
+
+/// What a row can say, by the kinds that are allowed.
+pub trait Kinds: Copy {
+    /// What a row says. `None` if it is malformed: a kind that is not allowed, a non-zero unused byte, a role above 31 or a name
+    /// above 63.
+    fn of_row(row: Row) -> Option<Self>;
+
+    /// The highest row that it names as an argument.
+    fn highest_argument(self) -> Option<usize>;
+
+    /// Is it a name or the negation of one?
+    fn is_literal(self) -> bool;
+}
+
+/// What a row of a rule file says; arguments are numbers of lower rows.
 #[derive(Clone, Copy, Debug, PartialEq, Eq)]
 pub enum Concept {
     /// Kind 1: a name.
@@ -31,10 +50,8 @@ pub enum Concept {
     Exist(Role, usize),
 }
 
-impl Concept {
-    /// The concept of a row's four bytes: kind, role, left, right. `None` if the row is malformed: a kind outside 1 to 6,
-    /// a non-zero unused byte, a role above 31 or a name above 63.
-    pub fn of_row([kind, role, left, right]: [u8; 4]) -> Option<Concept> {
+impl Kinds for Concept {
+    fn of_row([kind, role, left, right]: Row) -> Option<Concept> {
         let (l, r) = (usize::from(left), usize::from(right));
         match kind {
             1 if role == 0 && right == 0 && left <= 63 => Some(Concept::Atomic(left)),
@@ -47,8 +64,7 @@ impl Concept {
         }
     }
 
-    /// The highest row that the concept names as an argument.
-    pub fn highest_argument(self) -> Option<usize> {
+    fn highest_argument(self) -> Option<usize> {
         match self {
             Concept::Atomic(_) | Concept::Negated(_) => None,
             Concept::Conj(l, r) | Concept::Disj(l, r) => Some(l.max(r)),
@@ -56,8 +72,7 @@ impl Concept {
         }
     }
 
-    /// Is it a name or the negation of one?
-    pub fn is_literal(self) -> bool {
+    fn is_literal(self) -> bool {
         matches!(self, Concept::Atomic(_) | Concept::Negated(_))
     }
 }

@@ -1,36 +1,43 @@
-//! The rule file and its checks, refusals 1 to 9 (document 01, "The rule file" and "Refusals, in checking order").
+//! The rule file and its checks, refusals 1 to 9 (document 01, "The rule file" and "Refusals, in checking order"). A draft passes
+//! the same checks with two kinds of row more (document 02, [1]), so what a row can say is a parameter.
 
-use crate::concept::Concept;
+use crate::concept::{Concept, Kinds, Row, ROW};
+use crate::draft::DraftConcept;
 
+pub const LONGEST_FILE: usize = 4096;
+pub const MOST_ROWS: usize = 64;
 const TRAILER: usize = 8;
-const LONGEST_FILE: usize = 4096;
 const MARK: [u8; 3] = [0x46, 0x49, 0x54];
-const MOST_ROWS: usize = 64;
 const MOST_RULES: usize = 64;
-const ROW: usize = 4;
 
-/// What an accepted file holds.
+/// What an accepted file or draft holds.
 #[derive(Clone, Debug, PartialEq, Eq)]
-pub struct RuleFile<'a> {
+pub struct Accepted<'a, C> {
     /// The text before the rows.
     pub text: &'a [u8],
     /// The rows.
-    pub concepts: Vec<Concept>,
+    pub concepts: Vec<C>,
     /// The rules: numbers of rows, repeats allowed.
     pub tbox: Vec<usize>,
     /// The number of the wanted row.
     pub wanted: usize,
 }
 
-impl<'a> RuleFile<'a> {
-    /// Reads a file, or gives the number of the first check that refuses it.
-    pub fn read(bytes: &'a [u8]) -> Result<RuleFile<'a>, u8> {
+/// An accepted rule file: kinds 1 to 6.
+pub type RuleFile<'a> = Accepted<'a, Concept>;
+
+/// An accepted draft: kinds 8 and 9 too.
+pub type Draft<'a> = Accepted<'a, DraftConcept>;
+
+impl<'a, C: Kinds> Accepted<'a, C> {
+    /// Reads a file or draft, or gives the number of the first check that refuses it.
+    pub fn read(bytes: &'a [u8]) -> Result<Accepted<'a, C>, u8> {
         let parts = Parts::of(bytes)?;
-        let concepts = check_rows(&parts.rows)?;
+        let concepts = check_rows::<C>(&parts.rows)?;
         check_rules(&parts, concepts.len())?;
         // Row 0 has no lower row to name, so check 9 never fires; document 01 lists it, and so it stands here.
         require(concepts.iter().any(|c| c.is_literal()), 9)?;
-        Ok(RuleFile {
+        Ok(Accepted {
             text: parts.text,
             concepts,
             tbox: parts.rules.iter().map(|&rule| usize::from(rule)).collect(),
@@ -44,10 +51,20 @@ pub fn text(file: &[u8]) -> &[u8] {
     RuleFile::read(file).map_or(&file[..0], |read| read.text)
 }
 
+/// The bytes of a rule file: text, rows, rule list, trailer.
+pub fn encode(text: &[u8], rows: &[Row], rules: &[u8], wanted: u8) -> Vec<u8> {
+    let count = |n: usize| u8::try_from(n).expect("a count of one byte");
+    let place = u16::try_from(text.len()).expect("a place of two bytes").to_le_bytes();
+    let mut file = [text, rows.as_flattened(), rules].concat();
+    file.extend([place[0], place[1], count(rows.len()), count(rules.len()), wanted]);
+    file.extend(MARK);
+    file
+}
+
 /// The parts of a file that passes checks 1 to 4.
 struct Parts<'a> {
     text: &'a [u8],
-    rows: Vec<[u8; ROW]>,
+    rows: Vec<Row>,
     rules: &'a [u8],
     wanted: u8,
 }
@@ -70,10 +87,10 @@ impl<'a> Parts<'a> {
 }
 
 /// Checks 5 to 7, each over all rows before the next.
-fn check_rows(rows: &[[u8; ROW]]) -> Result<Vec<Concept>, u8> {
-    let concepts: Option<Vec<Concept>> = rows.iter().map(|&row| Concept::of_row(row)).collect();
+fn check_rows<C: Kinds>(rows: &[Row]) -> Result<Vec<C>, u8> {
+    let concepts: Option<Vec<C>> = rows.iter().map(|&row| C::of_row(row)).collect();
     let concepts = concepts.ok_or(5)?;
-    let lower = |(k, c): (usize, &Concept)| c.highest_argument().is_none_or(|argument| argument < k);
+    let lower = |(k, c): (usize, &C)| c.highest_argument().is_none_or(|argument| argument < k);
     require(concepts.iter().enumerate().all(lower), 6)?;
     require(rows.iter().enumerate().all(|(k, row)| !rows[..k].contains(row)), 7)?;
     Ok(concepts)

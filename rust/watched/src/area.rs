@@ -72,8 +72,8 @@ impl Area {
             Fate::Kept => (!kept(start..end)).then_some("the area changed"),
             // Joined rather than searched: that is many bytes at a time.
             Fate::Zero => (bytes.iter().fold(0, |joined, byte| joined | byte) != 0).then_some("a byte is not zero"),
-            Fate::Begins(first) if !bytes.starts_with(first) => Some("it does not begin with the example"),
-            Fate::Begins(first) => (!kept(start + first.len()..end)).then_some("bytes past the example changed"),
+            Fate::Begins(first) if !bytes.starts_with(first) => Some("it does not begin with the result"),
+            Fate::Begins(first) => (!kept(start + first.len()..end)).then_some("bytes past the result changed"),
         }
     }
 }
@@ -107,7 +107,7 @@ mod tests {
     }
 
     #[test]
-    fn an_example_longer_than_the_area_is_seen() {
+    fn a_result_longer_than_the_area_is_seen() {
         let mut area = Area::new(1);
         area.lend(LENGTH, &mut Prng::new(2));
         assert!(area.broken(&Fate::Begins(vec![0; LENGTH + 1])).is_some());

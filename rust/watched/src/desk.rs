@@ -1,11 +1,13 @@
-//! The line protocol of the tests: an answer for each question, by the engine in watched areas. One function for each word.
+//! The line protocol of the tests: an answer for each question, by the engine or the converter in watched areas. One function for
+//! each word.
 
+use crate::converter::Converter;
 use crate::lending::Lending;
-use compare::{one_line, Fit, Prng};
+use compare::{conversion_line, one_line, Convert, Fit, Prng};
 use gumbyra::{ALTERNATIVE_BYTES, EDGE_BYTES, NODE_BYTES};
 use plain::Lent;
 
-/// Why a question has no answer of the engine.
+/// Why a question has no answer.
 enum Trouble {
     /// It is no question; the text tells what would be one.
     Unknown(&'static str),
@@ -13,18 +15,20 @@ enum Trouble {
     Broken(String),
 }
 
-const WORDS: &str = "the words are: fit";
+const WORDS: &str = "the words are: fit, convert";
 const FIT: &str = "fit FILE N E A EB LB";
+const CONVERT: &str = "convert DRAFT AREA";
 
 /// Where questions are answered.
 pub struct Desk {
     lending: Lending,
+    converter: Converter,
 }
 
 impl Desk {
-    /// A desk that asks this engine.
-    pub fn new(lending: Lending) -> Desk {
-        Desk { lending }
+    /// A desk that asks this engine and this converter.
+    pub fn new(lending: Lending, converter: Converter) -> Desk {
+        Desk { lending, converter }
     }
 
     /// The answer to a question, one line. It begins with `BROKEN` if a promise is broken, and with `UNKNOWN` if the line is no
@@ -42,6 +46,7 @@ impl Desk {
         let (word, rest) = question.split_once(' ').unwrap_or((question, ""));
         match word {
             "fit" => self.fit(rest),
+            "convert" => self.convert(rest),
             _ => Err(Trouble::Unknown(WORDS)),
         }
     }
@@ -52,6 +57,13 @@ impl Desk {
         let lent = with_broken_records(lent, &mut Prng::of_bytes(rest.as_bytes()));
         let answer = self.lending.watch(&file, &lent).map_err(Trouble::Broken)?;
         Ok(one_line(&answer))
+    }
+
+    /// What is written in an area of this length, or the refusal.
+    fn convert(&mut self, rest: &str) -> Result<String, Trouble> {
+        let Convert { draft, area } = Convert::parse(rest).ok_or(Trouble::Unknown(CONVERT))?;
+        let conversion = self.converter.watch(&draft, area).map_err(Trouble::Broken)?;
+        Ok(conversion_line(&conversion))
     }
 }
 
@@ -69,15 +81,16 @@ fn with_broken_records(whole: Lent, prng: &mut Prng) -> Lent {
 #[cfg(test)]
 mod tests {
     use super::*;
+    use crate::converter::Call;
     use crate::lending::Engine;
-    use gumbyra::{fit, Areas, Refusal, Verdict};
+    use gumbyra::{convert, fit, Areas, Refusal, Verdict};
 
     const CAN: &[u8] = b"fit 010000000000010000464954 9 9 9 99 99";
     const CANNOT: &[u8] = b"fit 0100000002000000030000010000030002464954 9 9 9 99 99";
     const REFUSED: &[u8] = b"fit - 9 9 9 99 99";
 
     fn answer(engine: Engine, question: &[u8]) -> String {
-        Desk::new(Lending::to(engine)).answer(question)
+        Desk::new(Lending::to(engine), Converter::new()).answer(question)
     }
 
     #[test]
@@ -98,7 +111,7 @@ mod tests {
 
     #[test]
     fn a_touched_byte_is_told() {
-        assert_eq!(answer(touching, CAN), "BROKEN elements: bytes past the example changed");
+        assert_eq!(answer(touching, CAN), "BROKEN elements: bytes past the result changed");
         assert_eq!(answer(touching, CANNOT), "BROKEN elements: the area changed");
         assert_eq!(answer(touching, REFUSED), "BROKEN edges: the area changed");
     }
@@ -131,6 +144,9 @@ mod tests {
         assert!(other_words.iter().all(|line| answer(fit, line) == format!("UNKNOWN {WORDS}")));
         let other_fits = [b"fit".as_slice(), b"fit ", b"fit 0 1 1 1 1 1", b"fit - 1 1 1 1", b"fit - 1 1 1 1 1\r"];
         assert!(other_fits.iter().all(|line| answer(fit, line) == format!("UNKNOWN {FIT}")));
+        let other_converts =
+            [b"convert".as_slice(), b"convert ", b"convert 0 1", b"convert -", b"convert - 1 1", b"convert - 1\r"];
+        assert!(other_converts.iter().all(|line| answer(fit, line) == format!("UNKNOWN {CONVERT}")));
     }
 
     #[test]
@@ -143,5 +159,55 @@ mod tests {
             assert!(lent.nodes > whole.nodes && lent.edges > whole.edges && lent.alternatives > whole.alternatives);
             assert_eq!((lent.elements, lent.links), (whole.elements, whole.links));
         }
+    }
+
+    /// A name and its opposite, wanted, in an area with some bytes more.
+    const CONVERTED: &[u8] = b"convert 01000000080000000000020001464954 20";
+    const TOO_LONG: &[u8] = b"convert 01000000080000000000020001464954 11";
+    const NO_DRAFT: &[u8] = b"convert - 20";
+
+    fn answer_draft(converter: Call, question: &[u8]) -> String {
+        Desk::new(Lending::new(), Converter::to(converter)).answer(question)
+    }
+
+    #[test]
+    fn the_converter_breaks_no_promise() {
+        assert_eq!(answer_draft(convert, CONVERTED), "OK 020000000000010000464954");
+        assert_eq!(answer_draft(convert, TOO_LONG), "REFUSED 12");
+        assert_eq!(answer_draft(convert, NO_DRAFT), "REFUSED 1");
+    }
+
+    /// Touches the last byte of the area.
+    fn touching_last<'a>(draft: &[u8], area: &'a mut [u8]) -> Result<&'a [u8], Refusal> {
+        let last = area.last_mut().expect("bytes");
+        *last = last.wrapping_add(1);
+        convert(draft, area)
+    }
+
+    #[test]
+    fn a_touched_byte_of_the_area_is_told() {
+        assert_eq!(answer_draft(touching_last, CONVERTED), "BROKEN area: bytes past the result changed");
+        assert_eq!(answer_draft(touching_last, TOO_LONG), "BROKEN area: the area changed");
+        assert_eq!(answer_draft(touching_last, NO_DRAFT), "BROKEN area: the area changed");
+    }
+
+    /// Writes one byte further on and gives that part.
+    fn shifted<'a>(draft: &[u8], area: &'a mut [u8]) -> Result<&'a [u8], Refusal> {
+        convert(draft, &mut area[1..])
+    }
+
+    #[test]
+    fn a_file_at_another_place_is_told() {
+        assert_eq!(answer_draft(shifted, CONVERTED), "BROKEN the file is not at the start of the area");
+        assert_eq!(answer_draft(shifted, TOO_LONG), "REFUSED 12");
+    }
+
+    fn failing_draft<'a>(_: &[u8], _: &'a mut [u8]) -> Result<&'a [u8], Refusal> {
+        panic!("no answer\nof the converter")
+    }
+
+    #[test]
+    fn a_conversion_without_answer_is_told() {
+        assert_eq!(answer_draft(failing_draft, CONVERTED), "BROKEN no answer of the converter");
     }
 }

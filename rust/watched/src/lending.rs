@@ -98,7 +98,7 @@ fn read(example: Example) -> (Vec<RowSet>, Vec<(u16, u16, u16)>) {
 }
 
 /// Why a call panicked, in one line.
-fn reason(panic: Box<dyn Any + Send>) -> String {
+pub(crate) fn reason(panic: Box<dyn Any + Send>) -> String {
     let text = panic.downcast_ref::<String>().map(String::as_str).or(panic.downcast_ref::<&str>().copied());
     text.unwrap_or("the call has no answer").replace('\n', " ")
 }

@@ -1,8 +1,8 @@
 //! The meaning of ALCI over finite worlds (document 01, "The meaning of ALCI"), and a search through small worlds.
 //!
-//! Nothing here comes from the tableau or its graph: rows are judged by what they mean. [`ontology`] decodes an accepted
-//! rule file, [`world`] holds finite interpretations and evaluates rows over them, [`search`](mod@search) looks for a small
-//! world that obeys every rule and has a member of the kit.
+//! Nothing here comes from the tableau or its graph, and nothing from a converter: rows are judged by what they mean, "not" and
+//! "if" of a draft too. [`ontology`] decodes an accepted rule file or draft, [`world`] holds finite interpretations and
+//! evaluates rows over them, [`search`](mod@search) looks for a small world that obeys every rule and has a member of the kit.
 
 pub mod ontology;
 mod partial;

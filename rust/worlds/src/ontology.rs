@@ -1,4 +1,4 @@
-//! The rows, the TBox and the wanted concept of a rule file.
+//! The rows, the TBox and the wanted concept of a rule file or a draft.
 
 /// A role read forwards or, with `inverse`, backwards.
 #[derive(Clone, Copy, Debug, PartialEq, Eq)]
@@ -23,9 +23,13 @@ pub enum Concept {
     Either(usize, usize),
     All(RoleUse, usize),
     Some(RoleUse, usize),
+    /// In drafts only.
+    Not(usize),
+    /// In drafts only.
+    IfThen(usize, usize),
 }
 
-/// An accepted rule file: every row of `tbox` must hold everywhere, `wanted` somewhere.
+/// An accepted rule file or draft: every row of `tbox` must hold everywhere, `wanted` somewhere.
 #[derive(Clone, Debug, PartialEq, Eq)]
 pub struct Ontology {
     pub rows: Vec<Concept>,
@@ -36,6 +40,15 @@ pub struct Ontology {
 impl Ontology {
     /// Decodes a file; `None` if document 01's checks refuse it, whichever does.
     pub fn decode(file: &[u8]) -> Option<Ontology> {
+        Ontology::decode_kinds(file, &[1, 2, 3, 4, 5, 6])
+    }
+
+    /// Decodes a draft (document 02, [1]): kinds 8 and 9 pass too.
+    pub fn decode_draft(draft: &[u8]) -> Option<Ontology> {
+        Ontology::decode_kinds(draft, &[1, 2, 3, 4, 5, 6, 8, 9])
+    }
+
+    fn decode_kinds(file: &[u8], kinds: &[u8]) -> Option<Ontology> {
         if file.len() > 4096 {
             return None;
         }
@@ -47,19 +60,19 @@ impl Ontology {
             return None;
         }
         let (table, tbox) = table.split_at(4 * rows);
-        let rows = decode_rows(table)?;
+        let rows = decode_rows(table, kinds)?;
         let tbox: Vec<usize> = tbox.iter().map(|&rule| usize::from(rule)).collect();
         tbox.iter().all(|&rule| rule < rows.len()).then_some(Ontology { rows, tbox, wanted })
     }
 }
 
-/// All rows; `None` if one is malformed, names a row that isn't lower, or repeats another. Different bytes are different
-/// concepts, so repeats show in the concepts.
-fn decode_rows(table: &[u8]) -> Option<Vec<Concept>> {
+/// All rows; `None` if one has another kind or is malformed, names a row that isn't lower, or repeats another. Different bytes
+/// are different concepts, so repeats show in the concepts.
+fn decode_rows(table: &[u8], kinds: &[u8]) -> Option<Vec<Concept>> {
     let mut rows = Vec::new();
     for row in table.chunks_exact(4) {
         let concept = decode_row(row[0], row[1], row[2], row[3], rows.len())?;
-        if rows.contains(&concept) {
+        if !kinds.contains(&row[0]) || rows.contains(&concept) {
             return None;
         }
         rows.push(concept);
@@ -70,8 +83,8 @@ fn decode_rows(table: &[u8]) -> Option<Vec<Concept>> {
 /// Row `number`, whose arguments must be lower.
 fn decode_row(kind: u8, role: u8, left: u8, right: u8, number: usize) -> Option<Concept> {
     let unused = match kind {
-        1 | 2 => role == 0 && right == 0,
-        3 | 4 => role == 0,
+        1 | 2 | 8 => role == 0 && right == 0,
+        3 | 4 | 9 => role == 0,
         _ => right == 0,
     };
     let along = RoleUse::of_code(role);
@@ -83,6 +96,8 @@ fn decode_row(kind: u8, role: u8, left: u8, right: u8, number: usize) -> Option<
         4 if l < number && r < number => Concept::Either(l, r),
         5 if l < number && role < 32 => Concept::All(along, l),
         6 if l < number && role < 32 => Concept::Some(along, l),
+        8 if l < number => Concept::Not(l),
+        9 if l < number && r < number => Concept::IfThen(l, r),
         _ => return None,
     };
     unused.then_some(concept)

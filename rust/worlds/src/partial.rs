@@ -35,6 +35,11 @@ impl Bounds {
     pub fn may_at(self, d: usize) -> bool {
         self.may >> d & 1 == 1
     }
+
+    /// The elements of either set.
+    fn or(self, other: Bounds) -> Bounds {
+        Bounds { must: self.must | other.must, may: self.may | other.may }
+    }
 }
 
 /// A world with open questions.
@@ -100,15 +105,11 @@ impl PartialWorld {
     }
 
     fn concept_bounds(&self, concept: Concept, rows: &[Bounds]) -> Bounds {
-        let everywhere = Elements::MAX >> (MOST_ELEMENTS - self.size);
         match concept {
             Concept::Name(name) => self.names[name],
-            Concept::NotName(name) => {
-                let Bounds { must, may } = self.names[name];
-                Bounds { must: everywhere & !may, may: everywhere & !must }
-            }
+            Concept::NotName(name) => self.outside(self.names[name]),
             Concept::Both(l, r) => Bounds { must: rows[l].must & rows[r].must, may: rows[l].may & rows[r].may },
-            Concept::Either(l, r) => Bounds { must: rows[l].must | rows[r].must, may: rows[l].may | rows[r].may },
+            Concept::Either(l, r) => rows[l].or(rows[r]),
             Concept::All(along, l) => self.gather(|d| {
                 let ends = self.led_to(along, d);
                 (ends.may & !rows[l].must == 0, ends.must & !rows[l].may == 0)
@@ -117,7 +118,15 @@ impl PartialWorld {
                 let ends = self.led_to(along, d);
                 (ends.must & rows[l].must != 0, ends.may & rows[l].may != 0)
             }),
+            Concept::Not(l) => self.outside(rows[l]),
+            Concept::IfThen(l, r) => self.outside(rows[l]).or(rows[r]),
         }
+    }
+
+    /// The elements that are not in a set.
+    fn outside(&self, Bounds { must, may }: Bounds) -> Bounds {
+        let everywhere = Elements::MAX >> (MOST_ELEMENTS - self.size);
+        Bounds { must: everywhere & !may, may: everywhere & !must }
     }
 
     /// Bounds from the pair (must, may) of each element.
@@ -133,7 +142,8 @@ impl PartialWorld {
         let is_open = |l: &usize| bounds[*l].may_at(d) && !bounds[*l].must_at(d);
         match ontology.rows[row] {
             Concept::Name(name) | Concept::NotName(name) => Question::Name(name, d),
-            Concept::Both(l, r) | Concept::Either(l, r) => {
+            Concept::Not(l) => self.open_question(ontology, bounds, l, d),
+            Concept::Both(l, r) | Concept::Either(l, r) | Concept::IfThen(l, r) => {
                 let argument = [l, r].into_iter().find(is_open).expect("an open row has an open argument");
                 self.open_question(ontology, bounds, argument, d)
             }

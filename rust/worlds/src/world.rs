@@ -79,6 +79,8 @@ impl World {
             Concept::Either(l, r) => truth[l][d] || truth[r][d],
             Concept::All(along, l) => self.led_to(along, d).all(|e| truth[l][e]),
             Concept::Some(along, l) => self.led_to(along, d).any(|e| truth[l][e]),
+            Concept::Not(l) => !truth[l][d],
+            Concept::IfThen(l, r) => !truth[l][d] || truth[r][d],
         }
     }
 

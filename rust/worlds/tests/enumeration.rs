@@ -36,34 +36,36 @@ fn next(seed: &mut u64, bound: u64) -> u8 {
     ((*seed >> 33) % bound) as u8
 }
 
-/// One name, one role and its inverse, up to ten rows, up to three rules; `None` if two rows are equal.
-fn ontology(seed: &mut u64) -> Option<Ontology> {
+/// A file with one name, one role and its inverse, up to ten rows of the first so many of kinds 3, 4, 5, 6, 8, 9, and up to
+/// three rules.
+fn file(seed: &mut u64, kinds: u64) -> Vec<u8> {
     let mut file = vec![1, 0, 0, 0, 2, 0, 0, 0];
     let rows = 3 + next(seed, 8);
     for number in 2..rows {
         let (left, right) = (next(seed, number.into()), next(seed, number.into()));
         let role = next(seed, 2);
-        file.extend(match next(seed, 4) {
+        file.extend(match next(seed, kinds) {
             0 => [3, 0, left, right],
             1 => [4, 0, left, right],
             2 => [5, role, left, 0],
-            _ => [6, role, left, 0],
+            3 => [6, role, left, 0],
+            4 => [8, 0, left, 0],
+            _ => [9, 0, left, right],
         });
     }
     let rules = next(seed, 4);
     file.extend((0..rules).map(|_| next(seed, rows.into())));
     file.extend([0, 0, rows, rules, rows - 1]);
     file.extend(b"FIT");
-    Ontology::decode(&file)
+    file
 }
 
-#[test]
-fn search_finds_a_world_exactly_if_there_is_one() {
+/// Compares search and enumeration on ontologies that come; `None` stands for a file in which two rows are equal.
+fn compare(mut ontology: impl FnMut() -> Option<Ontology>) {
     let worlds = all_worlds(3);
-    let mut seed = 1;
     let (mut found, mut none) = (0, 0);
     while found + none < 1500 {
-        let Some(ontology) = ontology(&mut seed) else { continue };
+        let Some(ontology) = ontology() else { continue };
         let world = search(&ontology, 3);
         assert_eq!(world.is_some(), enumerate(&worlds, &ontology), "{ontology:?}");
         match world {
@@ -76,4 +78,33 @@ fn search_finds_a_world_exactly_if_there_is_one() {
     }
     println!("a world found {found}, none {none}");
     assert!(found > 100 && none > 100);
+}
+
+#[test]
+fn search_finds_a_world_exactly_if_there_is_one() {
+    let mut seed = 1;
+    compare(|| Ontology::decode(&file(&mut seed, 4)));
+}
+
+#[test]
+fn search_finds_a_world_of_a_draft_exactly_if_there_is_one() {
+    let mut seed = 2;
+    compare(|| Ontology::decode_draft(&file(&mut seed, 6)));
+}
+
+/// Four elements: the name holds at 1 and 3; the role leads from 0 to all of them, from 1 to 1, from 2 to 3.
+#[test]
+fn not_and_if_mean_what_they_say() {
+    let rows = [[1, 0, 0, 0], [6, 0, 0, 0], [8, 0, 0, 0], [8, 0, 1, 0], [9, 0, 0, 1], [9, 0, 1, 0], [9, 0, 2, 3]];
+    let mut draft = rows.concat();
+    draft.extend([0, 0, rows.len() as u8, 0, 0]);
+    draft.extend(b"FIT");
+    assert!(Ontology::decode(&draft).is_none(), "a rule file has no such kinds");
+    let ontology = Ontology::decode_draft(&draft).expect("a draft");
+    let mut world = World::new(4);
+    [1, 3].into_iter().for_each(|d| world.set_name(0, d));
+    [(0, 0), (0, 1), (0, 2), (0, 3), (1, 1), (2, 3)].into_iter().for_each(|(d, e)| world.set_pair(0, d, e));
+    let (t, f) = (true, false);
+    let expected = [[f, t, f, t], [t, t, t, f], [t, f, t, f], [f, f, f, t], [t, t, t, f], [f, t, f, t], [f, t, f, t]];
+    assert_eq!(world.truth(&ontology), expected);
 }

@@ -1,58 +1,33 @@
+-- `converter::convert` meets its contract: what the definition gives keeps the promise.
+-- Assumes nothing.
 use borrow.Author.Needs.{needs}
+use mathlib.Core.Path.{sym, _∙_}
+use Rattle.rulefile.specs.PartLaws.{reads-refused, reads-accepted}
+use Rattle.decoding.specs.Decoding.{draftKinds}
+use Rattle.converter.specs.ConvertCases.{numbers-as, refused-converts, converts-promise}
 use Rattle.converter.proofs.convert.Statement.{statement}
 use Rattle.converter.proofs.convert.Tie as tie
-use Rattle.converter.proofs.convert.Reads as reads
-use Rattle.converter.proofs.convert.Lts as lts
-use Rattle.converter.proofs.convert_accepted.Reads as convert-accepted-reads
-use Rattle.converter.proofs.refused.Reads as refused-reads
-use Rattle.rulefile.proofs.read.Reads as read-reads
 
--- src/lib.rt:120:11
-read-requires : tie.Need-read-requires
-read-requires c κs = search needs
-
--- src/lib.rt:121:26
-enum-known-n : tie.Need-enum-known-n
-enum-known-n c = search needs
-
--- src/lib.rt:121:40
-cast-refused : tie.Need-cast-refused
-cast-refused c = search needs
-
--- src/lib.rt:121:32
-refused-requires : tie.Need-refused-requires
-refused-requires c κs = search needs
-
--- src/lib.rt:122:27
-enum-known-layout : tie.Need-enum-known-layout
-enum-known-layout c = search needs
-
--- src/lib.rt:122:38
 convert-accepted-requires : tie.Need-convert-accepted-requires
-convert-accepted-requires c κs = ?
+convert-accepted-requires c κs =
+    let begun : tie.Start = search in
+    let r : tie.After-read = search in
+    let l : tie.After-layout = search in
+    reads-accepted draftKinds (begun .args .draft .now) _ (sym (l .layout .given .1) ∙ r .read .ensures)
 
--- src/lib.rt:117:1
 returns : tie.Need-returns
-returns c = ?
+returns c =
+    let begun : tie.Start = search in
+    let r : tie.After-read = search in
+    let n : tie.After-n = search in
+    let refused = reads-refused draftKinds (begun .args .draft .now) (n .n .given .0 .0) (sym (n .n .given .1) ∙ r .read .ensures) in
+    converts-promise (numbers-as (refused-converts (begun .args .draft .now) (n .n .given .0 .0) refused) (c .refused .ensures))
 
--- src/lib.rt:117:1
-same-length : tie.Need-same-length
-same-length c = search needs
-
--- src/lib.rt:117:1
 returns-2 : tie.Need-returns-2
-returns-2 c = ?
+returns-2 c = let made : tie.After-convert-accepted = search in converts-promise (made .convert-accepted .ensures)
 
 pub convert-spec : {M : Type 1} → statement M
 convert-spec =
-    tie.close
-    (tie.spec
-    read-requires
-    enum-known-n
-    cast-refused
-    refused-requires
-    enum-known-layout
-    convert-accepted-requires
-    returns
-    same-length
-    returns-2)
+    tie.close (tie.spec
+    (λ c κs. search needs) (λ c. search needs) (λ c. search needs) (λ c κs. search needs) (λ c. search needs) convert-accepted-requires returns
+    (λ c. search needs) returns-2)

@@ -1,7 +1,8 @@
-//! The files that are timed, in their groups. All get a verdict in the areas of their group.
+//! The files and drafts that are timed, in their groups. All files get a verdict in the areas of their group, all drafts are
+//! converted.
 
 use compare::chains::{alternatives, delay_line, shift_register, Delay, THOUSAND_STATES};
-use compare::{random_file, Prng, Shape};
+use compare::{random_draft, random_file, Prng, Shape};
 use plain::{answer, Answer, Lent, Used};
 
 /// A file with areas that are just enough for it.
@@ -42,6 +43,21 @@ pub fn groups() -> Vec<Group> {
     ]
 }
 
+/// Drafts that are alike.
+pub struct DraftGroup {
+    pub name: &'static str,
+    pub drafts: Vec<Vec<u8>>,
+}
+
+/// All groups of drafts.
+pub fn draft_groups() -> Vec<DraftGroup> {
+    let large = Shape { rules: 30, compound: 58, ..LARGE };
+    vec![
+        DraftGroup { name: "small drafts", drafts: random_drafts(100, SMALL, |_| true) },
+        DraftGroup { name: "drafts 40-64 rows", drafts: random_drafts(40, large, |draft| rows(draft) >= 40) },
+    ]
+}
+
 /// One kind of file in rising sizes, for the growth of the time with the nodes used.
 pub fn rising() -> Vec<Subject> {
     let file = |line| delay_line(Delay { line, pause: 3, tail: 8 }, true);
@@ -55,8 +71,12 @@ const INVERSE: Shape = Shape { names: 3, roles: 1, compound: 30, rules: 3, text:
 /// The place of the number of rows, from a file's end.
 const ROWS_FROM_END: usize = 6;
 
+fn rows(file: &[u8]) -> u8 {
+    file[file.len() - ROWS_FROM_END]
+}
+
 fn is_large(subject: &Subject) -> bool {
-    subject.file[subject.file.len() - ROWS_FROM_END] >= 40 && subject.used.nodes >= 100
+    rows(&subject.file) >= 40 && subject.used.nodes >= 100
 }
 
 /// The first so many random files of a shape that pass.
@@ -64,6 +84,14 @@ fn random(count: usize, shape: Shape, lent: &Lent, passes: impl Fn(&Subject) -> 
     let mut prng = Prng::new(21);
     let files = std::iter::repeat_with(|| random_file(&mut prng, shape));
     files.filter_map(|file| Subject::new(file, lent)).filter(passes).take(count).collect()
+}
+
+/// The first so many random drafts of a shape that are converted into a file of less than 1,000 bytes, so without a long text, and
+/// pass.
+fn random_drafts(count: usize, shape: Shape, passes: impl Fn(&[u8]) -> bool) -> Vec<Vec<u8>> {
+    let mut prng = Prng::new(22);
+    let drafts = std::iter::repeat_with(|| random_draft(&mut prng, shape));
+    drafts.filter(|draft| plain::convert(draft, 1000).is_ok() && passes(draft)).take(count).collect()
 }
 
 fn thousand_states(lent: &Lent) -> Vec<Subject> {

@@ -3,9 +3,9 @@
 mod groups;
 mod timing;
 
-use groups::{groups, rising, Group, Subject};
+use groups::{draft_groups, groups, rising, Group, Subject};
 use plain::Lent;
-use timing::{least, times, Times};
+use timing::{convert_times, least, times, Times};
 
 const ROUNDS: usize = 15;
 /// No group should be above this ratio.
@@ -15,6 +15,7 @@ const NOTE: &str = "\
 Engine time over plain Rust time, in one run, by turns. No buffer is cleared before a run: the engine's areas hold what the run
 before left. It leaves its work areas zero, all of them, and that is in its time; so is the plain program's allocation in its own.
 Areas: what a program lends (1,024 nodes, 4,096 edges and alternatives; for a thousand states 4,096 of each), or just enough.
+A draft is converted in an area of 4,096 bytes.
 Times are the least of all rounds, the mean of the group's files. ratio: engine over plain; rounds, files: its lowest and highest over them.
 ";
 
@@ -28,6 +29,11 @@ fn main() {
         let enough = print_group(&group, "just enough", rounds, |subject| subject.enough);
         above.extend([by_program, enough].iter().any(|&ratio| ratio > AIM).then_some(group.name));
     }
+    for group in draft_groups() {
+        let all = group.drafts.iter().map(|draft| convert_times(draft, rounds)).collect();
+        let ratio = print_times(group.name, "convert", rounds, all);
+        above.extend((ratio > AIM).then_some(group.name));
+    }
     println!("\nabove {AIM:.1}: {}", if above.is_empty() { "none".to_string() } else { above.join(", ") });
     println!("\nGrowth, in areas just enough. power: of the nodes, since the line before.");
     println!(" nodes   engine µs  power    plain µs  power   ratio");
@@ -36,14 +42,18 @@ fn main() {
 
 /// Prints a group's line and gives its ratio.
 fn print_group(group: &Group, areas: &str, rounds: usize, lent: impl Fn(&Subject) -> Lent) -> f64 {
-    let all: Vec<Times> = group.subjects.iter().map(|subject| times(subject, &lent(subject), rounds)).collect();
+    let all = group.subjects.iter().map(|subject| times(subject, &lent(subject), rounds)).collect();
+    print_times(group.name, areas, rounds, all)
+}
+
+/// Prints the line of some files or drafts and gives their ratio.
+fn print_times(name: &str, areas: &str, rounds: usize, all: Vec<Times>) -> f64 {
     let by_round: Vec<f64> = (0..rounds).map(|round| ratio(&all, |times| times[round])).collect();
     let by_file: Vec<f64> = all.iter().map(Times::ratio).collect();
     let (files, ratio) = (all.len() as f64, ratio(&all, least));
     let mean = |times: f64| times * 1e6 / files;
     println!(
-        "{:<18} {areas:<12} {files:>5} {:>11.1} {:>11.1} {ratio:>7.2}   {:<12}   {}",
-        group.name,
+        "{name:<18} {areas:<12} {files:>5} {:>11.1} {:>11.1} {ratio:>7.2}   {:<12}   {}",
         mean(all.iter().map(|times| least(&times.engine)).sum()),
         mean(all.iter().map(|times| least(&times.plain)).sum()),
         spread(&by_round),

@@ -1,7 +1,7 @@
-//! Times of one file in the engine and in the plain program, taken by turns.
+//! Times of one file or draft in the engine and in the plain program, taken by turns.
 
 use crate::groups::Subject;
-use gumbyra::{fit, Areas};
+use gumbyra::{convert, fit, Areas, LONGEST_FILE};
 use plain::Lent;
 use std::hint::black_box;
 use std::time::{Duration, Instant};
@@ -26,14 +26,30 @@ impl Times {
 pub fn times(subject: &Subject, lent: &Lent, rounds: usize) -> Times {
     let lengths = [lent.nodes, lent.edges, lent.alternatives, lent.elements, lent.links];
     let mut buffers = lengths.map(|length| vec![0; length]);
-    let mut engine = || {
+    let engine = || {
         let [nodes, edges, alternatives, elements, links] = buffers.each_mut().map(Vec::as_mut_slice);
         let outcome = fit(black_box(&subject.file), Areas { nodes, edges, alternatives, elements, links });
         black_box(outcome.is_ok());
     };
-    let mut plain = || {
+    let plain = || {
         black_box(plain::answer(black_box(&subject.file), lent));
     };
+    by_turns(engine, plain, rounds)
+}
+
+/// Takes the times of converting a draft, in an area that suffices for every draft.
+pub fn convert_times(draft: &[u8], rounds: usize) -> Times {
+    let mut area = vec![0; LONGEST_FILE];
+    let engine = || {
+        black_box(convert(black_box(draft), &mut area).is_ok());
+    };
+    let plain = || {
+        black_box(plain::convert(black_box(draft), LONGEST_FILE).is_ok());
+    };
+    by_turns(engine, plain, rounds)
+}
+
+fn by_turns(mut engine: impl FnMut(), mut plain: impl FnMut(), rounds: usize) -> Times {
     let (engine_repeats, plain_repeats) = (repeats(&mut engine), repeats(&mut plain));
     let round = |_| (sample(&mut engine, engine_repeats), sample(&mut plain, plain_repeats));
     let (engine, plain) = (0..rounds).map(round).unzip();

@@ -1,0 +1,45 @@
+//! What the converter gives back, from the numbers of its call (document 02, [1]).
+
+use crate::convention::Conversion;
+use crate::refusal::Refusal;
+
+/// The most bytes of a rule file. An area of so many suffices for every conversion.
+pub const LONGEST_FILE: usize = 4096;
+
+/// The file that a conversion wrote, or its refusal, with the area as it is after the call. `None` if it is no answer of the
+/// converter.
+pub(crate) fn outcome<'a>(conversion: &Conversion, area: &'a [u8]) -> Option<Result<&'a [u8], Refusal>> {
+    match (conversion.refusal, conversion.length as usize) {
+        (0, length @ 1..=LONGEST_FILE) => area.get(..length).map(Ok),
+        (number, 0) => Refusal::of_conversion(number).map(Err),
+        _ => None,
+    }
+}
+
+#[cfg(test)]
+mod tests {
+    use super::*;
+
+    fn of_numbers(refusal: u32, length: u32, area: &[u8]) -> Option<Result<&[u8], Refusal>> {
+        outcome(&Conversion { refusal, length }, area)
+    }
+
+    #[test]
+    fn every_answer_has_its_outcome() {
+        let area = [7; LONGEST_FILE + 1];
+        assert_eq!(of_numbers(0, 12, &area), Some(Ok(&area[..12])));
+        assert_eq!(of_numbers(0, 12, &area[..12]), Some(Ok(&area[..12])));
+        assert_eq!(of_numbers(0, 4096, &area), Some(Ok(&area[..4096])));
+        assert_eq!(of_numbers(9, 0, &area), Some(Err(Refusal::NoName)));
+        assert_eq!(of_numbers(12, 0, b""), Some(Err(Refusal::ResultTooLong)));
+    }
+
+    #[test]
+    fn other_numbers_are_no_answer() {
+        let area = [7; LONGEST_FILE + 1];
+        for (refusal, length) in [(0, 0), (1, 1), (10, 0), (11, 0), (12, 12), (13, 0), (0, 4097), (0, u32::MAX)] {
+            assert_eq!(of_numbers(refusal, length, &area), None, "{refusal} {length}");
+        }
+        assert_eq!(of_numbers(0, 12, &area[..11]), None, "longer than the area");
+    }
+}

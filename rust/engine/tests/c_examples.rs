@@ -1,0 +1,51 @@
+//! The C examples, compiled against the header and run.
+
+use std::path::Path;
+use std::process::Command;
+
+const EIGHT_NODES: &str = "\
+text: hose
+verdict 1, refusal 0, used 8 7 1
+2 elements, the first with rows 05; 1 link, to 1
+";
+
+/// The rule becomes either not name 0 (row 0) or name 1 (row 1); its opposite both name 0 (row 3) and not name 1 (row 4).
+const DRAFT: &str = "\
+refusal 0, length 37
+text: pump
+row 2 0 0 0
+row 1 0 1 0
+row 4 0 0 1
+row 1 0 0 0
+row 2 0 1 0
+row 3 0 3 4
+verdict 2
+";
+
+/// What an example prints.
+fn output(example: &str) -> String {
+    let crate_dir = Path::new(env!("CARGO_MANIFEST_DIR"));
+    let program = Path::new(env!("CARGO_TARGET_TMPDIR")).join(example);
+    let compiled = Command::new("cc")
+        .args(["-std=c11", "-Wall", "-Wextra", "-Wpedantic", "-Werror", "-I"])
+        .arg(crate_dir.join("include"))
+        .arg(crate_dir.join("examples").join(example).with_extension("c"))
+        .args(["-L", env!("GUMBYRA_LIB_DIR"), "-lgumbyra", "-o"])
+        .arg(&program)
+        .output()
+        .expect("there is a C compiler, cc");
+    assert!(compiled.status.success(), "{}", String::from_utf8_lossy(&compiled.stderr));
+    let run = Command::new(&program).output().expect("the program starts");
+    assert!(run.status.success(), "{run:?}");
+    String::from_utf8_lossy(&run.stdout).into_owned()
+}
+
+#[test]
+fn the_c_example_decides_the_eight_node_run() {
+    assert_eq!(output("eight_nodes"), EIGHT_NODES);
+}
+
+#[test]
+fn the_c_example_converts_a_draft() {
+    assert_eq!(output("draft"), DRAFT);
+}

@@ -1,0 +1,101 @@
+//! The converter against the plain one: the answer and every byte of the area, on valid and damaged drafts and random bytes in areas
+//! of random lengths; random drafts against the meaning of drafts, and what the engine then says of them; towers on a stack of 1 MiB.
+
+use compare::checks::STACK;
+use compare::conversions::{check_bounds, check_random_drafts, check_towers};
+use compare::draft_worlds::check_draft_worlds;
+use compare::small_drafts::check_small_drafts;
+use compare::{damage, draft_cases, on_stack, random_area, random_bytes, random_draft, DraftCounts, Prng, Shape};
+use watched::{Converter, Lending};
+
+/// The area must be as the plain converter's answer says.
+fn check(converter: &mut Converter, draft: &[u8], area: usize, counts: &mut DraftCounts) {
+    let expected = plain::convert(draft, area);
+    let conversion =
+        converter.run(draft, area).unwrap_or_else(|broken| panic!("{broken}: {draft:02x?} in {area} bytes"));
+    assert_eq!(conversion, expected, "{draft:02x?} in {area} bytes");
+    assert_eq!(converter.broken(&expected), None, "{draft:02x?} in {area} bytes");
+    counts.count(draft, area, &expected);
+}
+
+#[test]
+fn valid_drafts() {
+    let shapes = [
+        Shape { names: 1, roles: 1, compound: 6, rules: 2, text: 4 },
+        Shape { names: 3, roles: 2, compound: 20, rules: 6, text: 300 },
+        Shape { names: 4, roles: 16, compound: 30, rules: 8, text: 3000 },
+        Shape { names: 30, roles: 16, compound: 30, rules: 64, text: 40 },
+        Shape { names: 5, roles: 3, compound: 120, rules: 64, text: 40 },
+    ];
+    let mut prng = Prng::new(51);
+    let (mut converter, mut counts) = (Converter::new(), DraftCounts::default());
+    for round in 0..50_000 {
+        let draft = random_draft(&mut prng, shapes[round % shapes.len()]);
+        let area = random_area(&mut prng, &draft);
+        check(&mut converter, &draft, area, &mut counts);
+    }
+    println!("valid drafts: {counts:?}");
+    counts.assert_often();
+}
+
+#[test]
+fn damaged_drafts() {
+    let shape = Shape { names: 2, roles: 2, compound: 12, rules: 4, text: 8 };
+    let vectors: Vec<Vec<u8>> = draft_cases().into_iter().map(|case| case.draft).collect();
+    let mut prng = Prng::new(52);
+    let (mut converter, mut counts) = (Converter::new(), DraftCounts::default());
+    for round in 0..40_000 {
+        let mut draft = match round % 4 {
+            0 => vectors[prng.below(vectors.len())].clone(),
+            _ => random_draft(&mut prng, shape),
+        };
+        damage(&mut prng, &mut draft);
+        let area = random_area(&mut prng, &draft);
+        check(&mut converter, &draft, area, &mut counts);
+    }
+    println!("damaged drafts: {counts:?}");
+    counts.assert_each_refusal(50);
+}
+
+#[test]
+fn bytes_at_random() {
+    let mut prng = Prng::new(53);
+    let (mut converter, mut counts) = (Converter::new(), DraftCounts::default());
+    for _ in 0..40_000 {
+        let draft = random_bytes(&mut prng);
+        let area = random_area(&mut prng, &draft);
+        check(&mut converter, &draft, area, &mut counts);
+    }
+    println!("random bytes: {counts:?}");
+    counts.assert_each_refusal(40);
+}
+
+#[test]
+fn small_drafts_become_what_is_expected() {
+    let mut converter = Converter::new();
+    check_small_drafts(|draft, area| converter.convert(draft, area));
+}
+
+#[test]
+fn results_mean_what_the_drafts_mean() {
+    let mut converter = Converter::new();
+    check_random_drafts(|draft, area| converter.convert(draft, area));
+}
+
+#[test]
+fn results_of_4096_bytes_and_more() {
+    let mut converter = Converter::new();
+    check_bounds(|draft, area| converter.convert(draft, area));
+}
+
+#[test]
+fn rows_that_very_many_ways_lead_to_are_soon_converted() {
+    let mut converter = Converter::new();
+    on_stack(STACK, move || check_towers(|draft, area| converter.convert(draft, area)));
+}
+
+#[test]
+fn verdicts_are_true_of_the_drafts() {
+    let (mut converter, mut lending) = (Converter::new(), Lending::new());
+    check_draft_worlds(|draft, area| converter.convert(draft, area), |file, lent| lending.answer(file, lent));
+}
