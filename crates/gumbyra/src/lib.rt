@@ -8,7 +8,10 @@ ghost use Rattle.rulefile.specs.Format.{textOf};
 ghost use Rattle.run.specs.Run.{areasOf};
 ghost use Rattle.run.specs.Promise.{Promise};
 ghost use Rattle.answers.specs.Numbers.{numbersOf};
+ghost use Rattle.drafts.specs.Promise as Drafts;
+ghost use Rattle.converter.specs.Contracts as Converter;
 use answers::Answer;
+use converter::Conversion;
 
 // Whether the kit that the rule file wants can exist: `engine::fit`.
 #[no_mangle]
@@ -34,4 +37,12 @@ pub extern "C" fn gumbyra_text(file: &[u8]) -> usize
     ensures { λ r. ⌜ (r ≡ length (textOf ruleKinds (now (file .entry)))) × (take r (now (file .entry)) ≡ textOf ruleKinds (now (file .entry))) ⌝ }
 {
     engine::text_length(file)
+}
+
+// The rule file that the draft becomes, written into the area: `converter::convert`.
+#[no_mangle]
+pub extern "C" fn gumbyra_convert(draft: &[u8], area: &mut [u8]) -> Conversion
+    ensures { λ r. ⌜ Drafts.Promise (now (draft .entry)) (now (area .entry)) (Converter.numbersOf r) (now (area .exit)) ⌝ }
+{
+    converter::convert(draft, area)
 }
