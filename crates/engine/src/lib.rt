@@ -1,6 +1,6 @@
-// The engine's call (00, demands 1 to 3): a rule file and five lent areas in, the answer out, through the C convention too.
+// The engine (00, demands 1 to 3): a rule file and five lent areas in, the answer out. Through the C convention it is called in `gumbyra`.
 //
-// In order: the answer's numbers; an accepted file; the call; the text of a file.
+// In order: the answer's numbers; an accepted file; every file; the text of a file.
 ghost use mathlib.Core.Path.{_≡_};
 ghost use Rattle.answers.specs.Numbers.{numbersOf};
 ghost use lib.ListN.{length, take};
@@ -128,8 +128,7 @@ fn fit_accepted(
 }
 
 // Whether the kit that the rule file wants can exist. What is promised of the answer and of all five areas is `Promise`, for every file.
-#[no_mangle]
-pub extern "C" fn gumbyra_fit(
+pub fn fit(
     file: &[u8],
     nodes: &mut [u8],
     edges: &mut [u8],
@@ -157,8 +156,7 @@ pub extern "C" fn gumbyra_fit(
 }
 
 // How much of the file is its text, which is the part before the rows: nothing of a refused file. The text is so many bytes at the start of the file.
-#[no_mangle]
-pub extern "C" fn gumbyra_text(file: &[u8]) -> usize
+pub fn text_length(file: &[u8]) -> usize
     ensures { λ r. ⌜ (r ≡ length (textOf ruleKinds (now (file .entry)))) × (take r (now (file .entry)) ≡ textOf ruleKinds (now (file .entry))) ⌝ }
 {
     text(file, RULE_KINDS).len()

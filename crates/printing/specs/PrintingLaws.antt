@@ -70,6 +70,12 @@ sets-cut text [] = sets-past [] 0 text (omega arith)
 sets-cut [] (x ∷ out) = sym (take-length (x ∷ out))
 sets-cut (b ∷ text) (x ∷ out) = sets-cons b out 0 text ∙ ap (λ (o : Bytes). b ∷ o) (sets-cut text out)
 
+-- a text that has room stands at the start of the area
+pub wrote-start : {most : ℕ} {text out out′ : Bytes} {next : ℕ} → Wrote most text out 0 out′ next → next ≤ length out → take next out′ ≡ text
+wrote-start {text = text} {out = out} {next = next} w h =
+    ap (take next) (w .stored ∙ sets-cut text out ∙ take-all (length out) (overwrite text out) (simp (length-append, length-drop) (omega (arith, w .after))))
+    ∙ take-at text (drop (length text) out) next (omega (arith, w .after))
+
 pub wrote-whole : {n : Numbers} {elements links text out out′ : Bytes} {most next : ℕ} → Wrote most text out 0 out′ next → text ≡ printed n elements links
     → most ≤ 64 + 30 * n .elements + 35 * n .links → (n .verdict ≢ 1 → most ≤ 64) → Prints n elements links out out′ next
 wrote-whole {n} {elements} {links} {out = out} {most = most} w e h brief =

@@ -94,7 +94,7 @@ fn number(out: &mut [u8], at: usize, n: u32) -> usize
 }
 
 // Writes a line of a word and one number.
-fn line_of_one(out: &mut [u8], at: usize, w: &[u8], a: u32) -> usize
+pub fn line_of_one(out: &mut [u8], at: usize, w: &[u8], a: u32) -> usize
     requires { ⌜ Countable at (length (now w) + 12) ⌝ }
     ensures { λ r. ⌜ Wrote (length (now (w .entry)) + 12) (Printed.line (now (w .entry)) (a ∷ [])) (now (out .entry)) at (now (out .exit)) r ⌝ }
 {

@@ -27,7 +27,7 @@ pub fn report(file: &[u8], text: &mut [u8; TEXT]) -> usize
     let mut alternatives = [0u8; ALTERNATIVES];
     let mut elements = [0u8; ELEMENTS];
     let mut links = [0u8; LINKS];
-    let answer = engine::gumbyra_fit(
+    let answer = engine::fit(
         file,
         &mut nodes,
         &mut edges,

@@ -11,8 +11,8 @@ use lib.Dec.{leb}
 use lib.ListN.{length, getD, take, drop, length-replicate}
 use lib.Seq.{length-take-le, take-all}
 use borrow.Author.Tests.{leb-true, leb-false, lt-ltb, le-ltb}
-use Rattle.rulefile.specs.Format.{Bytes, badLength, checks, Reading, refused, reading}
-use Rattle.decoding.specs.Decoding.{ruleKinds}
+use Rattle.rulefile.specs.Format.{Bytes, badLength, checks, Reading, refused, readingOf}
+use Rattle.decoding.specs.Decoding.{Kinds, ruleKinds}
 use Rattle.rulefile.specs.CheckLaws.{reading-refused}
 use Rattle.run.specs.Run.{lengths, Answer, undefined, answerReading, answer, numbers, elementBytes, linkBytes, areasAfter}
 use Rattle.run.specs.KnownRuns.{program, eightNodes, knownRuns, known-runs}
@@ -46,19 +46,22 @@ programText-eight-nodes =
 
 -- ---- how much of a file is read
 
-reading-long : (b : Bytes) → 4096 < length b → reading b ≡ refused 1
-unfolding checks badLength
-reading-long b h = reading-refused ruleKinds b 0 (omega arith) (λ k l. absurd (omega arith)) (ap₂ _||_ (le-ltb (length b) 8 (omega arith)) (lt-ltb 4096 (length b) h))
+module _ (kinds : Kinds) where
+  reading-long : (b : Bytes) → 4096 < length b → readingOf kinds b ≡ refused 1
+  unfolding checks badLength
+  reading-long b h = reading-refused kinds b 0 (omega arith) (λ k l. absurd (omega arith)) (ap₂ _||_ (le-ltb (length b) 8 (omega arith)) (lt-ltb 4096 (length b) h))
 
--- a file longer than 4,096 bytes is refused by its length, whatever comes after 4,097 of them
+  -- a file longer than 4,096 bytes is refused by its length, whatever comes after 4,097 of them
+  pub reading-take : (b : Bytes) → readingOf kinds (take 4097 b) ≡ readingOf kinds b
+  reading-take b = go (leb (length b) 4097) refl
+    where
+      go : (d : Bool) → leb (length b) 4097 ≡ d → readingOf kinds (take 4097 b) ≡ readingOf kinds b
+      go true e = ap (readingOf kinds) (take-all 4097 b (leb-true (length b) 4097 e))
+      go false e =
+          let longer : 4097 < length b = leb-false (length b) 4097 e in
+          let cut : length (take 4097 b) ≡ 4097 = length-take-le 4097 b (omega arith) in
+          reading-long (take 4097 b) (omega arith) ∙ sym (reading-long b (omega arith))
+
 pub programText-take : (b : Bytes) → programText (take 4097 b) ≡ programText b
 unfolding programText answer
-programText-take b = go (leb (length b) 4097) refl
-  where
-    go : (d : Bool) → leb (length b) 4097 ≡ d → programText (take 4097 b) ≡ programText b
-    go true e = ap programText (take-all 4097 b (leb-true (length b) 4097 e))
-    go false e =
-        let longer : 4097 < length b = leb-false (length b) 4097 e in
-        let cut : length (take 4097 b) ≡ 4097 = length-take-le 4097 b (omega arith) in
-        let same : reading (take 4097 b) ≡ reading b = reading-long (take 4097 b) (omega arith) ∙ sym (reading-long b (omega arith)) in
-        ap (λ (r : Reading). printedAfter (answerReading (lengths programAreas) r) programAreas) same
+programText-take b = ap (λ (r : Reading). printedAfter (answerReading (lengths programAreas) r) programAreas) (reading-take ruleKinds b)

@@ -10,8 +10,8 @@ use Rattle.report.proofs.report.Tie as tie
 returns : tie.Need-returns
 unfolding programAreas
 returns c =
-    let at-gumbyra-fit = c .before .before .before .before .before .before .before .before .before in
-    reported (at-gumbyra-fit .gumbyra-fit .ensures) (c .print .ensures) (omega arith)
+    let at-fit = c .before .before .before .before .before .before .before .before .before in
+    reported (at-fit .fit .ensures) (c .print .ensures) (omega arith)
 
 pub report-spec : {M : Type 1} → statement M
 report-spec =

@@ -1,18 +1,19 @@
--- The text's length: the text is a leading part of the file. Assumes nothing.
+-- `engine::text_length` meets its contract: the text is a leading part of the file.
+-- Assumes nothing.
 use mathlib.Core.Path.{ap}
 use lib.ListN.{length}
 use borrow.Author.Needs.{needs}
 use Rattle.decoding.specs.Decoding.{ruleKinds}
 use Rattle.rulefile.specs.ReadLaws.{take-textOf}
-use Rattle.engine.proofs.gumbyra_text.Statement.{statement}
-use Rattle.engine.proofs.gumbyra_text.Tie as tie
+use Rattle.engine.proofs.text_length.Statement.{statement}
+use Rattle.engine.proofs.text_length.Tie as tie
 
 returns : tie.Need-returns
 returns c =
     let text = c .text .ensures .0 in
     (ap length text, rw text (take-textOf ruleKinds (c .before .before .args .file .now)))
 
-pub gumbyra-text-spec : {M : Type 1} → statement M
-gumbyra-text-spec =
+pub text-length-spec : {M : Type 1} → statement M
+text-length-spec =
     tie.close (tie.spec
     (λ c κs. search needs) returns)

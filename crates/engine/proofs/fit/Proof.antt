@@ -1,4 +1,4 @@
--- `engine::gumbyra_fit` meets its contract: the promise, for every file.
+-- `engine::fit` meets its contract: the promise, for every file.
 -- Assumes nothing.
 use mathlib.Core.Path.{sym, _∙_}
 use borrow.Author.Needs.{needs}
@@ -6,11 +6,11 @@ use Rattle.run.specs.Run.{areasOf}
 use Rattle.decoding.specs.Decoding.{ruleKinds}
 use Rattle.rulefile.specs.PartLaws.{reads-refused, reads-accepted}
 use Rattle.engine.specs.AnswerCases.{promised, refused-answered}
-use Rattle.engine.proofs.gumbyra_fit.Statement.{statement}
-use Rattle.engine.proofs.gumbyra_fit.Tie as tie
+use Rattle.engine.proofs.fit.Statement.{statement}
+use Rattle.engine.proofs.fit.Tie as tie
 
-pub gumbyra-fit-spec : {M : Type 1} → statement M
-gumbyra-fit-spec =
+pub fit-spec : {M : Type 1} → statement M
+fit-spec =
     tie.close (tie.spec
     -- read(file, RULE_KINDS)
     (λ c κs. search needs)

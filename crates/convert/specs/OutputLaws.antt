@@ -1,0 +1,105 @@
+-- Laws of Output.
+--
+-- In order: what is known of every conversion; a file is written; a refusal is written; how much of a draft is read.
+-- Assumes nothing.
+use mathlib.Core.Path.{_≡_, refl, sym, ap, _∙_, subst}
+use mathlib.Core.Bool.{Bool, true, false, _||_}
+use mathlib.Core.Logic.{inl, inr}
+use mathlib.Core.List.{[], _∷_}
+use Prim.Native.Nat.{ℕ, _+_, _≤_, _<_}
+use native.Mathlib.Omega.{arith}
+use lib.Dec.{T, ltb, ltb→lt}
+use lib.ListN.{length, take, drop, length-append, length-drop}
+use lib.Seq.{take-at}
+use borrow.Author.Tests.{ltb-false}
+use Rattle.concepts.specs.Tests.{impossible, or-neither}
+use Rattle.concepts.specs.Lists.{range, every}
+use Rattle.concepts.specs.ListLaws.{mem-range, every-mem, least-below}
+use Rattle.decoding.specs.Decoding.{Kinds, draftKinds}
+use Rattle.rulefile.specs.Format.{Bytes, RuleFile, checks, Reading, refused, accepted, readingOf}
+use Rattle.rulefile.specs.Checks.{checkAt, refusesAt}
+use Rattle.rulefile.specs.CheckLaws.{reading-refused, reading-accepted}
+use Rattle.run.specs.Run.{overwrite}
+use Rattle.run.specs.Printed.{ascii, line}
+use Rattle.run.specs.ProgramLaws.{reading-take}
+use Rattle.drafts.specs.Normalize.{normalized}
+use Rattle.drafts.specs.Encoding.{fileBytes}
+use Rattle.drafts.specs.Conversion.{draftReading, Conversion, refusedWith, written, tooLarge, writtenOr, conversionOf, conversion, Numbers, numbers, areaAfter}
+use Rattle.drafts.specs.Promise.{Promise}
+use Rattle.printing.specs.Printing.{Wrote}
+use Rattle.printing.specs.PrintingLaws.{wrote-size, wrote-start}
+use Rattle.convert.specs.Output.{outputOf, output, Outputs}
+
+-- ---- what is known of every conversion
+
+-- "a refusal is never 0": the checks are numbered from 1 on
+number-some : (kinds : Kinds) (i : ℕ) → i < 9 → 0 < checkAt kinds i .number
+unfolding range every checks
+number-some kinds i h =
+    ltb→lt 0 (checkAt kinds i .number) (every-mem (λ k. ltb 0 (checkAt kinds k .number)) (range 0 9) i tt (mem-range 0 9 i (omega arith) h))
+
+refused-some : (kinds : Kinds) (b : Bytes) (n : ℕ) → readingOf kinds b ≡ refused n → 0 < n
+refused-some kinds b n e = elim (least-below (refusesAt kinds b) 9) [
+  | inl (i, h, p, r) ↦
+      let q = reading-refused kinds b i h p r in
+      let same : checkAt kinds i .number ≡ n = cc in
+      omega (arith, number-some kinds i h)
+  | inr p ↦ let q = reading-accepted kinds b p in impossible cc
+]
+
+-- a refusal has a number, and a file has room
+abbrev Sound : ℕ → Conversion → Type 0
+Sound room (refusedWith n) = 0 < n
+Sound room (written b) = length b ≤ room
+
+conversion-sound : (draft : Bytes) (room : ℕ) → Sound room (conversion draft room)
+unfolding conversion conversionOf tooLarge writtenOr
+conversion-sound draft room = go (draftReading draft) refl
+  where
+    fits : (f : RuleFile) (large : Bool) → tooLarge room f ≡ large → Sound room (writtenOr large f)
+    fits f true e = omega arith
+    fits f false e =
+        let bytes = length (fileBytes f) in
+        ltb-false room bytes (or-neither (ltb 4096 bytes) (ltb room bytes) (or-neither (ltb 64 (length (f .table))) (ltb 4096 bytes || ltb room bytes) e .1) .1)
+
+    go : (r : Reading) → draftReading draft ≡ r → Sound room (conversionOf room r)
+    go (refused n) e = refused-some draftKinds draft n e
+    go (accepted d) e = fits (normalized d) (tooLarge room (normalized d)) refl
+
+-- ---- a file is written
+
+module _ {draft before : Bytes} {r : Numbers} {after : Bytes} (P : Promise draft before r after) (room : length before ≡ 4096) where
+  pub outputs-file : r .refusal ≡ 0 → Outputs draft after (r .length)
+  unfolding output outputOf numbers areaAfter
+  outputs-file none =
+      let (within, outputIs) = go (conversion draft (length before)) (conversion-sound draft (length before)) (P .numbersAre) (P .areaIs) in
+      record { within = within; outputIs = outputIs ∙ ap (λ (m : ℕ). outputOf (conversion draft m)) room }
+    where
+      go : (k : Conversion) → Sound (length before) k → r ≡ numbers k → after ≡ areaAfter k before → (r .length ≤ length after) × (take (r .length) after ≡ outputOf k)
+      go (refusedWith n) s e a = let z : r .refusal ≡ n = ap (λ (x : Numbers). x .refusal) e in absurd (omega arith)
+      go (written b) s e a =
+          let l : r .length ≡ length b = ap (λ (x : Numbers). x .length) e in
+          (omega (arith, ap length a ∙ length-append b (drop (length b) before)), ap (take (r .length)) a ∙ take-at b (drop (length b) before) (r .length) (sym l))
+
+  -- ---- a refusal is written
+
+  pub outputs-refused : {area : Bytes} {count : ℕ} → (r .refusal ≡ 0 → ⊥) → length after ≡ 4096
+      → Wrote 19 (line (ascii "REFUSED") (r .refusal ∷ [])) after 0 area count → Outputs draft area count
+  unfolding output outputOf numbers
+  outputs-refused {area} {count} some length-after w =
+      let within : count ≤ length after = omega (arith, w .after, w .bounded) in
+      record {
+        within = omega (arith, wrote-size w);
+        outputIs = wrote-start w within ∙ go (conversion draft (length before)) (P .numbersAre) ∙ ap (λ (m : ℕ). outputOf (conversion draft m)) room;
+      }
+    where
+      go : (k : Conversion) → r ≡ numbers k → line (ascii "REFUSED") (r .refusal ∷ []) ≡ outputOf k
+      go (refusedWith n) e = ap (λ (x : Numbers). line (ascii "REFUSED") (x .refusal ∷ [])) e
+      go (written b) e = absurd (some (ap (λ (x : Numbers). x .refusal) e))
+
+-- ---- how much of a draft is read
+
+-- a draft longer than 4,096 bytes is refused by its length, whatever comes after 4,097 of them
+pub output-take : (b : Bytes) → output (take 4097 b) ≡ output b
+unfolding output conversion
+output-take b = ap (λ (r : Reading). outputOf (conversionOf 4096 r)) (reading-take draftKinds b)
