@@ -2,14 +2,14 @@
 --
 -- In order: what is known of every conversion; a file is written; a refusal is written; how much of a draft is read.
 -- Assumes nothing.
-use mathlib.Core.Path.{_≡_, refl, sym, ap, _∙_, subst}
+use mathlib.Core.Path.{_≡_, refl, sym, ap, _∙_}
 use mathlib.Core.Bool.{Bool, true, false, _||_}
 use mathlib.Core.Logic.{inl, inr}
 use mathlib.Core.List.{[], _∷_}
-use Prim.Native.Nat.{ℕ, _+_, _≤_, _<_}
+use Prim.Native.Nat.{ℕ, _≤_, _<_}
 use native.Mathlib.Omega.{arith}
-use lib.Dec.{T, ltb, ltb→lt}
-use lib.ListN.{length, take, drop, length-append, length-drop}
+use lib.Dec.{ltb, ltb→lt}
+use lib.ListN.{length, take, drop, length-append}
 use lib.Seq.{take-at}
 use borrow.Author.Tests.{ltb-false}
 use Rattle.concepts.specs.Tests.{impossible, or-neither}
@@ -19,7 +19,6 @@ use Rattle.decoding.specs.Decoding.{Kinds, draftKinds}
 use Rattle.rulefile.specs.Format.{Bytes, RuleFile, checks, Reading, refused, accepted, readingOf}
 use Rattle.rulefile.specs.Checks.{checkAt, refusesAt}
 use Rattle.rulefile.specs.CheckLaws.{reading-refused, reading-accepted}
-use Rattle.run.specs.Run.{overwrite}
 use Rattle.run.specs.Printed.{ascii, line}
 use Rattle.run.specs.ProgramLaws.{reading-take}
 use Rattle.drafts.specs.Normalize.{normalized}

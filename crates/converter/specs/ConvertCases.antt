@@ -1,14 +1,15 @@
 -- The ways through the converter, on plain values.
 --
--- In order: answers by their names; a draft that passed the checks; its rules and its wanted row, put one list after the other; too many rows; the file's bytes; a file that does not fit, or does; the call.
+-- In order: answers by their names; a draft that passed the checks; its rules and its wanted row, put one list after the other; too many rows;
+-- the file's bytes; a file that does not fit, or does; the call.
 -- Assumes nothing.
 use mathlib.Core.Path.{_≡_, refl, sym, ap, _∙_, subst}
-use mathlib.Core.Bool.{Bool, true, false, _||_}
-use mathlib.Core.List.{List, [], _∷_, _++_, List·Memᴰ}
+use mathlib.Core.Bool.{true, false, _||_}
+use mathlib.Core.List.{List, [], _∷_, List·Memᴰ}
 use Prim.Native.Nat.{ℕ, _+_, _*_, _≤_, _<_}
 use native.Mathlib.Omega.{arith}
 use lib.Dec.{ltb}
-use lib.ListN.{length, getD, take, drop, replicate}
+use lib.ListN.{length, getD, take, replicate}
 use lib.Seq.{length-take-le}
 use borrow.Author.Tests.{lt-ltb, le-ltb, ltb-false}
 use Rattle.concepts.specs.Tests.{or-neither}
@@ -17,8 +18,8 @@ use Rattle.concepts.specs.ListLaws.{length-map-range}
 use Rattle.concepts.specs.Begins.{begins-length}
 use Rattle.concepts.specs.Concept.{Table, conceptAt}
 use Rattle.decoding.specs.Decoding.{draftKinds}
-use Rattle.rulefile.specs.Format.{Bytes, firstRow, rowCount, ruleCount, rule, rules, wantedRows, RuleFile, contents, refused, accepted}
-use Rattle.rulefile.specs.Read.{Placed, Laid}
+use Rattle.rulefile.specs.Format.{Bytes, ruleCount, rule, rules, wantedRows, RuleFile, contents, refused, accepted}
+use Rattle.rulefile.specs.Read.{Laid}
 use Rattle.rulefile.specs.CheckLaws.{accepted-contents, accepted-passed}
 use Rattle.rulefile.specs.FormatLaws.{Admitted, contents-admitted}
 use Rattle.rulefile.specs.PartLaws.{laid-placed, whole}
@@ -26,21 +27,21 @@ use Rattle.rulefile.specs.declared.Layout.{Layout}
 use Rattle.run.specs.Run.{overwrite}
 use Rattle.drafts.specs.Normalize.{PutList, putList, normalized}
 use Rattle.drafts.specs.PutListLaws.{putList-grown}
-use Rattle.drafts.specs.Encoding.{rowBytes, tableBytes, trailer, fileBytes}
+use Rattle.drafts.specs.Encoding.{rowBytes, trailer, fileBytes}
 use Rattle.drafts.specs.EncodingLaws.{length-fileBytes}
 use Rattle.drafts.specs.Conversion.{draftReading, Conversion, Numbers, refusedWith, written, tooLarge, writtenOr, numbers, conversion, areaAfter}
 use Rattle.drafts.specs.Promise.{Promise}
 use Rattle.drafts.proofs.Kept.{conversion-refused, conversion-accepted, promise-kept}
-use Rattle.normalize.specs.Words.{rowIn, rowsIn, Held}
+use Rattle.normalize.specs.Words.{rowIn, rowsIn}
 use Rattle.normalize.specs.WordLaws.{own-parts, length-rowsIn, conceptAt-rowsIn}
 use Rattle.normalize.specs.Shapes.{tableOf}
 use Rattle.normalize.specs.ShapeLaws.{draft-parted, draft-ordered, draft-rows}
-use Rattle.normalize.specs.Contracts.{Draft, Remembers, ListAsks, ListGives}
+use Rattle.normalize.specs.Contracts.{Draft, ListAsks, ListGives}
 use Rattle.normalize.specs.PutCases.{remembers-none}
 use Rattle.normalize.specs.declared.Listed.{Listed}
 use Rattle.normalize.specs.declared.Listed.the-variants.{Rows, Full}
 use Rattle.encoder.specs.Encoder.{wordBytes, wordsBytes, partsBytes, FileAsks}
-use Rattle.encoder.specs.EncoderLaws.{length-wordsBytes, wordsBytes-table}
+use Rattle.encoder.specs.EncoderLaws.{wordsBytes-table}
 use Rattle.converter.specs.Contracts.{refusedNumbers, Converts, result, FinishAsks}
 
 -- ---- answers by their names

@@ -7,10 +7,9 @@ use mathlib.Core.Path.{_≡_, refl, ap, _∙_}
 use mathlib.Core.Bool.{Bool, true, false, _&&_, _||_, cond}
 use mathlib.Core.List.{List, [], _∷_}
 use mathlib.Core.Option.{Option, none, some}
-use Prim.Native.Nat.{ℕ, _<_}
-use native.Mathlib.Omega.{arith}
-use lib.Dec.{eqb, leb, T, leb→le}
-use Rattle.concepts.specs.Tests.{impossible, and-both}
+use Prim.Native.Nat.{ℕ}
+use lib.Dec.{eqb, leb, T}
+use Rattle.concepts.specs.Tests.{impossible}
 use Rattle.concepts.specs.RowSet.{mem}
 use Rattle.concepts.specs.Concept.{Concept, atomic, negated, conj, disj, univ, exist, neg, impl, arguments}
 use Rattle.decoding.specs.Decoding.{only, ofKind, decode, malformed, conceptOf}

@@ -1,7 +1,8 @@
 -- Laws of RowParts.
 --
 -- In order: what a row that is not malformed is like (`Parts`, `row-parts`, `role-small`, `literal-kind`); the rows of a rule file are in negation
--- normal form (`rule-kinds-normal`), and decoded from their own parts (`decode-own`); a concept is its parts (`parts-own`, `same-parts`); a kind is below 16 (`kindOf-lt`); the views of a concept, by its parts (`views-by-parts`).
+-- normal form (`rule-kinds-normal`), and decoded from their own parts (`decode-own`); a concept is its parts (`parts-own`, `same-parts`); a kind is below
+-- 16 (`kindOf-lt`); the views of a concept, by its parts (`views-by-parts`).
 -- Assumes nothing.
 use mathlib.Core.Path.{_≡_, refl, sym, _∙_}
 use mathlib.Core.Bool.{Bool, true, false, _&&_, _||_, cond}
@@ -62,8 +63,8 @@ names-row n e = impossible cc
 
 -- a row by its kind
 module _ (role left right : ℕ) (c : Concept) where
-  literal : (kind : ℕ) (d : Concept) → kindOf d ≡ kind → roleOf d ≡ 0 → leftOf d ≡ left → rightOf d ≡ 0 → (eqb kind 1 || eqb kind 2) ≡ true → inRange d ≡ leb left 63 → T (isNormal d)
-      → only (eqb role 0 && (eqb right 0 && leb left 63)) d ≡ some c → Parts kind role left right c
+  literal : (kind : ℕ) (d : Concept) → kindOf d ≡ kind → roleOf d ≡ 0 → leftOf d ≡ left → rightOf d ≡ 0 → (eqb kind 1 || eqb kind 2) ≡ true
+      → inRange d ≡ leb left 63 → T (isNormal d) → only (eqb role 0 && (eqb right 0 && leb left 63)) d ≡ some c → Parts kind role left right c
   literal kind d k r l i n range normal e =
       let (t, same) = only-some (eqb role 0 && (eqb right 0 && leb left 63)) d c e in
       let (p, q, h) = name-bytes role left right t in

@@ -2,10 +2,9 @@
 -- Assumes nothing.
 use mathlib.Core.Path.{_≡_, refl, sym, ap, _∙_, subst}
 use mathlib.Core.Bool.{Bool, true, false}
-use mathlib.Core.List.{_++_}
 use Prim.Native.Nat.{ℕ}
 use native.Mathlib.Omega.{arith}
-use lib.ListN.{length, take, drop}
+use lib.ListN.{length, drop}
 use lib.Seq.{take-at}
 use Rattle.rulefile.specs.Format.{Bytes, RuleFile, refused, accepted, reading}
 use Rattle.rulefile.specs.FormatLaws.{accepted-admitted}
@@ -13,7 +12,7 @@ use Rattle.decoding.specs.Decoding.{draftKinds}
 use Rattle.drafts.specs.Normalize.{normalized}
 use Rattle.drafts.specs.Encoding.{fileBytes}
 use Rattle.drafts.specs.EncodingLaws.{written-back}
-use Rattle.drafts.specs.Conversion.{draftReading, Conversion, refusedWith, written, tooLarge, writtenOr, conversionOf, conversion, numbers, areaAfter}
+use Rattle.drafts.specs.Conversion.{draftReading, Conversion, refusedWith, tooLarge, writtenOr, conversionOf, conversion, numbers, areaAfter}
 use Rattle.drafts.specs.Promise.{Right, Promise}
 use Rattle.drafts.proofs.Normalized.{normalized-writable, normalized-keeps}
 

@@ -3,18 +3,18 @@
 -- In order: the rules and the wanted rows, put one list after the other; the places are rows (`normalized-writable`); each is needed, and means what it meant
 -- (`normalized-keeps`).
 -- Assumes nothing.
-use mathlib.Core.Path.{_≡_, refl, sym, ap, _∙_, subst}
+use mathlib.Core.Path.{_≡_, refl, _∙_, subst}
 use mathlib.Core.Bool.{false, _||_}
-use mathlib.Core.List.{List, [], _∷_, List·Memᴰ}
-use mathlib.Core.Logic.{_↔_, Iff·symm}
-use Prim.Native.Nat.{ℕ, _≤_, _<_}
+use mathlib.Core.List.{List, [], List·Memᴰ}
+use mathlib.Core.Logic.{Iff·symm}
+use Prim.Native.Nat.{ℕ, _<_}
 use native.Mathlib.Decide.{decLt}
 use native.Mathlib.Omega.{arith}
 use lib.Dec.{ltb}
 use lib.ListN.{length, getD}
 use borrow.Author.Tests.{ltb-false}
 use Rattle.concepts.specs.Tests.{or-neither}
-use Rattle.concepts.specs.ListLaws.{getD-mem, mem-getD}
+use Rattle.concepts.specs.ListLaws.{mem-getD}
 use Rattle.concepts.specs.Begins.{Begins, begins-refl}
 use Rattle.concepts.specs.Concept.{Table, Ordered}
 use Rattle.meaning.specs.Meaning.{World}

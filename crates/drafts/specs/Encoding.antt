@@ -1,7 +1,7 @@
 -- A rule file written in bytes (01, The rule file): "text, rows, rule list, trailer". Read back it is the same file: EncodingLaws.
 -- Assumes nothing.
-use mathlib.Core.List.{List, [], _∷_, _++_}
-use Prim.Native.Nat.{ℕ, _/_, _%_}
+use mathlib.Core.List.{[], _∷_, _++_}
+use Prim.Native.Nat.{_/_, _%_}
 use lib.ListN.{length, getD}
 use Rattle.concepts.specs.Concept.{Concept, Table, roleOf}
 use Rattle.decoding.specs.RowParts.{kindOf, leftOf, rightOf}

@@ -5,6 +5,7 @@ pub mod Encoding
 pub mod Conversion
 pub mod Promise
 pub mod Sound
+pub mod ShapeLaws
 pub mod ShareLaws
 pub mod PutLaws
 pub mod SoundLaws

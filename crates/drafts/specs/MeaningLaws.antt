@@ -1,6 +1,6 @@
 -- In every finite world what is put for a row holds at the same elements as the row, or as its opposite.
 -- Assumes nothing.
-use mathlib.Core.Path.{_≡_, refl, sym, ap, _∙_, subst, transport}
+use mathlib.Core.Path.{_≡_, sym, ap, subst, transport}
 use mathlib.Core.Logic.{_↔_, Iff·trans}
 use Prim.Native.Nat.{ℕ}
 use Rattle.concepts.specs.Begins.{Begins, begins-trans}
@@ -10,7 +10,7 @@ use Rattle.meaning.specs.MeaningLaws.{holds-clause, holds-as}
 use Rattle.meaning.specs.FiniteLaws.{holds-decided}
 use Rattle.drafts.specs.Normalize.{Sign, Shape, literal, other, unary, binary, shape, Put, put}
 use Rattle.drafts.specs.ShareLaws.{Shared, share-gives, shared-here}
-use Rattle.drafts.specs.PutLaws.{Grown, GrownStep, put-grown-induction}
+use Rattle.drafts.specs.PutLaws.{GrownStep, put-grown-induction}
 use Rattle.drafts.specs.ShapeMeaning.{Signed, ShapeMeans, shape-means}
 
 equal-types : {A B : Type 0} → A ≡ B → A ↔ B

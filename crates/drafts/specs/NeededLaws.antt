@@ -3,7 +3,7 @@
 -- In order: rows reached from a row; as the table grows; a row that is shared; a row with all that it needs (`put-reaches`).
 -- Assumes nothing.
 use mathlib.Core.Path.{_≡_, refl, sym, ap, subst}
-use mathlib.Core.List.{List, [], _∷_, List·Memᴰ, List·Memᴰ·head, List·Memᴰ·tail, List·Memᴰ·not-nil}
+use mathlib.Core.List.{[], _∷_, List·Memᴰ, List·Memᴰ·head, List·Memᴰ·tail, List·Memᴰ·not-nil}
 use mathlib.Core.Logic.{inl, inr}
 use Prim.Native.Nat.{ℕ, _≤_, _<_}
 use native.Mathlib.Decide.{decLt}
@@ -11,9 +11,10 @@ use native.Mathlib.Omega.{arith}
 use lib.ListN.{length, length-append, List·getD-eq-default}
 use Rattle.concepts.specs.Begins.{Begins, begins-getD}
 use Rattle.concepts.specs.Concept.{Concept, atomic, Table, conceptAt, arguments, Ordered}
-use Rattle.drafts.specs.Normalize.{Sign, Shape, literal, other, unary, binary, shape, Put, share, put}
+use Rattle.drafts.specs.Normalize.{Sign, Shape, literal, other, unary, binary, shape, Put, put}
+use Rattle.drafts.specs.ShapeLaws.{Written, shape-written}
 use Rattle.drafts.specs.ShareLaws.{Shared, share-gives}
-use Rattle.drafts.specs.PutLaws.{ShapeNames, shape-names, Grown, GrownStep, put-grown-induction}
+use Rattle.drafts.specs.PutLaws.{GrownStep, put-grown-induction}
 
 -- ---- rows reached from row j
 
@@ -62,21 +63,21 @@ module _ (t : Table) (ordered : Ordered t) where
   Reached s k out p = NewReached (length out) (p .rows) (p .at)
 
   reached-step : (s : Sign) (k : ℕ) (σ : Shape) → shape (conceptAt t k) s ≡ σ → GrownStep t ordered Reached s k σ
-  reached-step s k σ e = by-shape σ (subst ShapeNames e (shape-names (conceptAt t k) s))
+  reached-step s k σ e = by-shape σ (subst (Written (conceptAt t k)) e (shape-written (conceptAt t k) s))
     where
-      by-shape : (σ : Shape) → ShapeNames σ → GrownStep t ordered Reached s k σ
+      by-shape : (σ : Shape) → Written (conceptAt t k) σ → GrownStep t ordered Reached s k σ
       by-shape (literal c) N = λ out. shared-reached (share-gives c out)
       by-shape (other z l) N = λ out p R. R
       by-shape (unary make z l) N = λ out p G R i from b. elim (decLt i (length (p .rows))) [
-        | yes h ↦ shared-onward (share-gives (make (p .at)) (p .rows)) (rw (N (p .at)) (List·Memᴰ·head refl)) (R i from h)
+        | yes h ↦ shared-onward (share-gives (make (p .at)) (p .rows)) (rw (N (p .at) .names) (List·Memᴰ·head refl)) (R i from h)
         | no g ↦ shared-reached (share-gives (make (p .at)) (p .rows)) i (omega arith) b
       ]
       by-shape (binary make z l y r) N = λ out p q G R F Q i from b.
           let S = share-gives (make (p .at) (q .at)) (q .rows) in
           elim (decLt i (length (p .rows))) [
-            | yes h ↦ shared-onward S (rw (N (p .at) (q .at)) (List·Memᴰ·head refl)) (reaches-grown (F .more) (R i from h))
+            | yes h ↦ shared-onward S (rw (N (p .at) (q .at) .names) (List·Memᴰ·head refl)) (reaches-grown (F .more) (R i from h))
             | no g ↦ elim (decLt i (length (q .rows))) [
-              | yes h ↦ shared-onward S (rw (N (p .at) (q .at)) (List·Memᴰ·tail (List·Memᴰ·head refl))) (Q i (omega arith) h)
+              | yes h ↦ shared-onward S (rw (N (p .at) (q .at) .names) (List·Memᴰ·tail (List·Memᴰ·head refl))) (Q i (omega arith) h)
               | no f ↦ shared-reached S i (omega arith) b
             ]
           ]

@@ -1,70 +1,19 @@
 -- Laws of putting a row with all that it needs: its clause without a bound, and induction over it.
 --
--- In order: the rows of a shape are the arguments of the concept (`shape-rows`), and what is written names what was put (`shape-names`); the clause (`put-clause`); induction (`put-induction`); growth and settlement
+-- In order: the clause (`put-clause`); induction (`put-induction`); growth and settlement
 -- (`Grown`, `put-grown`): what is put once is found again, with all that it needs, as the table grows; induction where growth is known (`put-grown-induction`).
 -- Assumes nothing.
 use mathlib.Core.Path.{_≡_, refl, sym, ap, _∙_, subst}
-use mathlib.Core.Bool.{true, false}
-use mathlib.Core.List.{List, [], _∷_, List·Memᴰ, List·Memᴰ·head, List·Memᴰ·tail}
+use mathlib.Core.List.{List·Memᴰ, List·Memᴰ·head, List·Memᴰ·tail}
 use Prim.Native.Nat.{ℕ, zero, suc, _<_}
 use native.Mathlib.Nat.{not-suc-le-zero}
 use native.Mathlib.Omega.{arith}
 use lib.ListN.{length}
-use Rattle.concepts.specs.Begins.{Begins, begins-refl, begins-trans}
-use Rattle.concepts.specs.Concept.{Concept, atomic, negated, conj, disj, univ, exist, neg, impl, Table, conceptAt, arguments, Ordered}
+use Rattle.concepts.specs.Begins.{Begins, begins-trans}
+use Rattle.concepts.specs.Concept.{Table, conceptAt, Ordered}
 use Rattle.drafts.specs.Normalize.{Sign, Shape, literal, other, unary, binary, shape, Put, stands, share, putShape, putBelow, put}
-use Rattle.drafts.specs.ShareLaws.{Shared, share-gives, shared-settled}
-
--- ---- the rows of a shape
-
-abbrev pub shapeRows : Shape → List ℕ
-shapeRows (literal c) = []
-shapeRows (other s k) = k ∷ []
-shapeRows (unary make s k) = k ∷ []
-shapeRows (binary make s k z l) = k ∷ l ∷ []
-
-pub shape-rows : (c : Concept) (s : Sign) → shapeRows (shape c s) ≡ arguments c
-unfolding shape
-shape-rows (atomic a) true = refl
-shape-rows (atomic a) false = refl
-shape-rows (negated a) true = refl
-shape-rows (negated a) false = refl
-shape-rows (conj l r) true = refl
-shape-rows (conj l r) false = refl
-shape-rows (disj l r) true = refl
-shape-rows (disj l r) false = refl
-shape-rows (univ ρ l) true = refl
-shape-rows (univ ρ l) false = refl
-shape-rows (exist ρ l) true = refl
-shape-rows (exist ρ l) false = refl
-shape-rows (neg l) s = refl
-shape-rows (impl l r) true = refl
-shape-rows (impl l r) false = refl
-
--- the row that is written names the rows that were put before it
-abbrev pub ShapeNames : Shape → Type 0
-ShapeNames (literal c) = arguments c ≡ []
-ShapeNames (other s k) = Unit {0}
-ShapeNames (unary make s k) = (i : ℕ) → arguments (make i) ≡ i ∷ []
-ShapeNames (binary make s k z l) = (i j : ℕ) → arguments (make i j) ≡ i ∷ j ∷ []
-
-pub shape-names : (c : Concept) (s : Sign) → ShapeNames (shape c s)
-unfolding shape
-shape-names (atomic a) true = refl
-shape-names (atomic a) false = refl
-shape-names (negated a) true = refl
-shape-names (negated a) false = refl
-shape-names (conj l r) true = λ i j. refl
-shape-names (conj l r) false = λ i j. refl
-shape-names (disj l r) true = λ i j. refl
-shape-names (disj l r) false = λ i j. refl
-shape-names (univ ρ l) true = λ i. refl
-shape-names (univ ρ l) false = λ i. refl
-shape-names (exist ρ l) true = λ i. refl
-shape-names (exist ρ l) false = λ i. refl
-shape-names (neg l) s = tt
-shape-names (impl l r) true = λ i j. refl
-shape-names (impl l r) false = λ i j. refl
+use Rattle.drafts.specs.ShapeLaws.{shapeRows, shape-rows}
+use Rattle.drafts.specs.ShareLaws.{share-gives, shared-settled}
 
 -- ---- the clause
 

@@ -4,17 +4,17 @@
 -- a row that is shared once is found again as the table grows (`share-settled`).
 -- Assumes nothing.
 use mathlib.Core.Path.{_≡_, refl, sym, ap, _∙_, subst}
-use mathlib.Core.Bool.{Bool, true, false, _&&_, cond}
-use mathlib.Core.List.{List, [], _∷_, _++_}
+use mathlib.Core.Bool.{Bool, true, _&&_, cond}
+use mathlib.Core.List.{[], _∷_, _++_}
 use mathlib.Core.Logic.{_⊎_, inl, inr}
 use mathlib.Core.Option.{Option, none, some}
-use Prim.Native.Nat.{ℕ, suc, _+_, _≤_, _<_}
+use Prim.Native.Nat.{ℕ, _+_, _≤_, _<_}
 use native.Mathlib.Omega.{arith}
-use lib.Dec.{eqb, T, eqb→eq, eqb-refl}
+use lib.Dec.{eqb, eqb→eq, eqb-refl}
 use lib.ListN.{length, getD, length-append}
 use lib.Seq.{getD-append-add}
 use Rattle.concepts.specs.Tests.{and-both, and-make, as-true, from-true}
-use Rattle.concepts.specs.Lists.{range, NoneBelow, first}
+use Rattle.concepts.specs.Lists.{range, NoneBelow}
 use Rattle.concepts.specs.ListLaws.{length-range, getD-range, least-below, first-at, first-nowhere}
 use Rattle.concepts.specs.Begins.{Begins, begins-refl, begins-length, begins-getD}
 use Rattle.concepts.specs.Concept.{Concept, atomic, Table, conceptAt, roleOf}

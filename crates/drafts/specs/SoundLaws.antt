@@ -1,56 +1,25 @@
 -- What is written stays sound: arguments are lower rows, kinds are those of a rule file, names and roles in range, no two rows equal.
 --
--- In order: what becomes of a row in range (`shape-sound`); one row more (`snoc-cases`, `share-sound`); a row with all that it needs (`put-sound`).
+-- In order: one row more (`snoc-cases`, `share-sound`); a row with all that it needs (`put-sound`).
 -- Assumes nothing.
-use mathlib.Core.Path.{_≡_, refl, sym, ap, _∙_, subst}
-use mathlib.Core.Bool.{true, false}
+use mathlib.Core.Path.{_≡_, refl, sym, _∙_, subst}
+use mathlib.Core.Bool.{false}
 use mathlib.Core.List.{List, [], _∷_, _++_, List·Memᴰ, List·Memᴰ·not-nil, List·Memᴰ·cases-cons}
 use mathlib.Core.Logic.{inl, inr}
-use Prim.Native.Nat.{ℕ, _+_, _≤_, _<_}
+use Prim.Native.Nat.{ℕ, _+_, _<_}
 use native.Mathlib.Decide.{decLt, ℕ-discrete}
 use native.Mathlib.Omega.{arith}
 use lib.Dec.{T}
-use lib.ListN.{length, getD, length-append, List·getD-eq-default}
+use lib.ListN.{length, length-append, List·getD-eq-default}
 use Rattle.concepts.specs.Lists.{NoneBelow}
-use Rattle.concepts.specs.Begins.{Begins, begins-length, begins-getD}
-use Rattle.concepts.specs.Concept.{Concept, atomic, negated, conj, disj, univ, exist, neg, impl, Table, conceptAt, arguments, Ordered, isNormal}
+use Rattle.concepts.specs.Begins.{begins-length, begins-getD}
+use Rattle.concepts.specs.Concept.{Concept, atomic, Table, conceptAt, arguments, Ordered, isNormal}
 use Rattle.decoding.specs.RowParts.{inRange}
 use Rattle.drafts.specs.Normalize.{Sign, Shape, literal, other, unary, binary, shape, sameRow, Put, share, put}
 use Rattle.drafts.specs.Sound.{Sound}
-use Rattle.drafts.specs.ShareLaws.{equalAt, Shared, share-gives, conceptAt-last}
-use Rattle.drafts.specs.PutLaws.{Grown, GrownStep, put-grown-induction}
-
--- ---- what becomes of a row
-
--- a row that names these rows, and is one of a rule file
-pub record RowSound (named : List ℕ) (c : Concept) : Type 0 where
-  pub names : arguments c ≡ named
-  pub normal : T (isNormal c)
-  pub ranged : T (inRange c)
-
-abbrev ShapeSound : Shape → Type 0
-ShapeSound (literal c) = RowSound [] c
-ShapeSound (other s k) = Unit {0}
-ShapeSound (unary make s k) = (i : ℕ) → RowSound (i ∷ []) (make i)
-ShapeSound (binary make s k z l) = (i j : ℕ) → RowSound (i ∷ j ∷ []) (make i j)
-
-shape-sound : (c : Concept) (s : Sign) → T (inRange c) → ShapeSound (shape c s)
-unfolding shape inRange
-shape-sound (atomic a) true h = record { names = refl; normal = tt; ranged = h }
-shape-sound (atomic a) false h = record { names = refl; normal = tt; ranged = h }
-shape-sound (negated a) true h = record { names = refl; normal = tt; ranged = h }
-shape-sound (negated a) false h = record { names = refl; normal = tt; ranged = h }
-shape-sound (conj l r) true h = λ i j. record { names = refl; normal = tt; ranged = tt }
-shape-sound (conj l r) false h = λ i j. record { names = refl; normal = tt; ranged = tt }
-shape-sound (disj l r) true h = λ i j. record { names = refl; normal = tt; ranged = tt }
-shape-sound (disj l r) false h = λ i j. record { names = refl; normal = tt; ranged = tt }
-shape-sound (univ ρ l) true h = λ i. record { names = refl; normal = tt; ranged = h }
-shape-sound (univ ρ l) false h = λ i. record { names = refl; normal = tt; ranged = h }
-shape-sound (exist ρ l) true h = λ i. record { names = refl; normal = tt; ranged = h }
-shape-sound (exist ρ l) false h = λ i. record { names = refl; normal = tt; ranged = h }
-shape-sound (neg l) s h = tt
-shape-sound (impl l r) true h = λ i j. record { names = refl; normal = tt; ranged = tt }
-shape-sound (impl l r) false h = λ i j. record { names = refl; normal = tt; ranged = tt }
+use Rattle.drafts.specs.ShapeLaws.{RowLike, Written, shape-written}
+use Rattle.drafts.specs.ShareLaws.{equalAt, share-gives, conceptAt-last}
+use Rattle.drafts.specs.PutLaws.{GrownStep, put-grown-induction}
 
 -- ---- one row more
 
@@ -68,7 +37,7 @@ module _ (c : Concept) (out : Table) where
     ]
   ]
 
-  module _ (S : Sound out) {named : List ℕ} (R : RowSound named c) (lower : (l : ℕ) → List·Memᴰ l named → l < length out) where
+  module _ (S : Sound out) {like : Concept} {named : List ℕ} (R : RowLike like named c) (range : T (inRange like)) (lower : (l : ℕ) → List·Memᴰ l named → l < length out) where
     snoc-distinct : NoneBelow (equalAt c out) (length out) → (j k : ℕ) → j < k → k < length (out ++ c ∷ [])
         → sameRow (conceptAt (out ++ c ∷ []) k) (conceptAt (out ++ c ∷ []) j) ≡ false
     snoc-distinct fresh j k h b =
@@ -88,7 +57,7 @@ module _ (c : Concept) (out : Table) where
       ordered = λ k l.
           snoc-cases (λ d. List·Memᴰ l (arguments d) → l < k) k (S .ordered k l) (λ e m. omega (arith, lower l (subst (List·Memᴰ l) (R .names) m)));
       normal = λ k. snoc-cases (λ d. T (isNormal d)) k (S .normal k) (λ e. R .normal);
-      ranged = λ k. snoc-cases (λ d. T (inRange d)) k (S .ranged k) (λ e. R .ranged);
+      ranged = λ k. snoc-cases (λ d. T (inRange d)) k (S .ranged k) (λ e. rw (R .ranged) range);
       distinct = snoc-distinct fresh;
     }
 
@@ -105,17 +74,17 @@ module _ (t : Table) (ordered : Ordered t) (ranged : (k : ℕ) → T (inRange (c
   Keeps s k out p = Sound out → Sound (p .rows)
 
   sound-step : (s : Sign) (k : ℕ) (σ : Shape) → shape (conceptAt t k) s ≡ σ → GrownStep t ordered Keeps s k σ
-  sound-step s k σ e = by-shape σ (subst ShapeSound e (shape-sound (conceptAt t k) s (ranged k)))
+  sound-step s k σ e = by-shape σ (subst (Written (conceptAt t k)) e (shape-written (conceptAt t k) s))
     where
       one : {i j : ℕ} {b : ℕ} → i < b → List·Memᴰ j (i ∷ []) → j < b
       one h m = elim (List·Memᴰ·cases-cons m) [ inl e ↦ omega (arith, e) | inr v ↦ absurd (List·Memᴰ·not-nil v) ]
 
-      by-shape : (σ : Shape) → ShapeSound σ → GrownStep t ordered Keeps s k σ
-      by-shape (literal c) R = λ out S. share-sound c out S R (λ l m. absurd (List·Memᴰ·not-nil m))
+      by-shape : (σ : Shape) → Written (conceptAt t k) σ → GrownStep t ordered Keeps s k σ
+      by-shape (literal c) R = λ out S. share-sound c out S R (ranged k) (λ l m. absurd (List·Memᴰ·not-nil m))
       by-shape (other z l) R = λ out p K. K
-      by-shape (unary make z l) R = λ out p G K S. share-sound (make (p .at)) (p .rows) (K S) (R (p .at)) (λ j m. one (G .inside) m)
+      by-shape (unary make z l) R = λ out p G K S. share-sound (make (p .at)) (p .rows) (K S) (R (p .at)) (ranged k) (λ j m. one (G .inside) m)
       by-shape (binary make z l y r) R = λ out p q G K F L S.
-          share-sound (make (p .at) (q .at)) (q .rows) (L (K S)) (R (p .at) (q .at)) (λ j m. elim (List·Memᴰ·cases-cons m) [
+          share-sound (make (p .at) (q .at)) (q .rows) (L (K S)) (R (p .at) (q .at)) (ranged k) (λ j m. elim (List·Memᴰ·cases-cons m) [
             | inl e ↦ omega (arith, e, G .inside, begins-length (p .rows) (q .rows) (F .more))
             | inr v ↦ one (F .inside) v
           ])

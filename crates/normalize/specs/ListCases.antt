@@ -2,7 +2,7 @@
 --
 -- In order: how far the loop has come (`Course`); its start; the next row; a turn; a turn that finds no place; its end.
 -- Assumes nothing.
-use mathlib.Core.Path.{_≡_, refl, sym, ap, _∙_, subst}
+use mathlib.Core.Path.{_≡_, refl, sym, ap, _∙_}
 use mathlib.Core.List.{List, [], _∷_, _++_, append-nil, append-assoc}
 use Prim.Native.Nat.{ℕ, suc, _+_, _≤_, _<_}
 use native.Mathlib.Numerals.{add-one}
@@ -12,9 +12,8 @@ use lib.Seq.{drop-cons, take-suc-set}
 use Rattle.concepts.specs.ListLaws.{getD-mem}
 use Rattle.concepts.specs.Begins.{begins-length}
 use Rattle.concepts.specs.Concept.{Table}
-use Rattle.rulefile.specs.Format.{Bytes}
 use Rattle.drafts.specs.Normalize as Normalize
-use Rattle.drafts.specs.Normalize.{asIs, put, PutList, putList}
+use Rattle.drafts.specs.Normalize.{asIs, put, putList}
 use Rattle.drafts.specs.PutListLaws.{putList-grown}
 use Rattle.normalize.specs.declared.Placement.the-variants.{At, Full}
 use Rattle.normalize.specs.declared.Listed.the-variants as Listed

@@ -4,31 +4,31 @@
 -- not remembered, by what becomes of it: literal, other, over one row, over two.
 -- Assumes nothing.
 use mathlib.Core.Path.{_≡_, refl, sym, ap, _∙_, subst}
-use mathlib.Core.Bool.{true, false, not}
+use mathlib.Core.Bool.{true, false}
 use mathlib.Core.List.{List, [], _∷_, _++_, List·Memᴰ}
-use Prim.Native.Nat.{ℕ, _+_, _*_, _≤_, _<_}
+use Prim.Native.Nat.{ℕ, _+_, _≤_, _<_}
 use native.Mathlib.Decide.{ℕ-discrete}
 use native.Mathlib.Omega.{arith}
 use lib.ListN.{length, getD, set, replicate, length-set, length-append, getD-replicate}
 use lib.Seq.{getD-set-same, getD-set-other}
-use Rattle.concepts.specs.Lists.{NoneBelow}
 use Rattle.concepts.specs.Begins.{Begins, begins-refl, begins-trans, begins-length}
-use Rattle.concepts.specs.Concept.{Concept, Table, conceptAt}
+use Rattle.concepts.specs.Concept.{Concept, Table}
 use Rattle.decoding.specs.RowParts.{ofParts}
 use Rattle.rulefile.specs.Format.{Bytes, rowCount}
 use Rattle.drafts.specs.Normalize as Normalize
-use Rattle.drafts.specs.Normalize.{Sign, literal, other, unary, binary, shape, stands, share, putShape, put}
-use Rattle.drafts.specs.ShareLaws.{equalAt, placeOf-at, placeOf-nowhere, share-found, share-new, Shared, share-gives}
-use Rattle.drafts.specs.PutLaws.{shapeRows, rows-lower, put-as, Grown, put-grown}
+use Rattle.drafts.specs.Normalize.{Sign, other, stands, share, putShape, put}
+use Rattle.drafts.specs.ShareLaws.{placeOf-at, placeOf-nowhere, share-found, share-new, share-gives}
+use Rattle.drafts.specs.ShapeLaws.{shapeRows}
+use Rattle.drafts.specs.PutLaws.{rows-lower, put-as, put-grown}
 use Rattle.normalize.specs.declared.Shape.{Shape}
 use Rattle.normalize.specs.declared.Shape.the-variants.{Literal, Other, Unary, Binary}
 use Rattle.normalize.specs.declared.Placement.{Placement}
 use Rattle.normalize.specs.declared.Placement.the-variants.{At, Full}
-use Rattle.normalize.specs.Words.{rowIn, Own, rowsIn, Held, Finds}
+use Rattle.normalize.specs.Words.{rowIn, rowsIn, Held, Finds}
 use Rattle.normalize.specs.WordLaws.{IsRow, length-rowsIn, rowsIn-more, held-more, found-none, found-row}
 use Rattle.normalize.specs.Shapes.{shapeOf, tableOf, ShapeAt, slotOf}
 use Rattle.normalize.specs.ShapeLaws.{draft-parted, draft-ordered}
-use Rattle.normalize.specs.Contracts.{Draft, Settled, Remembers, ShareAsks, Stands, Gives, SharesRow, PutAsks, Still, PutGives}
+use Rattle.normalize.specs.Contracts.{Settled, Remembers, ShareAsks, Gives, SharesRow, PutAsks, Still, PutGives}
 
 -- ---- an answer by its name
 
@@ -198,7 +198,8 @@ module _ {b : Bytes} {memo ws : List ℕ} {n k : ℕ} (A : PutAsks b memo ws n k
     literal-ends = share-ends (A .held) (A .remembered) (put-becomes S ∙ ap (λ (c : Concept). share c (rowsIn ws n)) (sym (R .row)))
 
   -- what becomes of another row
-  pub other-ends : {s : Sign} {l : ℕ} {z : Sign} → ShapeAt b k s (Other z l) → {memo′ ws′ : List ℕ} {r : Placement} → PutGives b ws n l z memo′ ws′ r → PutGives b ws n k s memo′ ws′ r
+  pub other-ends : {s : Sign} {l : ℕ} {z : Sign} → ShapeAt b k s (Other z l) → {memo′ ws′ : List ℕ} {r : Placement} → PutGives b ws n l z memo′ ws′ r
+      → PutGives b ws n k s memo′ ws′ r
   unfolding putShape
   other-ends {s} S {memo′} {ws′} {r} G = record {
     memoSize = G .memoSize;

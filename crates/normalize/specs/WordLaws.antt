@@ -1,13 +1,13 @@
 -- Laws of Words.
 --
--- In order: a row as a word, and back (`rowIn-packed`), by its kind (`literal-row`, `modal-row`, `pair-row`), and its bytes (`own-parts`); equal words are equal rows (`own-same`); the rows in words (`conceptAt-rowsIn`, `rowsIn-more`, `held-more`);
--- the first equal word is the first equal row (`found-row`, `found-none`).
+-- In order: a row as a word, and back (`rowIn-packed`), by its kind (`literal-row`, `modal-row`, `pair-row`), and its bytes (`own-parts`); equal words are
+-- equal rows (`own-same`); the rows in words (`conceptAt-rowsIn`, `rowsIn-more`, `held-more`); the first equal word is the first equal row (`found-row`, `found-none`).
 -- Assumes nothing.
-use mathlib.Core.Path.{_≡_, refl, sym, ap, _∙_}
+use mathlib.Core.Path.{_≡_, sym, ap, _∙_}
 use mathlib.Core.Bool.{Bool, true, false, cond}
-use mathlib.Core.List.{List, [], _∷_, _++_, map}
+use mathlib.Core.List.{List, [], _∷_, _++_}
 use mathlib.Core.Logic.{inl, inr}
-use Prim.Native.Nat.{ℕ, suc, _+_, _*_, _/_, _%_, _≤_, _<_}
+use Prim.Native.Nat.{ℕ, _+_, _*_, _/_, _%_, _<_}
 use native.Mathlib.Decide.{ℕ-discrete}
 use native.Mathlib.Omega.{arith}
 use lib.Dec.{eqb, not-T}

@@ -3,7 +3,7 @@
 -- In order: what an accepted file holds (`Admitted`, `accepted-admitted`, `accepted-length`; of a rule file, `accepted-normal`);
 -- that check 9 never refuses a file (`passed-last`, `no-refusal-nine`).
 -- Assumes nothing.
-use mathlib.Core.Path.{_≡_, refl, sym, ap, _∙_, subst}
+use mathlib.Core.Path.{_≡_, refl, ap}
 use mathlib.Core.Bool.{true, false, not}
 use mathlib.Core.List.{List, [], _∷_, List·Memᴰ, List·Memᴰ·not-nil, List·Memᴰ·eq-of-singleton, Memᴰ·of-map}
 use mathlib.Core.Logic.{inl, inr}
@@ -12,9 +12,9 @@ use Prim.Native.Nat.{ℕ, _≤_, _<_}
 use native.Mathlib.Decide.{decLt}
 use native.Mathlib.Omega.{arith}
 use lib.Dec.{T, ltb, leb, leb·zero, ltb→lt}
-use lib.ListN.{length, List·getD-eq-default}
+use lib.ListN.{length}
 use borrow.Author.Tests.{leb-false}
-use Rattle.concepts.specs.Tests.{or-neither, decide, as-false, from-false}
+use Rattle.concepts.specs.Tests.{or-neither, as-false, from-false}
 use Rattle.concepts.specs.Lists.{range, any, every}
 use Rattle.concepts.specs.ListLaws.{range-mem, mem-range, every-mem, length-map-range, map-range-cases, not-any, any-range-found, none-any-range, least-below}
 use Rattle.concepts.specs.Concept.{Concept, atomic, conceptAt, arguments, roleOf, Ordered, WellFormed, isNormal, Normal}

@@ -1,6 +1,6 @@
 -- `converter::finish` meets its contract: its tests are those of the definition, and what it writes is the file.
 -- Assumes nothing.
-use mathlib.Core.Path.{refl, _∙_}
+use mathlib.Core.Path.{refl}
 use native.Mathlib.Omega.{arith}
 use borrow.Author.Needs.{needs}
 use Rattle.converter.specs.ConvertCases.{finish-small, text-part, rules-part, finish-refused, finish-room, finish-file, finish-written, numbers-as}

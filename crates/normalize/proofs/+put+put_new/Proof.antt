@@ -2,7 +2,7 @@
 --
 -- In order: what falls from call to call; the places in each function that others speak of; the needs, in the code's order.
 -- Assumes nothing.
-use mathlib.Core.Path.{_≡_, refl, ap, _∙_}
+use mathlib.Core.Path.{refl, ap}
 use mathlib.Core.List.{List·Memᴰ·head, List·Memᴰ·tail}
 use Prim.Native.Nat.{ℕ, _+_, _*_, _<_}
 use native.Mathlib.Omega.{arith}

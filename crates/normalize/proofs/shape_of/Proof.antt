@@ -2,7 +2,6 @@
 -- Assumes nothing.
 use native.Mathlib.Omega.{arith}
 use borrow.Author.Needs.{needs}
-use Rattle.rulefile.specs.Format.{rowCount}
 use Rattle.normalize.specs.ShapeLaws.{draft-parted, RowRead, literal-case, unary-case, negation-case, implication-case, binary-case}
 use Rattle.normalize.proofs.shape_of.Statement.{statement}
 use Rattle.normalize.proofs.shape_of.Tie as tie
