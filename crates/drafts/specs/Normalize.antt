@@ -1,7 +1,7 @@
 -- Negation normal form: which rows are written for the rules and the wanted rows of a draft (02, [1]).
 --
 -- In order: what becomes of a row; where equal rows are shared; a row with all that it needs; a list of rows; the file.
--- A row that was written before is found again with all that it needs, so the definition need not remember which rows were written; the code does (SettledLaws).
+-- A row that was written before is found again with all that it needs, so the definition need not remember which rows were written; the code does (`Grown` in PutLaws).
 -- Assumes nothing.
 use mathlib.Core.Bool.{Bool, true, false, not, _&&_, cond}
 use mathlib.Core.List.{List, [], _∷_, _++_}
