@@ -1,5 +1,5 @@
 -- Drafts and their conversion into rule files: which rows are written (Normalize), a file in bytes (Encoding), the whole (Conversion), what is promised of it (Promise).
--- Definitions apart from their laws.
+-- Definitions apart from their laws. Some drafts and what becomes of them: KnownConversions.
 pub mod Normalize
 pub mod Encoding
 pub mod Conversion
@@ -14,3 +14,4 @@ pub mod ShapeMeaning
 pub mod MeaningLaws
 pub mod PutListLaws
 pub mod EncodingLaws
+pub mod KnownConversions
