@@ -30,6 +30,15 @@ inverse-inverse ρ = go (ρ % 2) refl (omega arith)
     go (suc zero) e h = ap inverse (inverse-odd ρ e) ∙ inverse-even (ρ - 1) (omega arith) ∙ omega arith
     go (suc (suc b)) e h = absurd (omega arith)
 
+-- no role is its own inverse
+pub inverse-other : (ρ : ℕ) → inverse ρ ≡ ρ → ⊥
+inverse-other ρ same = go (ρ % 2) refl (omega arith)
+  where
+    go : (b : ℕ) → ρ % 2 ≡ b → b < 2 → ⊥
+    go zero e h = absurd (omega (arith, inverse-even ρ e))
+    go (suc zero) e h = absurd (omega (arith, inverse-odd ρ e))
+    go (suc (suc b)) e h = absurd (omega arith)
+
 -- codes from 32 on, which no row has, stay among themselves
 pub inverse-high : (ρ : ℕ) → 32 ≤ ρ → 32 ≤ inverse ρ
 inverse-high ρ l = go (ρ % 2) refl (omega arith)

@@ -12,7 +12,9 @@ use Rattle.concepts.specs.Tests.{and-both, from-true}
 use Rattle.concepts.specs.ListLaws.{length-map-range}
 use Rattle.procedure.specs.Example.{Example, example}
 use Rattle.words.specs.Sizes.{mostRecords, setSize, linkSize}
-use Rattle.run.specs.Run.{Areas, Lengths, lengths, Used, used, Answer, can, tooLong, fits, answerCan, areasAfter, elementBytes, linkBytes, overwrite}
+use Rattle.words.specs.Words.{overwrite}
+use Rattle.evaluation.specs.Layout.{elementBytes, linkBytes}
+use Rattle.run.specs.Run.{Areas, Lengths, lengths, Used, used, Answer, can, tooLong, fits, answerCan, areasAfter}
 use Rattle.records.specs.Areas.{Bytes}
 use Rattle.records.specs.Records.{nodeIn}
 use Rattle.graph.specs.Graphs.{Work, work, graphOf}

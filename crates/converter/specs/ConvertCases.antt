@@ -24,7 +24,7 @@ use Rattle.rulefile.specs.CheckLaws.{accepted-contents, accepted-passed}
 use Rattle.rulefile.specs.FormatLaws.{Admitted, contents-admitted}
 use Rattle.rulefile.specs.PartLaws.{laid-placed, whole}
 use Rattle.rulefile.specs.declared.Layout.{Layout}
-use Rattle.run.specs.Run.{overwrite}
+use Rattle.words.specs.Words.{overwrite}
 use Rattle.drafts.specs.Normalize.{PutList, putList, normalized}
 use Rattle.drafts.specs.PutListLaws.{putList-grown}
 use Rattle.drafts.specs.Encoding.{rowBytes, trailer, fileBytes}

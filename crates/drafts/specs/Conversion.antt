@@ -8,7 +8,7 @@ use lib.Dec.{ltb}
 use lib.ListN.{length}
 use Rattle.decoding.specs.Decoding.{draftKinds}
 use Rattle.rulefile.specs.Format.{Bytes, RuleFile, Reading, refused, accepted, readingOf}
-use Rattle.run.specs.Run.{overwrite}
+use Rattle.words.specs.Words.{overwrite}
 use Rattle.drafts.specs.Normalize.{normalized}
 use Rattle.drafts.specs.Encoding.{fileBytes}
 

@@ -5,7 +5,7 @@ ghost use mathlib.Core.Path.{_≡_};
 ghost use Prim.Native.Nat.{_+_, _≤_};
 ghost use lib.ListN.{length};
 ghost use lib.Seq.{sets};
-ghost use Rattle.run.specs.Run.{overwrite};
+ghost use Rattle.words.specs.Words.{overwrite};
 ghost use Rattle.encoder.specs.Encoder.{wordBytes, wordsBytes, trailerBytes, partsBytes, RowsAsk, TrailerAsks, FileAsks};
 
 // The bytes of a row.

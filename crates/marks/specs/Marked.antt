@@ -2,7 +2,7 @@
 -- Assumes nothing.
 use mathlib.Core.Path.{_≡_}
 use Prim.Native.Nat.{ℕ, _<_}
-use Rattle.procedure.specs.Example.{RoleLink}
+use Rattle.meaning.specs.Given.{RoleLink}
 use Rattle.records.specs.Areas.{Bytes, Stored}
 use Rattle.marks.specs.Marks.{NodesMarked, EdgesMarked, numberIn, stateIn, roleLinkIn}
 

@@ -6,7 +6,8 @@
 use mathlib.Core.List.{map}
 use Prim.Native.Nat.{ℕ}
 use Rattle.concepts.specs.Lists.{range}
-use Rattle.procedure.specs.Example.{RoleLink, Example}
+use Rattle.meaning.specs.Given.{RoleLink}
+use Rattle.procedure.specs.Example.{Example}
 use Rattle.words.specs.Sizes.{nodeSize, edgeSize}
 use Rattle.records.specs.Areas.{Bytes, field, Beside}
 use Rattle.records.specs.Records.{nodeIn}

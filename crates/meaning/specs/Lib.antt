@@ -2,3 +2,5 @@
 pub mod Meaning
 pub mod MeaningLaws
 pub mod FiniteLaws
+pub mod Given
+pub mod GivenLaws

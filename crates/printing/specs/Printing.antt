@@ -9,7 +9,8 @@ use Prim.Native.Nat.{ℕ, _+_, _*_, _^_, _≤_, _<_}
 use lib.ListN.{length, take}
 use lib.Seq.{sets}
 use Rattle.rulefile.specs.Format.{Bytes}
-use Rattle.run.specs.Run.{Numbers, overwrite}
+use Rattle.words.specs.Words.{overwrite}
+use Rattle.run.specs.Run.{Numbers}
 use Rattle.run.specs.Printed.{printed}
 
 -- ---- what is asked

@@ -9,7 +9,7 @@ ghost use Prim.Native.Nat.{_+_, _*_, _<_};
 ghost use lib.ListN.{length, getD};
 ghost use Rattle.words.specs.Words.{leAt};
 ghost use Rattle.run.specs.Printed as Printed;
-ghost use Rattle.run.specs.ExampleBytes.{elementAt, linkAt};
+ghost use Rattle.evaluation.specs.Layout.{elementAt, linkAt};
 ghost use Rattle.answers.specs.Numbers.{numbersOf};
 ghost use Rattle.printing.specs.Printing.{Countable, Wrote, Prints};
 use answers::Answer;

@@ -1,11 +1,12 @@
 // The problem of an accepted file, decoded once into words (01, The rule file).
 //
-// In order: where the words stand; decoding, of parts and of an accepted file; the rows of a kind and along a role; the parts of a row; the rules and the wanted rows.
+// In order: where the words stand; decoding, of parts and of an accepted file; the rows of a kind and along a role; the parts of a row, and the inverse of a role; the rules and the wanted rows.
 ghost use mathlib.Core.Path.{_≡_};
 ghost use Prim.Native.Nat.{_+_, _≤_, _<_};
 ghost use lib.ListN.{length, set};
+ghost use Rattle.concepts.specs.Role as Role;
 ghost use Rattle.concepts.specs.Concept.{conceptAt, roleOf};
-ghost use Rattle.decoding.specs.RowParts.{leftOf, rightOf};
+ghost use Rattle.decoding.specs.RowParts.{kindOf, leftOf, rightOf};
 ghost use Rattle.decoding.specs.Decoding.{ruleKinds};
 ghost use Rattle.rowset.specs.Value.{valueOf, width};
 ghost use Rattle.rulefile.specs.Read.{Laid};
@@ -175,12 +176,38 @@ pub fn universal(problem: &[u64], role: u8) -> RowSet
     rowset::empty()
 }
 
+// How many rows there are.
+pub fn row_count(problem: &[u64]) -> usize
+    requires { ⌜ Decoded (now problem) ⌝ }
+    ensures { λ r. ⌜ r ≡ countOf (now (problem .entry)) ⌝ }
+{
+    problem[COUNT] as usize
+}
+
+// The kind of row k.
+pub fn kind_at(problem: &[u64], k: usize) -> usize
+    requires { ⌜ Decoded (now problem) × (k < countOf (now problem)) ⌝ }
+    ensures { λ r. ⌜ r ≡ kindOf (conceptAt (tableOf (now (problem .entry))) k) ⌝ }
+{
+    (problem[ROWS + k] % 256) as usize
+}
+
 // The role of row k.
 pub fn role_at(problem: &[u64], k: usize) -> u8
     requires { ⌜ Decoded (now problem) × (k < countOf (now problem)) ⌝ }
     ensures { λ r. ⌜ r ≡ roleOf (conceptAt (tableOf (now (problem .entry))) k) ⌝ }
 {
     (problem[ROWS + k] / 256 % 256) as u8
+}
+
+// The inverse of a role: one more than an even code, one less than an odd code.
+pub fn inverse(role: u8) -> u8
+    ensures { λ r. ⌜ r ≡ Role.inverse role ⌝ }
+{
+    if role % 2 == 0 {
+        return role + 1;
+    }
+    role - 1
 }
 
 // The name or the left argument of row k.

@@ -21,9 +21,11 @@ use Rattle.meaning.specs.Meaning.{finite, Holds}
 use Rattle.procedure.specs.Problem.{Problem, WellPosed}
 use Rattle.procedure.specs.Status.{Status}
 use Rattle.procedure.specs.Graph.{Graph, nodeAt, nodeCount}
-use Rattle.procedure.specs.Example.{RoleLink, Example, Walk, listed, worldOf, example}
+use Rattle.meaning.specs.Given.{RoleLink, listed}
+use Rattle.procedure.specs.Example.{Example, Walk, worldOf, example}
 use Rattle.procedure.specs.SetTestLaws.{mem-existentials}
-use Rattle.procedure.specs.ExampleLaws.{example-some, mem-listed, listed-mem}
+use Rattle.meaning.specs.GivenLaws.{mem-listed, listed-mem}
+use Rattle.procedure.specs.ExampleLaws.{example-some}
 use Rattle.procedure.proofs.Finished.{Saturated, Along, Finished}
 use Rattle.procedure.proofs.Truth.{setAt, size, Hintikka, truth}
 use Rattle.procedure.proofs.Descend.{Usable}

@@ -26,7 +26,8 @@ use Rattle.procedure.specs.Problem.{Problem}
 use Rattle.procedure.specs.Status.{Status}
 use Rattle.procedure.specs.SetTests.{existentials}
 use Rattle.procedure.specs.Graph.{Edge, Graph, nodeAt, nodeCount, children}
-use Rattle.procedure.specs.Example.{RoleLink, Walk, position, meet, walkRows, rowsOf, walkWithin, walk}
+use Rattle.meaning.specs.Given.{RoleLink}
+use Rattle.procedure.specs.Example.{Walk, position, meet, walkRows, rowsOf, walkWithin, walk}
 use Rattle.procedure.specs.SetTestLaws.{existentials-mem}
 use Rattle.procedure.specs.ExampleLaws.{Met, meet-met, meet-links, mem-rowsOf, rowsOf-mem, length-rowsOf, walkRows-cons, walkWithin-step, walkWithin-end, walk-some}
 use Rattle.procedure.proofs.Finished.{Along, Under, Finished}

@@ -1,27 +1,22 @@
 -- The example that a run leaves (01, The example), and the world that example records describe.
 --
--- In order: links and examples; going down to a state; the walk; the example of a graph; the world of an example.
+-- In order: examples; going down to a state; the walk; the example of a graph; the world of an example.
 -- A walk answers `none` where it meets a dead end or its bound: that never happens after "can" (docs/DECISIONS.md, Fuel).
 -- Assumes nothing.
-use mathlib.Core.Bool.{Bool, true, false, _&&_, _||_, cond}
+use mathlib.Core.Bool.{Bool, true, false, cond}
 use mathlib.Core.List.{List, [], _∷_, _++_, map, zip}
 use mathlib.Core.Option.{Option, none, some}
-use Prim.Native.Nat.{ℕ, zero, suc, _+_, _*_}
+use Prim.Native.Nat.{ℕ, zero, suc}
 use lib.Dec.{eqb, ltb}
 use lib.ListN.{length, getD}
 use Rattle.concepts.specs.Lists.{any, first}
 use Rattle.concepts.specs.Concept.{Concept, asAtomic, Table}
 use Rattle.concepts.specs.RowSet.{RowSet, empty}
 use Rattle.meaning.specs.Meaning.{World}
+use Rattle.meaning.specs.Given.{RoleLink, pairs}
 use Rattle.procedure.specs.Status.{Status, isSat, isOpen}
 use Rattle.procedure.specs.SetTests.{concepts, existentials}
 use Rattle.procedure.specs.Graph.{Link, unlinked, toState, lapsed, Graph, nodeAt, nodeCount, children}
-
--- a link record: from, role code, to
-pub record RoleLink : Type 0 where
-  pub from : ℕ
-  pub role : ℕ
-  pub to : ℕ
 
 pub record Example : Type 0 where
   pub elements : List RowSet
@@ -106,14 +101,10 @@ module _ (t : Table) (g : Graph) where
 abbrev pub isAtomic : ℕ → Concept → Bool
 isAtomic a c = elim (asAtomic c) [ some b ↦ eqb a b | none ↦ false ]
 
--- (d, ρ, e) is listed
-unfoldable pub listed : List RoleLink → ℕ → ℕ → ℕ → Bool
-listed links d ρ e = any (λ l. eqb (l .from) d && (eqb (l .role) ρ && eqb (l .to) e)) links
-
 -- "A pair (d, e) belongs to role k if (d, 2k, e) or (e, 2k + 1, d) is listed. A name holds where its kind 1 row is in the set"
 unfoldable pub worldOf : Table → Example → World
 worldOf t x = record {
   size = length (x .elements);
   named = λ a d. any (isAtomic a) (concepts t (getD (x .elements) d empty));
-  related = λ k d e. listed (x .links) d (2 * k) e || listed (x .links) e (2 * k + 1) d;
+  related = pairs (x .links);
 }

@@ -1,29 +1,34 @@
 -- Laws of Example.
 --
 -- In order: the child that a walk goes down to (`liveChild`); where a state stands (`position`); meeting a state (`meet`);
--- the rows with their children (`rowsOf`); the steps of the walk; which links are listed.
+-- the rows with their children (`rowsOf`); the steps of the walk; names in the world of an example.
 -- Assumes nothing.
 use mathlib.Core.Path.{_≡_, refl, sym, ap, _∙_, subst}
-use mathlib.Core.Bool.{Bool, true, false, not, _&&_, _||_, cond}
-use mathlib.Core.List.{List, [], _∷_, _++_, map, zip, List·Memᴰ, List·Memᴰ·cases-cons, List·Memᴰ·not-nil, List·Memᴰ·append-cases, List·Memᴰ·eq-of-singleton}
+use mathlib.Core.Bool.{Bool, true, false, not, _||_, cond}
+use mathlib.Core.List.{List, [], _∷_, _++_, map, zip, List·Memᴰ, List·Memᴰ·cases-cons, List·Memᴰ·not-nil, List·Memᴰ·append-cases, List·Memᴰ·eq-of-singleton, Memᴰ·map, Memᴰ·of-map}
 use mathlib.Core.Logic.{_⊎_, inl, inr}
 use mathlib.Core.Option.{Option, none, some}
 use Prim.Native.Nat.{ℕ, suc, _≤_, _<_}
 use native.Mathlib.Nat.{not-suc-le-zero, le-of-suc-le-suc}
+use native.Mathlib.Decide.{decLt}
 use native.Mathlib.Omega.{arith}
 use lib.Dec.{T, eqb, ltb, eqb→eq, eqb-refl, ltb→lt, lt→ltb, nltb→le, T-not}
-use lib.ListN.{length, getD, length-append, length-map}
+use lib.ListN.{length, getD, length-append, length-map, List·getD-eq-default}
 use lib.Seq.{getD-at}
-use Rattle.concepts.specs.Tests.{by-test, or-cases, and-both, and-make, from-true, from-false}
-use Rattle.concepts.specs.ListLaws.{getD-map, mem-zip, zip-mem, length-zip, first-some, first-none, any-mem, mem-any}
+use Rattle.concepts.specs.Tests.{by-test, or-cases, from-true, from-false, same-test}
+use Rattle.concepts.specs.Lists.{any, answers}
+use Rattle.concepts.specs.ListLaws.{getD-map, mem-zip, zip-mem, length-zip, first-some, first-none, any-mem, mem-any, mem-answers, answers-mem}
 use Rattle.concepts.specs.Begins.{Begins, begins-refl}
 use Rattle.concepts.specs.Counting.{Distinct, distinct-append, keyed}
-use Rattle.concepts.specs.Concept.{Table}
-use Rattle.concepts.specs.RowSet.{mem}
+use Rattle.concepts.specs.Concept.{Concept, atomic, asAtomic, Table, conceptAt}
+use Rattle.concepts.specs.ConceptLaws.{asAtomic-some}
+use Rattle.concepts.specs.RowSet.{RowSet, mem, members, empty, fromList}
+use Rattle.concepts.specs.RowSetLaws.{mem-empty, mem-members, members-mem, mem-fromList, fromList-mem, fromList-none}
+use Rattle.meaning.specs.Given.{pairs, given}
 use Rattle.procedure.specs.Status.{Status, unset, «open», sat, unsat, toosmall, isSat, isOpen}
-use Rattle.procedure.specs.SetTests.{existentials}
+use Rattle.procedure.specs.SetTests.{concepts, namesOf, existentials}
 use Rattle.procedure.specs.Graph.{Edge, Graph, nodeAt, nodeCount, children}
-use Rattle.procedure.specs.Example.{RoleLink, firstChild, liveChild, Walk, _>>=_, descend, position, meet, walkRows, rowsOf, walkWithin, walk, example, listed}
+use Rattle.procedure.specs.Example.{Example, isAtomic, worldOf, firstChild, liveChild, Walk, _>>=_, descend, position, meet, walkRows, rowsOf, walkWithin, walk, example}
 
 -- ---- going down
 
@@ -195,20 +200,59 @@ pub example-some : (t : Table) (g : Graph) (w : Walk) → walk t g ≡ some w
 unfolding example _>>=_
 example-some t g w e = ap (λ (o : Option Walk). o >>= (λ v. some (record { elements = map (λ y. nodeAt g y .rows) (v .states); links = v .links }))) e
 
--- ---- listed links
+-- ---- names in the world of an example
 
-pub mem-listed : (links : List RoleLink) (l : RoleLink) → List·Memᴰ l links → T (listed links (l .from) (l .role) (l .to))
-unfolding listed
-mem-listed links l m =
-    any-mem (λ k. eqb (k .from) (l .from) && (eqb (k .role) (l .role) && eqb (k .to) (l .to))) links l m
-    (and-make (eqb (l .from) (l .from)) (eqb (l .role) (l .role) && eqb (l .to) (l .to)) (eqb-refl (l .from))
-    (and-make (eqb (l .role) (l .role)) (eqb (l .to) (l .to)) (eqb-refl (l .role)) (eqb-refl (l .to))))
+isAtomic-path : (a : ℕ) (c : Concept) → T (isAtomic a c) → c ≡ atomic a
+isAtomic-path a c h = by-view (asAtomic c) refl h
+  where
+    by-view : (o : Option ℕ) → asAtomic c ≡ o → T (elim o as (λ _. Bool) [ some b ↦ eqb a b | none ↦ false ]) → c ≡ atomic a
+    by-view none p h = absurd h
+    by-view (some b) p h = asAtomic-some c b p ∙ ap atomic (sym (eqb→eq a b h))
 
-pub listed-mem : (links : List RoleLink) (d ρ e : ℕ) → T (listed links d ρ e) → List·Memᴰ (record { from = d; role = ρ; to = e }) links
-unfolding listed
-listed-mem links d ρ e h =
-    let (l, m, p) = mem-any (λ k. eqb (k .from) d && (eqb (k .role) ρ && eqb (k .to) e)) links h in
-    let (a, q) = and-both (eqb (l .from) d) (eqb (l .role) ρ && eqb (l .to) e) p in
-    let (b, c) = and-both (eqb (l .role) ρ) (eqb (l .to) e) q in
-    subst (λ (k : RoleLink). List·Memᴰ k links)
-    (λ i. record { from = eqb→eq (l .from) d a i; role = eqb→eq (l .role) ρ b i; to = eqb→eq (l .to) e c i }) m
+-- the empty set has no names
+names-empty : (t : Table) → namesOf t empty ≡ empty
+unfolding namesOf
+names-empty t = fromList-none (answers asAtomic (concepts t empty)) (λ a m.
+    let (c, n, e) = answers-mem asAtomic (concepts t empty) a m in
+    let (k, i, p) = Memᴰ·of-map (conceptAt t) (members (length t) empty) n in
+    absurd (rw (mem-empty k) at (members-mem (length t) k empty i .1)))
+
+module _ (t : Table) (x : Example) where
+  -- a name holds where its row is in the set
+  pub named-in : (a k d : ℕ) → k < length t → conceptAt t k ≡ atomic a → T (mem k (getD (x .elements) d empty)) → T (worldOf t x .named a d)
+  unfolding worldOf
+  named-in a k d h e m =
+      let s = getD (x .elements) d empty in
+      any-mem (isAtomic a) (concepts t s) (conceptAt t k) (Memᴰ·map (conceptAt t) (mem-members (length t) k s h m)) (subst (λ (c : Concept). T (isAtomic a c)) (sym e) (eqb-refl a))
+
+  -- and nowhere else
+  pub named-out : (a d : ℕ) → T (worldOf t x .named a d) → (k : ℕ) × (k < length t) × (conceptAt t k ≡ atomic a) × T (mem k (getD (x .elements) d empty))
+  unfolding worldOf
+  named-out a d h =
+      let s = getD (x .elements) d empty in
+      let (c, m, i) = mem-any (isAtomic a) (concepts t s) h in
+      let (k, n, e) = Memᴰ·of-map (conceptAt t) (members (length t) s) m in
+      let (b, p) = members-mem (length t) k s n in
+      (k, b, e ∙ isAtomic-path a c i, p)
+
+-- its names are those of its sets, and its pairs those of its links
+pub world-given : (t : Table) (x : Example) → worldOf t x ≡ given (map (namesOf t) (x .elements)) (x .links)
+unfolding worldOf given namesOf
+world-given t x = λ i. record { size = sym (length-map (x .elements) (namesOf t)) i; named = λ a d. same a d i; related = pairs (x .links) }
+  where
+    by-view : (a : ℕ) (c : Concept) → T (isAtomic a c) → asAtomic c ≡ some a
+    by-view a c h = ap asAtomic (isAtomic-path a c h)
+
+    in-set : (a : ℕ) (s : RowSet) → any (isAtomic a) (concepts t s) ≡ mem a (namesOf t s)
+    in-set a s = same-test (any (isAtomic a) (concepts t s)) (mem a (fromList (answers asAtomic (concepts t s))))
+        (λ h. let (c, m, i) = mem-any (isAtomic a) (concepts t s) h in mem-fromList a (answers asAtomic (concepts t s)) (mem-answers asAtomic (concepts t s) c a m (by-view a c i)))
+        (λ h. let (c, m, e) = answers-mem asAtomic (concepts t s) a (fromList-mem a (answers asAtomic (concepts t s)) h) in
+        any-mem (isAtomic a) (concepts t s) c m (subst (λ (k : Concept). T (isAtomic a k)) (sym (asAtomic-some c a e)) (eqb-refl a)))
+
+    same : (a d : ℕ) → any (isAtomic a) (concepts t (getD (x .elements) d empty)) ≡ mem a (getD (map (namesOf t) (x .elements)) d 0)
+    same a d = elim (decLt d (length (x .elements))) [
+      | yes h ↦ in-set a (getD (x .elements) d empty) ∙ ap (mem a) (sym (getD-map (namesOf t) (x .elements) d empty 0 h))
+      | no g ↦
+          ap (λ (s : RowSet). any (isAtomic a) (concepts t s)) (List·getD-eq-default (x .elements) empty (omega arith))
+          ∙ in-set a empty ∙ ap (mem a) (names-empty t) ∙ ap (mem a) (sym (List·getD-eq-default (map (namesOf t) (x .elements)) 0 (omega (arith, length-map (x .elements) (namesOf t)))))
+    ]

@@ -1,6 +1,6 @@
 -- What the procedure asks of a set of rows (01, The procedure).
 --
--- In order: clash; unfinished rows; the arguments of the universal rows along a role (`box`); the existential rows.
+-- In order: the names of a set; clash; unfinished rows; the arguments of the universal rows along a role (`box`); the existential rows.
 -- Rows are looked at from row 0 on, rising.
 -- Assumes nothing.
 use mathlib.Core.Bool.{Bool, true, false, not, _&&_, _||_, cond}
@@ -10,13 +10,17 @@ use Prim.Native.Nat.{ℕ}
 use lib.Dec.{eqb}
 use lib.ListN.{length}
 use Rattle.concepts.specs.Lists.{select, any, answers, first, provided}
-use Rattle.concepts.specs.Concept.{Concept, asConj, asDisj, asUniv, asExist, Table, conceptAt}
+use Rattle.concepts.specs.Concept.{Concept, asAtomic, asConj, asDisj, asUniv, asExist, Table, conceptAt}
 use Rattle.concepts.specs.RowSet.{RowSet, mem, members, fromList}
 use Rattle.procedure.specs.Problem.{Problem}
 
 -- the concepts of a set
 abbrev pub concepts : Table → RowSet → List Concept
 concepts t s = map (conceptAt t) (members (length t) s)
+
+-- the names of a set: those of its kind 1 rows
+unfoldable pub namesOf : Table → RowSet → RowSet
+namesOf t s = fromList (answers asAtomic (concepts t s))
 
 -- ---- a clash: two rows of the set of which the first is the opposite of the second, by the problem's test
 

@@ -23,7 +23,8 @@ use Rattle.procedure.specs.Status.{Status, unset, «open», sat, unsat, toosmal
 use Rattle.procedure.specs.Graph.{Graph, Capacity, Result, reached, noPlace, outOfFuel, nodeAt, nodeCount}
 use Rattle.procedure.specs.GraphLaws.{Sure}
 use Rattle.procedure.specs.Tableau.{run}
-use Rattle.procedure.specs.Example.{RoleLink, Example, worldOf}
+use Rattle.meaning.specs.Given.{RoleLink}
+use Rattle.procedure.specs.Example.{Example, worldOf}
 use Rattle.procedure.proofs.Bare.{bare}
 use Rattle.procedure.proofs.Whole.{Ended, run-ends}
 use Rattle.procedure.proofs.Correct.{no-model, example-there, example-obeys, example-member, root-set, no-fuel}
@@ -32,7 +33,7 @@ use Rattle.words.specs.Sizes.{mostRecords}
 use Rattle.run.specs.Run.{Lengths, capacity, fileProblem, Used, used, Answer, refusedFile, short, cannot, can, tooLong, undefined, fits, answerCan, answerRoot}
 use Rattle.run.specs.Run.{answerResult, answerReading, answer}
 use Rattle.run.specs.Claim.{Shows, Claim, SaysCan}
-use Rattle.run.specs.ExampleBytesLaws.{LinkFits}
+use Rattle.evaluation.specs.LayoutLaws.{LinkFits}
 
 -- ---- what backs an answer
 

@@ -18,7 +18,8 @@ use Rattle.procedure.specs.Tableau.{foldChildren, putAlternatives, judgeLinked,
 use Rattle.procedure.specs.Tableau.{putWithin, put, updateParents, updateChanged, updateWithin, update, successor, putSuccessors, putKit, expandState, expandDisj, expandConj}
 use Rattle.procedure.specs.Tableau.{expand, loopWithin, run}
 use Rattle.procedure.specs.Example as X
-use Rattle.procedure.specs.Example.{RoleLink, firstChild, liveChild, descendBy, descendWithin, descend, position, meet, walkRows, rowsOf, walkWithin, walk, example}
+use Rattle.meaning.specs.Given.{RoleLink}
+use Rattle.procedure.specs.Example.{firstChild, liveChild, descendBy, descendWithin, descend, position, meet, walkRows, rowsOf, walkWithin, walk, example}
 use Rattle.words.specs.Sizes.{nodeSize, edgeSize, alternativeSize}
 use Rattle.run.specs.Run.{Lengths, Used, Answer, refusedFile, short, cannot, can, fits, answerCan, answerRoot, answerResult, answerReading, answer}
 

@@ -2,6 +2,7 @@
 pub mod Run
 pub mod RunLaws
 pub mod Claim
+pub mod ListingLaws
 pub mod KnownRuns
 pub mod ExampleBytes
 pub mod ExampleBytesLaws

@@ -11,9 +11,9 @@ use lib.Dec.{eqb, ltb}
 use Rattle.concepts.specs.Lists.{range}
 use Rattle.concepts.specs.RowSet.{RowSet}
 use Rattle.rulefile.specs.Format.{Bytes}
-use Rattle.procedure.specs.Example.{RoleLink}
+use Rattle.meaning.specs.Given.{RoleLink}
 use Rattle.run.specs.Run.{Numbers}
-use Rattle.run.specs.ExampleBytes.{elementAt, linkAt}
+use Rattle.evaluation.specs.Layout.{elementAt, linkAt}
 
 -- ---- words and numbers
 

@@ -13,9 +13,10 @@ use lib.ListN.{length, length-append}
 use borrow.Author.Tests.{lt-ltb, le-ltb, ltb-true, ltb-false}
 use Rattle.concepts.specs.Lists.{range}
 use Rattle.rulefile.specs.Format.{Bytes}
-use Rattle.words.specs.Words.{leAt}
-use Rattle.run.specs.Run.{Numbers, refusedWith, littleEndian, elementBytes, linkBytes}
-use Rattle.run.specs.ExampleBytes.{elementAt, linkAt}
+use Rattle.words.specs.Words.{leAt, littleEndian}
+use Rattle.evaluation.specs.Layout.{elementBytes, linkBytes}
+use Rattle.run.specs.Run.{Numbers, refusedWith}
+use Rattle.evaluation.specs.Layout.{elementAt, linkAt}
 use Rattle.run.specs.Printed.{ascii, digit, hexadecimal, decimalWithin, decimal, spaced, line, elementLine, linkLine, elementLines, linkLines, usedLine, refusedLine}
 use Rattle.run.specs.Printed.{canLines, cannotLines, printed}
 

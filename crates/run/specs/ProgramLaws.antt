@@ -14,7 +14,8 @@ use borrow.Author.Tests.{leb-true, leb-false, lt-ltb, le-ltb}
 use Rattle.rulefile.specs.Format.{Bytes, badLength, checks, Reading, refused, readingOf}
 use Rattle.decoding.specs.Decoding.{Kinds, ruleKinds}
 use Rattle.rulefile.specs.CheckLaws.{reading-refused}
-use Rattle.run.specs.Run.{lengths, Answer, undefined, answerReading, answer, numbers, elementBytes, linkBytes, areasAfter}
+use Rattle.evaluation.specs.Layout.{elementBytes, linkBytes}
+use Rattle.run.specs.Run.{lengths, Answer, undefined, answerReading, answer, numbers, areasAfter}
 use Rattle.run.specs.KnownRuns.{program, eightNodes, knownRuns, known-runs}
 use Rattle.run.specs.Printed.{ascii}
 use Rattle.run.specs.PrintedLaws.{printed-eight-nodes}

@@ -1,18 +1,20 @@
--- What the engine's call promises, for every file and all five areas (00, demands 1 to 3).
+-- What the engine's call promises, for every file and all five areas (00, demands 1 to 3; 02, [2]).
 --
 -- In order: demand 3 for an accepted file, from the numbers of the answer and the bytes of the areas to the meaning of ALCI; the whole promise.
 -- It is kept: proofs/Kept.
 -- Assumes nothing.
 use mathlib.Core.Path.{_≡_}
 use mathlib.Core.Logic.{_⊎_}
+use mathlib.Core.Option.{some}
 use Prim.Native.Nat.{ℕ, _*_, _<_}
 use Rattle.meaning.specs.Meaning.{Model}
 use Rattle.rulefile.specs.Format.{Bytes, RuleFile, refused, accepted, reading}
-use Rattle.procedure.specs.Graph.{Area, noPlace}
+use Rattle.procedure.specs.Graph.{Graph, Area, reached, noPlace}
 use Rattle.procedure.specs.Tableau.{run}
+use Rattle.procedure.specs.Example.{Example, example}
 use Rattle.words.specs.Sizes.{setSize, linkSize}
 use Rattle.run.specs.Run.{Areas, Lengths, lengths, capacity, fileProblem, Numbers, refusedWith, numbers, answer, areasAfter}
-use Rattle.run.specs.Claim.{Shows}
+use Rattle.run.specs.Claim.{Shows, Lists, Keeps}
 use Rattle.run.specs.ExampleBytes.{exampleIn}
 
 -- ---- demand 3: the file f is accepted, areas of lengths l are lent, r are the numbers of the answer, and the example areas hold `after`
@@ -42,6 +44,11 @@ pub record Right (f : RuleFile) (l : Lengths) (r : Numbers) (after : Areas) : Ty
   pub tooLong : r .refusal ≡ 11 → (l .elements < setSize * r .elements) ⊎ (l .links < linkSize * r .links)
   -- with "can" the world read from the bytes of the example areas obeys every rule at each element, and its element 0 is a member of the kit
   pub example : r .verdict ≡ 1 → Shows f (exampleIn (after .elements) (after .links) (r .elements) (r .links))
+  -- each element lists a row exactly if it holds there, in the world read from the bytes
+  pub lists : r .verdict ≡ 1 → Lists f (exampleIn (after .elements) (after .links) (r .elements) (r .links))
+  -- that world is the one of the procedure's example
+  pub placed : r .verdict ≡ 1 → (g : Graph) → run (fileProblem f) (capacity l) ≡ reached g → (x : Example) → example (f .table) g ≡ some x
+      → Keeps (f .table) x (exampleIn (after .elements) (after .links) (r .elements) (r .links))
 
 -- ---- the whole promise: the call found the areas `before` and left them as `after`
 

@@ -1,22 +1,23 @@
--- The whole run: from the bytes of a file and the five areas to the answer and the areas afterwards (01, Refusals; Areas).
+-- The whole run: from the bytes of a file and the five areas to the answer and the areas afterwards (01, Refusals; Areas; 02, [2]).
 --
--- In order: what is lent; the answer; its numbers; the bytes of an example; the areas afterwards.
+-- In order: what is lent; the example that is shown; the answer; its numbers; the areas afterwards.
 -- Assumes nothing.
 use mathlib.Core.Bool.{Bool, true, false, _&&_}
-use mathlib.Core.List.{List, [], _∷_, _++_}
 use mathlib.Core.Option.{Option, none, some}
-use Prim.Native.Nat.{ℕ, zero, suc, _*_, _/_, _%_, min}
+use Prim.Native.Nat.{ℕ, _*_, _/_, min}
 use lib.Dec.{leb}
-use lib.ListN.{length, drop, replicate}
+use lib.ListN.{length, replicate}
 use Rattle.concepts.specs.Concept.{Table}
-use Rattle.concepts.specs.RowSet.{RowSet}
 use Rattle.rulefile.specs.Format.{Bytes, RuleFile, Reading, refused, accepted, reading}
 use Rattle.procedure.specs.Problem.{Problem, problem}
 use Rattle.procedure.specs.Status.{Status, unset, «open», sat, unsat, toosmall}
 use Rattle.procedure.specs.Graph.{Graph, Capacity, Area, Result, reached, noPlace, outOfFuel, nodeAt}
 use Rattle.procedure.specs.Tableau as Tableau
-use Rattle.procedure.specs.Example.{RoleLink, Example, example}
+use Rattle.procedure.specs.Example.{Example, example, worldOf}
+use Rattle.words.specs.Words.{overwrite}
 use Rattle.words.specs.Sizes.{nodeSize, edgeSize, alternativeSize, mostRecords, setSize, linkSize}
+use Rattle.evaluation.specs.Evaluation.{evaluated}
+use Rattle.evaluation.specs.Layout.{elementBytes, linkBytes}
 
 -- ---- what is lent
 
@@ -56,6 +57,16 @@ capacity l = record {
   alternativeRoom = min mostRecords (l .alternatives / alternativeSize);
 }
 
+-- ---- the example that is shown
+
+-- "An element shall list a row exactly if it holds there in the example. .. Links and counts are as they were" (02, [2])
+unfoldable pub listing : Table → Example → Example
+listing t x = record { elements = evaluated (worldOf t x) t; links = x .links }
+
+-- the example of a graph, with every row that holds
+unfoldable pub shown : Table → Graph → Option Example
+shown t g = elim (example t g) [ some x ↦ some (listing t x) | none ↦ none ]
+
 -- ---- the answer
 
 -- how many records a run used
@@ -85,8 +96,8 @@ answerCan l u none = undefined
 
 -- "Root yes or open means "can"; never or small means "cannot""
 unfoldable pub answerRoot : Status → Lengths → Table → Graph → Answer
-answerRoot sat l t g = answerCan l (used g) (example t g)
-answerRoot «open» l t g = answerCan l (used g) (example t g)
+answerRoot sat l t g = answerCan l (used g) (shown t g)
+answerRoot «open» l t g = answerCan l (used g) (shown t g)
 answerRoot unsat l t g = cannot (used g)
 answerRoot toosmall l t g = cannot (used g)
 answerRoot unset l t g = undefined
@@ -131,26 +142,7 @@ numbers (can u x) = record { verdict = 1; refusal = 0; nodes = u .nodes; edges =
 numbers (tooLong x) = record { verdict = 0; refusal = 11; nodes = 0; edges = 0; alternatives = 0; elements = length (x .elements); links = length (x .links) }
 numbers undefined = refusedWith 0
 
--- ---- the bytes of an example
-
--- the n low bytes of v, low byte first
-unfoldable pub littleEndian : ℕ → ℕ → Bytes
-littleEndian zero v = []
-littleEndian (suc n) v = v % 256 ∷ littleEndian n (v / 256)
-
-unfoldable pub elementBytes : List RowSet → Bytes
-elementBytes [] = []
-elementBytes (s ∷ ss) = littleEndian setSize s ++ elementBytes ss
-
-unfoldable pub linkBytes : List RoleLink → Bytes
-linkBytes [] = []
-linkBytes (l ∷ ls) = littleEndian 2 (l .from) ++ littleEndian 2 (l .role) ++ littleEndian 2 (l .to) ++ linkBytes ls
-
 -- ---- the areas afterwards
-
--- an area whose first bytes are written over
-abbrev pub overwrite : Bytes → Bytes → Bytes
-overwrite new area = new ++ drop (length new) area
 
 -- "After a verdict, 10 or 11 every byte of all three is zero"
 abbrev pub zeros : Bytes → Bytes

@@ -1,7 +1,7 @@
 -- Laws of Answers: the steps of the loops, and that the answers are the procedure's. Existential rows are in ExistLaws.
 --
 -- In order: gathering, a row at a time; unfinished rows, a row at a time; the procedure's questions by the parts of a concept; its tests by the rows of a kind
--- (`conj-masked`, `disj-masked`, `box-masked`); what a set lacks; clash by the names of a set.
+-- (`conj-masked`, `disj-masked`, `box-masked`, `names-masked`); what a set lacks; clash by the names of a set.
 -- Assumes nothing.
 use mathlib.Core.Path.{_≡_, refl, sym, ap, ap₂, _∙_}
 use mathlib.Core.Bool.{Bool, true, false, not, _&&_, _||_, cond}
@@ -21,7 +21,7 @@ use Rattle.concepts.specs.RowSetLaws.{mem-empty, mem-common, mem-minus, set-ext
 use Rattle.concepts.specs.Lowest.{Lowest, Rest}
 use Rattle.procedure.specs.Problem.{Problem, opposedNames}
 use Rattle.procedure.specs.ProblemLaws.{opposed-one-name, one-name-opposed}
-use Rattle.procedure.specs.SetTests.{concepts, clash, unfinishedConj, unfinishedDisj, lowestConj, lowestDisj, univArgument, box, lacking}
+use Rattle.procedure.specs.SetTests.{concepts, namesOf, clash, unfinishedConj, unfinishedDisj, lowestConj, lowestDisj, univArgument, box, lacking}
 use Rattle.procedure.specs.SetTestLaws.{concept-mem, mem-concept, clash-found, no-clash, lacking-mem, mem-lacking}
 use Rattle.decoding.specs.RowParts.{kindOf, leftOf, rightOf}
 use Rattle.decoding.specs.RowPartLaws.{views-by-parts}
@@ -126,6 +126,10 @@ module _ {t : Table} (s : RowSet) {mask : RowSet} where
   unfolding box
   box-masked ρ picked = ap fromList (masked-answers s picked leftPart (univArgument ρ) (only-univ ρ))
 
+  pub names-masked : Picked t (ofKind 1) mask → leftParts t (common s mask) ≡ namesOf t s
+  unfolding namesOf ofKind leftPart
+  names-masked picked = ap fromList (masked-answers s picked leftPart asAtomic (λ c. views-by-parts c .atomic-is))
+
 -- what the set p lacks of the arguments along a role
 pub minus-lacking : (t : Table) (s : RowSet) (ρ : ℕ) (p : RowSet) → minus (fromList (box t s ρ)) p ≡ lacking t s ρ p
 minus-lacking t s ρ p = set-ext (minus (fromList (box t s ρ)) p) (lacking t s ρ p) (λ k.
@@ -186,10 +190,8 @@ module _ (P : Problem) (by-names : (j k : ℕ) → P .opposed j k ≡ opposedNam
   names-clash : meet ≡ clash P s
   names-clash = same-test meet (clash P s) meet-clash clash-meet
 
-  pub clash-masked : {m n : RowSet} → Picked t (ofKind 1) m → Picked t (ofKind 2) n
-      → not (eqb (common (leftParts t (common s m)) (leftParts t (common s n))) empty) ≡ clash P s
-  unfolding ofKind leftPart
-  clash-masked p q =
-      ap₂ (λ (x y : List ℕ). not (eqb (common (fromList x) (fromList y)) empty))
-      (masked-answers s p leftPart asAtomic (λ c. views-by-parts c .atomic-is)) (masked-answers s q leftPart asNegated (λ c. views-by-parts c .negated-is))
+  pub clash-masked : {n : RowSet} → Picked t (ofKind 2) n → not (eqb (common (namesOf t s) (leftParts t (common s n))) empty) ≡ clash P s
+  unfolding namesOf ofKind leftPart
+  clash-masked q =
+      ap (λ (y : List ℕ). not (eqb (common (named asAtomic) (fromList y)) empty)) (masked-answers s q leftPart asNegated (λ c. views-by-parts c .negated-is))
       ∙ names-clash

@@ -1,11 +1,9 @@
 // The tests of a set of rows, over a decoded problem (01, The procedure): each goes over the rows of the set that its kind of row has, from the lowest up.
 //
-// In order: the answers; the kinds of rows; gathering, with clash and the arguments along a role; unfinished rows; existential rows and their successors;
-// inverse roles.
+// In order: the answers; the kinds of rows; gathering, with names, clash and the arguments along a role; unfinished rows; existential rows and their successors.
 ghost use mathlib.Core.Path.{_≡_};
 ghost use Prim.Native.Nat.{_<_};
 ghost use Rattle.concepts.specs.Lists.{first, answers};
-ghost use Rattle.concepts.specs.Role as Role;
 ghost use Rattle.concepts.specs.RowSet as Set;
 ghost use Rattle.concepts.specs.Lowest.{Within};
 ghost use Rattle.procedure.specs.SetTests as SetTests;
@@ -57,16 +55,24 @@ fn gather(problem: &[u64], rows: RowSet) -> RowSet
     gathered
 }
 
+// The names of the set: those of its kind 1 rows.
+pub fn names(problem: &[u64], s: RowSet) -> RowSet
+    requires { ⌜ Decoded (now problem) ⌝ }
+    ensures { λ r. ⌜ valueOf r ≡ SetTests.namesOf (tableOf (now (problem .entry))) (valueOf s) ⌝ }
+{
+    gather(
+        problem,
+        rowset::common(s, problem::of_kind(problem, ATOMIC)),
+    )
+}
+
 // Whether a name's kind 1 and kind 2 rows are together in the set.
 pub fn clash(problem: &[u64], s: RowSet) -> bool
     requires { ⌜ Decoded (now problem) ⌝ }
     ensures { λ r. ⌜ r ≡ SetTests.clash (problemOf (now (problem .entry))) (valueOf s) ⌝ }
 {
     rowset::meets(
-        gather(
-            problem,
-            rowset::common(s, problem::of_kind(problem, ATOMIC)),
-        ),
+        names(problem, s),
         gather(
             problem,
             rowset::common(s, problem::of_kind(problem, NEGATED)),
@@ -190,14 +196,4 @@ pub fn successor(problem: &[u64], s: RowSet, role: u8, argument: usize) -> RowSe
 {
     let along = rowset::insert(box_along(problem, s, role), argument);
     rowset::union(along, problem::rules(problem))
-}
-
-// The inverse of a role: one more than an even code, one less than an odd code.
-pub fn inverse(role: u8) -> u8
-    ensures { λ r. ⌜ r ≡ Role.inverse role ⌝ }
-{
-    if role % 2 == 0 {
-        return role + 1;
-    }
-    role - 1
 }

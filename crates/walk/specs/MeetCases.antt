@@ -14,7 +14,8 @@ use borrow.Author.Tests.{lt-ltb, le-ltb}
 use lib.ListN.{length, getD, length-append}
 use Rattle.concepts.specs.Lists.{range}
 use Rattle.concepts.specs.ListLaws.{getD-mem, map-same}
-use Rattle.procedure.specs.Example.{RoleLink, Walk, position, meet}
+use Rattle.meaning.specs.Given.{RoleLink}
+use Rattle.procedure.specs.Example.{Walk, position, meet}
 use Rattle.procedure.specs.ExampleLaws.{position-there, position-absent}
 use Rattle.words.specs.Sizes.{nodeSize, mostRecords}
 use Rattle.records.specs.Areas.{Bytes, Fits, recordsIn}

@@ -13,7 +13,8 @@ use Rattle.concepts.specs.Concept.{Table}
 use Rattle.concepts.specs.RowSet.{RowSet}
 use Rattle.procedure.specs.Graph.{Node, Graph, nodeAt}
 use Rattle.procedure.specs.SetTests.{existentials}
-use Rattle.procedure.specs.Example.{RoleLink, Walk, descend, position, meet, walkRows, rowsOf}
+use Rattle.meaning.specs.Given.{RoleLink}
+use Rattle.procedure.specs.Example.{Walk, descend, position, meet, walkRows, rowsOf}
 use Rattle.procedure.specs.ExampleLaws.{meet-links}
 use Rattle.procedure.specs.WalkLaws.{walkRows-none, walkRows-next, walkRows-grows}
 use Rattle.procedure.proofs.Way.{Way}

@@ -1,16 +1,16 @@
 -- Laws of Words, each for every width.
 --
--- In order: one byte; the last byte, and two parts, of a number; what a write keeps; reading what was written.
+-- In order: one byte; the last byte, and two parts, of a number; what a write keeps; reading what was written; a number's bytes; numbers written one after another, over an area.
 -- Not here: records of several numbers (FieldLaws).
 -- Assumes nothing.
 use mathlib.Core.Path.{_≡_, refl, sym, ap, ap₂, _∙_}
-use mathlib.Core.List.{List}
-use Prim.Native.Nat.{ℕ, zero, suc, _+_, _*_, _/_, _%_, _^_, _≤_, _<_}
+use mathlib.Core.List.{List, [], _∷_, _++_, append-nil, append-assoc}
+use Prim.Native.Nat.{ℕ, zero, suc, _+_, _-_, _*_, _/_, _%_, _^_, _≤_, _<_}
 use native.Mathlib.Nat.{pow-suc, div-div-eq-div-mul, mul-assoc, mul-comm}
 use native.Mathlib.Omega.{arith}
-use lib.ListN.{length, getD, set, length-set}
-use lib.Seq.{getD-set-same, getD-set-other}
-use Rattle.words.specs.Words.{leAt, putLe}
+use lib.ListN.{length, getD, set, drop, length-set, length-append}
+use lib.Seq.{drop-cons, set-at, getD-at, getD-drop, getD-append-add, getD-set-same, getD-set-other}
+use Rattle.words.specs.Words.{leAt, putLe, littleEndian, overwrite}
 
 -- ---- one byte
 
@@ -90,3 +90,64 @@ leAt-putLe b at (suc n) v h hv =
     let y : leAt (putLe b′ (suc at) n (v / 256)) (suc at) n ≡ v / 256 =
     leAt-putLe b′ (suc at) n (v / 256) (simp length-set (omega arith)) (omega (arith, pow-suc 256 n)) in
     omega arith
+
+-- ---- a number's bytes
+
+pub length-littleEndian : (n v : ℕ) → length (littleEndian n v) ≡ n
+unfolding littleEndian
+length-littleEndian zero v = refl
+length-littleEndian (suc n) v = ap suc (length-littleEndian n (v / 256))
+
+-- read back where they stand
+pub leAt-littleEndian : (p q : List ℕ) (at n v : ℕ) → length p ≡ at → v < 256 ^ n → leAt (p ++ littleEndian n v ++ q) at n ≡ v
+unfolding littleEndian leAt
+leAt-littleEndian p q at zero v h fits = omega arith
+leAt-littleEndian p q at (suc n) v h fits =
+    let low : ℕ = v % 256 in
+    let above : List ℕ = littleEndian n (v / 256) in
+    let here : getD (p ++ low ∷ above ++ q) at 0 ≡ low = ap (λ (b : List ℕ). getD b at 0) (append-assoc p (low ∷ above) q) ∙ getD-at p low (above ++ q) 0 at h in
+    let moved : p ++ low ∷ above ++ q ≡ p ++ low ∷ [] ++ above ++ q = simp append-assoc in
+    let rest : leAt (p ++ low ∷ above ++ q) (suc at) n ≡ v / 256 =
+    ap (λ (b : List ℕ). leAt b (suc at) n) moved ∙ leAt-littleEndian (p ++ low ∷ []) q (suc at) n (v / 256) (length-append p (low ∷ []) ∙ omega arith) (omega (arith, pow-suc 256 n)) in
+    omega arith
+
+-- ---- numbers written one after another
+
+-- one byte more of an area is written over
+overwrite-more : (bs area : List ℕ) (at x : ℕ) → length bs ≡ at → at < length area → set (overwrite bs area) at x ≡ overwrite (bs ++ x ∷ []) area
+overwrite-more bs area at x l h =
+    let n : suc (length bs) ≡ length (bs ++ x ∷ []) = sym (length-append bs (x ∷ []) ∙ omega arith) in
+    ap (λ (t : List ℕ). set (bs ++ t) at x) (drop-cons area (length bs) 0 (omega arith))
+    ∙ set-at bs (getD area (length bs) 0) (drop (suc (length bs)) area) x at l
+    ∙ ap (λ (k : ℕ). bs ++ x ∷ drop k area) n
+    ∙ sym (append-assoc bs (x ∷ []) (drop (length (bs ++ x ∷ [])) area))
+
+-- a number written right after the bytes that are written over
+pub putLe-overwrite : (bs area : List ℕ) (at n v : ℕ) → length bs ≡ at → at + n ≤ length area → putLe (overwrite bs area) at n v ≡ overwrite (bs ++ littleEndian n v) area
+unfolding littleEndian putLe
+putLe-overwrite bs area at zero v l h = ap (λ (b : List ℕ). overwrite b area) (sym (append-nil bs))
+putLe-overwrite bs area at (suc n) v l h =
+    let low : List ℕ = v % 256 ∷ [] in
+    ap (λ (b : List ℕ). putLe b (suc at) n (v / 256)) (overwrite-more bs area at (v % 256) l (omega arith))
+    ∙ putLe-overwrite (bs ++ low) area (suc at) n (v / 256) (length-append bs low ∙ omega arith) (omega arith)
+    ∙ ap (λ (b : List ℕ). overwrite b area) (append-assoc bs low (littleEndian n (v / 256)))
+
+-- a number written where another one stands
+pub putLe-at : (p q : List ℕ) (at n u v : ℕ) → length p ≡ at → putLe (p ++ (littleEndian n u ++ q)) at n v ≡ p ++ (littleEndian n v ++ q)
+unfolding littleEndian putLe
+putLe-at p q at zero u v l = refl
+putLe-at p q at (suc n) u v l =
+    let low : List ℕ = v % 256 ∷ [] in
+    ap (λ (b : List ℕ). putLe b (suc at) n (v / 256))
+    (set-at p (u % 256) (littleEndian n (u / 256) ++ q) (v % 256) at l ∙ sym (append-assoc p low (littleEndian n (u / 256) ++ q)))
+    ∙ putLe-at (p ++ low) q (suc at) n (u / 256) (v / 256) (length-append p low ∙ omega arith)
+    ∙ append-assoc p low (littleEndian n (v / 256) ++ q)
+
+-- what is written over ends where it ends
+pub getD-overwrite : (new area : List ℕ) (j : ℕ) → length new ≤ j → getD (overwrite new area) j 0 ≡ getD area j 0
+getD-overwrite new area j h =
+    let e : length new + (j - length new) ≡ j = omega arith in
+    ap (λ (k : ℕ). getD (overwrite new area) k 0) (sym e)
+    ∙ getD-append-add new (drop (length new) area) (j - length new) 0
+    ∙ getD-drop (length new) area (j - length new) 0
+    ∙ ap (λ (k : ℕ). getD area k 0) e

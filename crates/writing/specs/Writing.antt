@@ -8,8 +8,9 @@ use Prim.Native.Nat.{ℕ, _*_, _≤_, _<_}
 use lib.ListN.{length}
 use Rattle.concepts.specs.Lists.{range}
 use Rattle.concepts.specs.RowSet.{RowSet}
-use Rattle.procedure.specs.Example.{RoleLink}
-use Rattle.run.specs.Run.{elementBytes, linkBytes, overwrite}
+use Rattle.meaning.specs.Given.{RoleLink}
+use Rattle.words.specs.Words.{overwrite}
+use Rattle.evaluation.specs.Layout.{elementBytes, linkBytes}
 use Rattle.words.specs.Fields.{Field}
 use Rattle.words.specs.Sizes.{nodeSize, edgeSize, setSize, linkSize}
 use Rattle.records.specs.Areas.{Bytes, roomOf}

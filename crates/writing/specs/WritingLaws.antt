@@ -10,11 +10,11 @@ use lib.ListN.{length, length-append}
 use Rattle.concepts.specs.Lists.{range}
 use Rattle.concepts.specs.ListLaws.{length-map-range, range-more}
 use Rattle.procedure.specs.Graph.{Node}
-use Rattle.procedure.specs.Example.{RoleLink}
-use Rattle.run.specs.Run.{littleEndian, elementBytes, linkBytes, overwrite}
-use Rattle.run.specs.ExampleBytesLaws.{length-littleEndian, putLe-overwrite, length-elementBytes, elementBytes-snoc, linkRecord, length-linkBytes, linkBytes-snoc}
-use Rattle.words.specs.Words.{putLe}
-use Rattle.words.specs.WordLaws.{length-putLe}
+use Rattle.meaning.specs.Given.{RoleLink}
+use Rattle.words.specs.Words.{littleEndian, overwrite, putLe}
+use Rattle.evaluation.specs.Layout.{elementBytes, linkBytes}
+use Rattle.words.specs.WordLaws.{length-littleEndian, putLe-overwrite, length-putLe}
+use Rattle.evaluation.specs.LayoutLaws.{length-elementBytes, elementBytes-snoc, linkRecord, length-linkBytes, linkBytes-snoc}
 use Rattle.words.specs.Fields.{putFields}
 use Rattle.words.specs.FieldLaws.{length-putFields}
 use Rattle.words.specs.Sizes.{nodeSize, setSize, linkSize}

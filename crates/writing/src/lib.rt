@@ -4,7 +4,7 @@
 ghost use mathlib.Core.Path.{_≡_};
 ghost use Prim.Native.Nat.{_+_, _*_, _≤_};
 ghost use lib.ListN.{length};
-ghost use Rattle.run.specs.Run.{overwrite};
+ghost use Rattle.words.specs.Words.{overwrite};
 ghost use Rattle.words.specs.Fields.{putFields};
 ghost use Rattle.words.specs.Sizes.{nodeSize, edgeSize, linkSize};
 ghost use Rattle.rowset.specs.Value.{valueOf};

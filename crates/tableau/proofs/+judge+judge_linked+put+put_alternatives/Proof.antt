@@ -28,7 +28,7 @@ use Rattle.graph.proofs.set_status.Reads as set-status
 use Rattle.rowset.proofs.is_empty.Reads as is-empty
 use Rattle.rowset.proofs.union.Reads as union
 use Rattle.settests.proofs.clash.Reads as clash
-use Rattle.settests.proofs.inverse.Reads as inverse
+use Rattle.problem.proofs.inverse.Reads as inverse
 use Rattle.settests.proofs.lacking.Reads as lacking
 use Rattle.settests.proofs.unfinished.Reads as unfinished
 use Rattle.steps.proofs.add_child.Reads as add-child

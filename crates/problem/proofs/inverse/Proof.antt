@@ -1,11 +1,11 @@
--- `settests::inverse` meets its contract: a code is even or odd.
+-- `problem::inverse` meets its contract: a code is even or odd.
 -- Assumes nothing.
 use mathlib.Core.Path.{sym}
 use native.Mathlib.Omega.{arith}
 use Rattle.concepts.specs.Role.{inverse-even, inverse-odd}
 use borrow.Author.Needs.{needs}
-use Rattle.settests.proofs.inverse.Statement.{statement}
-use Rattle.settests.proofs.inverse.Tie as tie
+use Rattle.problem.proofs.inverse.Statement.{statement}
+use Rattle.problem.proofs.inverse.Tie as tie
 
 returns : tie.Need-returns
 returns c = sym (inverse-even (c .before .args .role) (c .if1 .taken))

@@ -1,0 +1,1 @@
+// Which rows hold at each element of a finite world.
