@@ -11,6 +11,8 @@ pub mod draft_counts;
 pub mod draft_worlds;
 pub mod drafts;
 pub mod files;
+pub mod listing_counts;
+pub mod listings;
 pub mod needs;
 pub mod questions;
 pub mod random;
@@ -19,7 +21,7 @@ pub mod small_drafts;
 pub mod small_worlds;
 
 pub use cases::{cases, draft_cases, vectors, Case, DraftCase};
-pub use checks::{check_cases, check_draft_cases, check_example, on_stack, Answering, Converting};
+pub use checks::{check_cases, check_draft_cases, check_example, on_stack, whole_answer, Answering, Converting};
 pub use draft_counts::DraftCounts;
 pub use drafts::{random_area, random_draft};
 pub use files::encode;

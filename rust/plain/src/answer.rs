@@ -136,6 +136,12 @@ fn verdict(
     Answer::Can { used, elements, links }
 }
 
+/// The bytes that an example fills in its two areas: the elements' records, then the links'.
+pub fn records(elements: &[RowSet], links: &[RoleLink]) -> [Vec<u8>; 2] {
+    let numbers = links.iter().flat_map(|&(from, role, to)| [from, role, to]);
+    [elements.iter().flat_map(|rows| rows.record()).collect(), numbers.flat_map(u16::to_le_bytes).collect()]
+}
+
 /// The lines that the printing program prints.
 pub fn print(answer: &Answer) -> String {
     match answer {

@@ -19,7 +19,7 @@ pub mod set_tests;
 pub mod status;
 pub mod tableau;
 
-pub use answer::{answer, answer_as_placed, print, Answer, Lent, Used};
+pub use answer::{answer, answer_as_placed, print, records, Answer, Lent, Used};
 pub use convert::convert;
 pub use evaluate::evaluate;
 pub use graph::Area;
