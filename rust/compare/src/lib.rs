@@ -19,6 +19,7 @@ pub mod random;
 pub mod record_order;
 pub mod small_drafts;
 pub mod small_worlds;
+pub mod wide;
 
 pub use cases::{cases, draft_cases, vectors, Case, DraftCase};
 pub use checks::{check_cases, check_draft_cases, check_example, on_stack, whole_answer, Answering, Converting};

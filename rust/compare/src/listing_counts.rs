@@ -65,6 +65,16 @@ impl Seen<'_> {
         (0..self.world.size()).any(|d| rows().any(|(row, &concept)| passes(row, concept, d)))
     }
 
+    /// The same for kind 5 rows: number, role, argument, element.
+    fn any_all(&self, passes: impl Fn(usize, RoleUse, usize, usize) -> bool) -> bool {
+        self.any(|row, concept, d| matches!(concept, Concept::All(along, l) if passes(row, along, l, d)))
+    }
+
+    /// The same for kind 6 rows.
+    fn any_some(&self, passes: impl Fn(usize, RoleUse, usize, usize) -> bool) -> bool {
+        self.any(|row, concept, d| matches!(concept, Concept::Some(along, l) if passes(row, along, l, d)))
+    }
+
     fn holds(&self, row: usize, d: usize) -> bool {
         self.truth[row][d]
     }
@@ -126,31 +136,20 @@ impl Seen<'_> {
 
     /// "All" and "some" by where the role leads, and from which end that is told.
     fn cases_of_roles(&self) -> Vec<(&'static str, bool)> {
-        let all = |passes: &dyn Fn(usize, RoleUse, usize, usize) -> bool| {
-            self.any(|k, c, d| matches!(c, Concept::All(along, l) if passes(k, along, l, d)))
-        };
-        let some = |passes: &dyn Fn(usize, RoleUse, usize, usize) -> bool| {
-            self.any(|k, c, d| matches!(c, Concept::Some(along, l) if passes(k, along, l, d)))
-        };
-        let none_here = |along, l, d| self.told_here(along, d).all(|e| !self.holds(l, e));
-        let all_here = |along, l, d| self.told_here(along, d).all(|e| self.holds(l, e));
+        let (nowhere, somewhere) = (|r, d| self.leads_nowhere(r, d), |r, d| !self.leads_nowhere(r, d));
+        let none_here = |r, l, d| self.told_here(r, d).all(|e| !self.holds(l, e));
+        let all_here = |r, l, d| self.told_here(r, d).all(|e| self.holds(l, e));
         vec![
-            ("all holds where its role leads nowhere", all(&|_, along, _, d| self.leads_nowhere(along, d))),
-            ("such an all was added", all(&|k, along, _, d| self.leads_nowhere(along, d) && self.added(k, d))),
-            (
-                "all holds where its role leads somewhere",
-                all(&|k, a, _, d| !self.leads_nowhere(a, d) && self.holds(k, d)),
-            ),
-            ("such an all was added too", all(&|k, along, _, d| !self.leads_nowhere(along, d) && self.added(k, d))),
-            (
-                "some fails where its role leads somewhere",
-                some(&|k, a, _, d| !self.leads_nowhere(a, d) && !self.holds(k, d)),
-            ),
-            (
-                "some holds only by a link told there",
-                some(&|k, along, l, d| self.holds(k, d) && none_here(along, l, d)),
-            ),
-            ("all fails only by a link told there", all(&|k, along, l, d| !self.holds(k, d) && all_here(along, l, d))),
+            ("all holds, its role leads nowhere", self.any_all(|k, r, _, d| nowhere(r, d) && self.holds(k, d))),
+            ("all was added, its role leads nowhere", self.any_all(|k, r, _, d| nowhere(r, d) && self.added(k, d))),
+            ("all holds, its role leads somewhere", self.any_all(|k, r, _, d| somewhere(r, d) && self.holds(k, d))),
+            ("all was added, its role leads somewhere", self.any_all(|k, r, _, d| somewhere(r, d) && self.added(k, d))),
+            ("all fails", self.any_all(|k, _, _, d| !self.holds(k, d))),
+            ("all fails by the other end only", self.any_all(|k, r, l, d| !self.holds(k, d) && all_here(r, l, d))),
+            ("some holds", self.any_some(|k, _, _, d| self.holds(k, d))),
+            ("some holds by the other end only", self.any_some(|k, r, l, d| self.holds(k, d) && none_here(r, l, d))),
+            ("some fails, its role leads nowhere", self.any_some(|_, r, _, d| nowhere(r, d))),
+            ("some fails, its role leads somewhere", self.any_some(|k, r, _, d| somewhere(r, d) && !self.holds(k, d))),
         ]
     }
 

@@ -18,8 +18,13 @@ pub struct Example {
 impl Example {
     /// The same elements and links; each element has every row that holds there, and no other.
     pub fn evaluated(self, concepts: &[Concept]) -> Example {
+        Example { elements: self.rows_that_hold(concepts), links: self.links }
+    }
+
+    /// The rows that hold at each element.
+    pub fn rows_that_hold(&self, concepts: &[Concept]) -> Vec<RowSet> {
         let names: Vec<Names> = self.elements.iter().map(|&rows| names(concepts, rows)).collect();
-        Example { elements: evaluate(concepts, &names, &self.links), links: self.links }
+        evaluate(concepts, &names, &self.links)
     }
 }
 
