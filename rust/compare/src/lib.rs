@@ -1,6 +1,7 @@
 //! What the tests share: the questions of tests/vectors and the words they are in, rule files written row by row, random and
-//! damaged rule files and drafts, long chains; and checks of an answering function against the vectors, against itself in other
-//! areas and against the meaning of ALCI, and of a converting function against the vectors and the meaning of drafts.
+//! damaged rule files and drafts, long chains, large examples; and checks of an answering function against the vectors, against
+//! itself in other areas and against the meaning of ALCI, every bit of its examples too, and of a converting function against the
+//! vectors and the meaning of drafts.
 
 pub mod areas;
 pub mod cases;
