@@ -165,6 +165,31 @@ SEAL = Sample(
     wanted="is a flush valve fitted to some acid pump",
 )
 
+QUESTIONS = Sample(
+    title="A box with a dosing pump. Rows 10 to 14 are questions of the shop staff: no rule and no kit needs them.",
+    names=["box", "dosing pump", "flush valve"],
+    roles=[HOLDS, FITTED],
+    rows={
+        "is a box": name("box"),
+        "is a dosing pump": name("dosing pump"),
+        "is a flush valve": name("flush valve"),
+        "is no dosing pump": not_name("dosing pump"),
+        "is no flush valve": not_name("flush valve"),
+        "has some flush valve fitted to it": some_along("has fitted to it", "is a flush valve"),
+        "a dosing pump has some flush valve fitted to it": either("is no dosing pump", "has some flush valve fitted to it"),
+        "nothing is both a dosing pump and a flush valve": either("is no dosing pump", "is no flush valve"),
+        "holds some dosing pump": some_along("holds", "is a dosing pump"),
+        "is a box that holds some dosing pump": both("is a box", "holds some dosing pump"),
+        "holds no flush valve": all_along("holds", "is no flush valve"),
+        "is in a box": some_along("is held by", "is a box"),
+        "is fitted to some dosing pump": some_along("is fitted to", "is a dosing pump"),
+        "is fitted only to what is in a box": all_along("is fitted to", "is in a box"),
+        "has only parts from a box fitted to it": all_along("has fitted to it", "is in a box"),
+    },
+    rules=["a dosing pump has some flush valve fitted to it", "nothing is both a dosing pump and a flush valve"],
+    wanted="is a box that holds some dosing pump",
+)
+
 PAIR_NAMES = ["dosing pump", "flush valve"]
 PAIR_LITERALS = {
     "is a dosing pump": name("dosing pump"),
@@ -273,6 +298,7 @@ SAMPLES = {
     "thread.fit": THREAD,
     "acid.fit": ACID,
     "seal.fit": SEAL,
+    "questions.fit": QUESTIONS,
     "order.fit": ORDER,
     "edited.fit": EDITED,
     "unconverted.fit": UNCONVERTED,

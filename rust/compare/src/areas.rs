@@ -1,7 +1,7 @@
 //! Runs of an answering function on one file with different areas never contradict each other.
 
 use crate::checks::{check_short, Answering};
-use crate::{random_file, random_lent, Prng, Shape};
+use crate::{check_example, random_file, random_lent, Prng, Shape};
 use plain::{Answer, Area, Lent, Used};
 
 const SHAPE: Shape = Shape { names: 2, roles: 1, compound: 14, rules: 4, text: 8 };
@@ -14,6 +14,7 @@ pub fn check_different_areas(mut answer: impl Answering) {
     for _ in 0..FILES {
         let file = random_file(&mut prng, SHAPE);
         let whole = answer(&file, &Lent::most());
+        check_example(&file, &whole);
         for _ in 0..3 {
             let lent = random_lent(&mut prng);
             match answer(&file, &lent) {
@@ -57,6 +58,7 @@ pub fn check_just_enough(mut answer: impl Answering) {
         };
         let lent = Lent::just(used, elements, links);
         assert_eq!(answer(&file, &lent), whole, "{file:02x?} in areas just enough");
+        check_example(&file, &whole);
         check_one_less(&mut answer, &file, &lent, &used);
         check_example_one_less(&mut answer, &file, &lent, elements, links);
         tried += 1;

@@ -2,8 +2,8 @@
 
 use crate::questions::{conversion_line, one_line, Conversion};
 use crate::{cases, draft_cases};
-use plain::{Answer, Area, Lent};
-use worlds::{Ontology, World};
+use plain::{records, Answer, Area, Lent};
+use worlds::{Example, Ontology, World};
 
 /// An answering function: the answer to a file, given the lengths of the areas.
 pub trait Answering: FnMut(&[u8], &Lent) -> Answer {}
@@ -23,14 +23,15 @@ pub fn on_stack<T: Send + 'static>(bytes: usize, run: impl FnOnce() -> T + Send 
     std::thread::Builder::new().stack_size(bytes).spawn(run).expect("a thread").join().expect("the run ends")
 }
 
-/// Every question `fit` of tests/vectors: the answer is equal, and every example is a model.
+/// Every question `fit` of tests/vectors: the answer is equal, every example is a model and lists what holds in it. After refusal 11
+/// the example is asked for again.
 pub fn check_cases(mut answer: impl Answering) {
     let cases = cases();
     assert!(cases.len() > 1000, "the vectors are there");
     for case in cases {
-        let answer = answer(&case.file, &case.lent);
-        assert_eq!(one_line(&answer), case.expected, "{}", case.question);
-        check_example(&case.file, &answer);
+        let first = answer(&case.file, &case.lent);
+        assert_eq!(one_line(&first), case.expected, "{}", case.question);
+        check_example(&case.file, &whole_answer(&mut answer, &case.file, &case.lent, first));
     }
 }
 
@@ -43,15 +44,36 @@ pub fn check_draft_cases(mut convert: impl Converting) {
     }
 }
 
-/// Only files that the meaning of ALCI can read get past the file checks, and the world of an example obeys every rule, with
-/// element 0 a member. `worlds` reads files apart from `plain`, so this compares the two readers as well.
+/// The same answer, or, after refusal 11, the answer in example areas of just the records that it says are needed.
+pub fn whole_answer(answer: &mut impl Answering, file: &[u8], lent: &Lent, first: Answer) -> Answer {
+    let Answer::TooLong { elements, links } = first else { return first };
+    assert!(!lent.holds(elements, links), "an example that fits {lent:?} was refused: {file:02x?}");
+    let whole = answer(file, &lent.with_example(elements, links));
+    let counted =
+        matches!(&whole, Answer::Can { elements: e, links: l, .. } if (e.len(), l.len()) == (elements, links));
+    assert!(counted, "{whole:?} after {first:?}: {file:02x?}");
+    whole
+}
+
+/// Only files that the meaning of ALCI can read get past the file checks, and every example is judged. `worlds` reads files apart
+/// from `plain`, so this compares the two readers as well.
 pub fn check_example(file: &[u8], answer: &Answer) {
     let ontology = Ontology::decode(file);
     assert_eq!(ontology.is_none(), matches!(answer, Answer::Refused(_)), "{answer:?} to {file:02x?}");
     if let (Answer::Can { elements, links, .. }, Some(ontology)) = (answer, ontology) {
-        let world = World::of_example(&ontology, elements.len(), |d, row| elements[d].contains(row), links);
-        assert!(world.is_model(&ontology, 0), "the example is no model: {file:02x?}");
+        let [elements, links] = records(elements, links);
+        check_records(file, &ontology, &Example::read(&elements, &links).expect("whole records"));
     }
+}
+
+/// The world of an example obeys every rule, with element 0 a member; every bit of every element's record is as the meaning of ALCI
+/// says, of every row of the table, and the bits past the table are 0. Gives the world.
+pub fn check_records(file: &[u8], ontology: &Ontology, example: &Example) -> World {
+    let world = example.world(ontology);
+    assert!(world.is_model(ontology, 0), "the example is no model: {file:02x?}");
+    let wrong = example.wrong_bit(&world.truth(ontology));
+    assert_eq!(wrong, None, "an element lists what does not hold there, or not what does: {file:02x?}");
+    world
 }
 
 /// The answer is refusal 10, and the area that it tells, if it tells one, is this one.

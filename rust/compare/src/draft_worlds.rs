@@ -1,11 +1,12 @@
 //! Random small drafts: a converting function and an answering function, one after the other, against the meaning of drafts.
 //!
 //! What a search through all worlds of up to three elements finds must be "can" or refusal 11, unless 10 comes; and the world of
-//! every example obeys every rule of the draft, with element 0 a member of its kit.
+//! every example obeys every rule of the draft, with element 0 a member of its kit. After refusal 11 the example is asked for again.
 
-use crate::{check_example, random_draft, Answering, Converting, Prng, Shape};
-use plain::{Answer, Lent, Used};
-use worlds::{search, Ontology, World};
+use crate::checks::check_records;
+use crate::{random_draft, whole_answer, Answering, Converting, Prng, Shape};
+use plain::{records, Answer, Lent, Used};
+use worlds::{search, Example, Ontology};
 
 const MAX_ELEMENTS: usize = 3;
 
@@ -40,7 +41,9 @@ pub fn check_draft_worlds(mut convert: impl Converting, mut answer: impl Answeri
             let lent = if prng.below(4) == 0 { whole.with_example(1, 1) } else { whole };
             // Refusal 12 comes for a few whose text leaves no room.
             if let Ok(file) = convert(&draft, 4096) {
-                check(&draft, &file, &answer(&file, &lent), &mut counts);
+                let first = answer(&file, &lent);
+                counts.too_long += usize::from(matches!(first, Answer::TooLong { .. }));
+                check(&draft, &file, &whole_answer(&mut answer, &file, &lent, first), &mut counts);
             }
         }
     }
@@ -53,18 +56,18 @@ fn check(draft: &[u8], file: &[u8], answer: &Answer, counts: &mut Counts) {
     let found = search(&ontology, MAX_ELEMENTS);
     counts.not_or_if += usize::from(Ontology::decode(draft).is_none());
     counts.world_found += usize::from(found.is_some());
-    check_example(file, answer);
     match answer {
-        Answer::Refused(number) => panic!("{number} to what became of {draft:02x?}"),
+        Answer::Refused(_) | Answer::TooLong { .. } => panic!("{answer:?} to what became of {draft:02x?}"),
         Answer::Short(_) => counts.short += 1,
-        Answer::TooLong { .. } => counts.too_long += 1,
         Answer::Cannot { .. } => {
             assert!(found.is_none(), "cannot, but there is a world: {draft:02x?}");
             counts.cannot += 1;
         }
         Answer::Can { elements, links, .. } => {
             let of_file = Ontology::decode(file).expect("a rule file");
-            let world = World::of_example(&of_file, elements.len(), |d, row| elements[d].contains(row), links);
+            let [element_records, link_records] = records(elements, links);
+            let example = Example::read(&element_records, &link_records).expect("whole records");
+            let world = check_records(file, &of_file, &example);
             assert!(world.is_model(&ontology, 0), "the example is no model of the draft: {draft:02x?}");
             assert!(elements.len() > MAX_ELEMENTS || found.is_some(), "the search missed a world: {draft:02x?}");
             counts.example_over_three += usize::from(elements.len() > MAX_ELEMENTS);
@@ -77,7 +80,7 @@ fn assert_often(counts: &Counts) {
     let often = [
         ("not or if", counts.not_or_if),
         ("world found", counts.world_found),
-        ("can", counts.can),
+        ("can at once", counts.can - counts.too_long),
         ("cannot", counts.cannot),
         ("too long", counts.too_long),
     ];

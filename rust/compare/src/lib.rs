@@ -1,6 +1,7 @@
 //! What the tests share: the questions of tests/vectors and the words they are in, rule files written row by row, random and
-//! damaged rule files and drafts, long chains; and checks of an answering function against the vectors, against itself in other
-//! areas and against the meaning of ALCI, and of a converting function against the vectors and the meaning of drafts.
+//! damaged rule files and drafts, long chains, large examples; and checks of an answering function against the vectors, against
+//! itself in other areas and against the meaning of ALCI, every bit of its examples too, and of a converting function against the
+//! vectors and the meaning of drafts.
 
 pub mod areas;
 pub mod cases;
@@ -11,15 +12,18 @@ pub mod draft_counts;
 pub mod draft_worlds;
 pub mod drafts;
 pub mod files;
+pub mod listing_counts;
+pub mod listings;
 pub mod needs;
 pub mod questions;
 pub mod random;
 pub mod record_order;
 pub mod small_drafts;
 pub mod small_worlds;
+pub mod wide;
 
 pub use cases::{cases, draft_cases, vectors, Case, DraftCase};
-pub use checks::{check_cases, check_draft_cases, check_example, on_stack, Answering, Converting};
+pub use checks::{check_cases, check_draft_cases, check_example, on_stack, whole_answer, Answering, Converting};
 pub use draft_counts::DraftCounts;
 pub use drafts::{random_area, random_draft};
 pub use files::encode;

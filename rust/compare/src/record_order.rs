@@ -1,7 +1,7 @@
 //! The order of records: the first record without a place decides which area is short.
 
 use crate::checks::{check_short, Answering};
-use crate::encode;
+use crate::{check_example, encode};
 use plain::{Answer, Area, Lent, Used};
 
 /// The records of document 01's eight-node run in their order (N node, E edge, A alternative), by hand from its text: the
@@ -30,5 +30,7 @@ pub fn check_record_order(mut answer: impl Answering) {
     for (placed, &next) in records.iter().enumerate() {
         check_short(&answer(&file, &lend(&records[..placed])), area(next), &file);
     }
-    assert!(matches!(answer(&file, &lend(&records)), Answer::Can { .. }));
+    let whole = answer(&file, &lend(&records));
+    assert!(matches!(whole, Answer::Can { .. }));
+    check_example(&file, &whole);
 }

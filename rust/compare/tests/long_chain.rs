@@ -1,9 +1,10 @@
-//! A cascade of updates through a long chain of states, on a small stack; and how deep updates and puts nest.
+//! A cascade of updates through a long chain of states, on a small stack; large examples; and how deep updates and puts nest.
 
 use compare::chains::{
     clocked_line, delay_line, ladder, shift_register, CONTENTS, DEEPEST, RUNGS, RUNGS_AGAIN, THOUSAND_STATES,
 };
-use compare::on_stack;
+use compare::wide::wide;
+use compare::{check_example, on_stack};
 use plain::graph::{Edge, Graph, Link, Node};
 use plain::status::Status;
 use plain::{answer, tableau, Answer, Lent, RuleFile};
@@ -11,8 +12,12 @@ use std::mem;
 
 const SMALL_STACK: usize = 1 << 17;
 
+/// The answer; an example is judged.
 fn answer_on_small_stack(file: Vec<u8>) -> Answer {
-    on_stack(SMALL_STACK, move || answer(&file, &Lent::most()))
+    let of_run = file.clone();
+    let answer = on_stack(SMALL_STACK, move || answer(&of_run, &Lent::most()));
+    check_example(&file, &answer);
+    answer
 }
 
 /// Checks that an example has at least so many elements.
@@ -51,6 +56,16 @@ fn a_thousand_states() {
 fn a_line_with_a_clock() {
     check_elements(answer_on_small_stack(clocked_line(DEEPEST, false)), 6 * 128);
     check_cannot(answer_on_small_stack(clocked_line(DEEPEST, true)), 2600);
+}
+
+/// What the largest examples list is judged; so many elements and links they have.
+#[test]
+fn large_examples_of_64_rows() {
+    let sizes = wide().into_iter().map(|file| match answer_on_small_stack(file) {
+        Answer::Can { elements, links, .. } => (elements.len(), links.len()),
+        other => panic!("{other:?}"),
+    });
+    assert_eq!(sizes.collect::<Vec<_>>(), [(1221, 2031), (512, 1536), (256, 1792), (128, 1920), (64, 1984)]);
 }
 
 #[test]

@@ -9,6 +9,6 @@ int main(void) {
                                    elements, sizeof elements, links, sizeof links);
     printf("text: %.*s\n", (int)gumbyra_text(file, sizeof file), (const char *)file);
     printf("verdict %u, refusal %u, used %u %u %u\n", a.verdict, a.refusal, a.nodes, a.edges, a.alternatives);
-    printf("%u elements, the first with rows %02x; %u link, to %u\n", a.elements, elements[0], a.links, links[4]);
+    printf("%u elements, with rows %02x and %02x; %u link, to %u\n", a.elements, elements[0], elements[GUMBYRA_ELEMENT], a.links, links[4]);
     return a.verdict != GUMBYRA_CAN;
 }

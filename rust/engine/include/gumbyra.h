@@ -18,7 +18,7 @@ enum {
     GUMBYRA_NODE = 64,
     GUMBYRA_EDGE = 16,
     GUMBYRA_ALTERNATIVE = 16,
-    GUMBYRA_ELEMENT = 8, /* the row set, row k as bit k, low byte first */
+    GUMBYRA_ELEMENT = 8, /* the rows that hold there, row k as bit k, low byte first; bits past the table are 0 */
     GUMBYRA_LINK = 6     /* from, role code, to, 2 bytes each, low byte first */
 };
 
@@ -36,7 +36,8 @@ typedef struct {
 
 /* Decides a rule file. The areas may be of any length and hold anything; no two may overlap, nor one the file. After a verdict,
    10 or 11 every byte of nodes, edges and alternatives is zero, after 1 to 9 they are as they were. elements and links change
-   with GUMBYRA_CAN only, in the first GUMBYRA_ELEMENT * answer.elements and GUMBYRA_LINK * answer.links bytes. */
+   with GUMBYRA_CAN only, in the first GUMBYRA_ELEMENT * answer.elements and GUMBYRA_LINK * answer.links bytes. An element lists a
+   row of the file exactly if the row holds there in the example, whether a rule or the kit needs the row or not. */
 gumbyra_answer gumbyra_fit(const uint8_t *file, size_t file_len,
                            uint8_t *nodes, size_t nodes_len,
                            uint8_t *edges, size_t edges_len,

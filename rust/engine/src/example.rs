@@ -32,6 +32,27 @@ impl<'a> Example<'a> {
     }
 
     /// The row set of each element; `len` tells how many there are. Element 0 is a member of the kit.
+    ///
+    /// An element lists a row of the rule file exactly if the row holds there, whether a rule or the kit needs it or not. So a page
+    /// can read a missing row as "no":
+    ///
+    /// ```
+    /// use gumbyra::{Space, Verdict};
+    ///
+    /// // Rows: is a box; is a dosing pump; is a flush valve; is no flush valve; holds some dosing pump; holds no flush valve; is a
+    /// // box that holds some dosing pump, the wanted row. Nothing needs rows 2, 3 and 5.
+    /// let rows = [[1, 0, 0, 0], [1, 0, 1, 0], [1, 0, 2, 0], [2, 0, 2, 0], [6, 0, 1, 0], [5, 0, 3, 0], [3, 0, 0, 4]];
+    /// let file = [rows.as_flattened(), &[0, 0, 7, 0, 6], b"FIT"].concat();
+    ///
+    /// let mut space = Space::usual();
+    /// let Verdict::Can { example, .. } = space.fit(&file)? else { panic!("such a box can exist") };
+    /// let column = |row| example.elements().map(|set| set.contains(row)).collect::<Vec<_>>();
+    /// assert_eq!(column(1), [false, true], "element 1 is the pump");
+    /// assert_eq!(column(4), [true, false], "element 0, the box, holds it");
+    /// assert_eq!(column(2), [false, false], "neither is a flush valve");
+    /// assert_eq!(column(5), [true, true], "the box holds no flush valve, and the pump holds nothing");
+    /// # Ok::<(), gumbyra::Refusal>(())
+    /// ```
     pub fn elements(&self) -> impl ExactSizeIterator<Item = RowSet> + 'a {
         self.elements.iter().map(|&record| RowSet::of_record(record))
     }

@@ -37,7 +37,8 @@ pub use row_set::{RowSet, ELEMENT_BYTES};
 pub use space::{Areas, Sizes, Space, ALTERNATIVE_BYTES, EDGE_BYTES, MOST_RECORDS, NODE_BYTES};
 pub use verdict::{Used, Verdict};
 
-/// Decides a rule file in lent areas. [`Space`] has areas of its own.
+/// Decides a rule file in lent areas. [`Space`] has areas of its own. With "can" each element of the example lists the rows that hold
+/// there, all of them and no other.
 ///
 /// ```
 /// use gumbyra::{fit, Areas, Link, Verdict, ALTERNATIVE_BYTES, EDGE_BYTES, NODE_BYTES};
@@ -54,7 +55,7 @@ pub use verdict::{Used, Verdict};
 /// };
 /// let Verdict::Can { used, example } = fit(&file, areas)? else { panic!("the kit can exist") };
 /// assert_eq!((used.nodes, used.edges, used.alternatives), (8, 7, 1));
-/// assert_eq!(example.elements().map(|rows| rows.rows().collect()).collect::<Vec<Vec<_>>>(), [vec![0, 2], vec![1]]);
+/// assert_eq!(example.elements().map(|rows| rows.rows().collect()).collect::<Vec<Vec<_>>>(), [vec![0, 1, 2], vec![1]]);
 /// assert_eq!(example.links().collect::<Vec<_>>(), [Link { from: 0, role: 0, to: 1 }]);
 /// # Ok::<(), gumbyra::Refusal>(())
 /// ```

@@ -1,11 +1,11 @@
-//! A set of rows, as an element's record holds it (document 01, "Areas").
+//! A set of rows, as an element's record holds it (document 01, "Areas"; document 02, [2]).
 
 use std::fmt;
 
 /// Bytes of a row set, and so of an element's record.
 pub const ELEMENT_BYTES: usize = 8;
 
-/// The rows that are listed at an element: row k as bit k, low byte first.
+/// The rows that hold at an element: row k as bit k, low byte first. A row of the table that is not in the set does not hold there.
 ///
 /// It prints as hexadecimal digits, the highest row first.
 #[derive(Clone, Copy, PartialEq, Eq, Hash)]

@@ -3,10 +3,11 @@
 use std::path::Path;
 use std::process::Command;
 
+/// At element 0 every row holds, at element 1 row 1 only.
 const EIGHT_NODES: &str = "\
 text: hose
 verdict 1, refusal 0, used 8 7 1
-2 elements, the first with rows 05; 1 link, to 1
+2 elements, with rows 07 and 02; 1 link, to 1
 ";
 
 /// The rule becomes either not name 0 (row 0) or name 1 (row 1); its opposite both name 0 (row 3) and not name 1 (row 4).

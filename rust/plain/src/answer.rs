@@ -1,6 +1,8 @@
 //! The whole run: from the bytes of a file and the lengths of the areas to the answer, and its printing.
 
-use crate::example::{example, Example, RoleLink};
+use crate::concept::Concept;
+use crate::evaluate::RoleLink;
+use crate::example::{example, Example};
 use crate::graph::{Area, Capacity, Graph};
 use crate::row_set::RowSet;
 use crate::rulefile::RuleFile;
@@ -87,33 +89,57 @@ pub enum Answer {
     TooLong { elements: usize, links: usize },
     /// The wanted row cannot hold anywhere.
     Cannot { used: Used },
-    /// It can, and this is an example.
+    /// It can, and this is an example; an element lists every row that holds there.
     Can { used: Used, elements: Vec<RowSet>, links: Vec<RoleLink> },
 }
 
 /// The answer to a file, given the lengths of the areas.
 pub fn answer(file: &[u8], lent: &Lent) -> Answer {
+    answer_listing(file, lent, Example::evaluated)
+}
+
+/// The same, but an element of the example lists the rows that the procedure placed there and no other, as before request 2 of
+/// document 02. The tests compare the two examples.
+pub fn answer_as_placed(file: &[u8], lent: &Lent) -> Answer {
+    answer_listing(file, lent, |example, _| example)
+}
+
+/// The answer, with the rows of an example listed in one way or the other.
+fn answer_listing(file: &[u8], lent: &Lent, list: impl FnOnce(Example, &[Concept]) -> Example) -> Answer {
     let file = match RuleFile::read(file) {
         Ok(file) => file,
         Err(number) => return Answer::Refused(number),
     };
     match run(&file, lent.capacity()) {
-        Ok(graph) => verdict(&file, &graph, lent),
+        Ok(graph) => verdict(&file.concepts, &graph, lent, list),
         Err(area) => Answer::Short(Some(area)),
     }
 }
 
 /// Root yes or open means "can"; never or small means "cannot".
-fn verdict(file: &RuleFile, graph: &Graph, lent: &Lent) -> Answer {
+fn verdict(
+    concepts: &[Concept],
+    graph: &Graph,
+    lent: &Lent,
+    list: impl FnOnce(Example, &[Concept]) -> Example,
+) -> Answer {
     let used = Used { nodes: graph.nodes.len(), edges: graph.edges.len(), alternatives: graph.alternatives.len() };
     if matches!(graph.nodes[ROOT].status, Status::Unsat | Status::TooSmall) {
         return Answer::Cannot { used };
     }
-    let Example { elements, links } = example(&file.concepts, graph);
-    if !lent.holds(elements.len(), links.len()) {
-        return Answer::TooLong { elements: elements.len(), links: links.len() };
+    let placed = example(concepts, graph);
+    let (elements, links) = (placed.elements.len(), placed.links.len());
+    if !lent.holds(elements, links) {
+        return Answer::TooLong { elements, links };
     }
+    let Example { elements, links } = list(placed, concepts);
     Answer::Can { used, elements, links }
+}
+
+/// The bytes that an example fills in its two areas: the elements' records, then the links'.
+pub fn records(elements: &[RowSet], links: &[RoleLink]) -> [Vec<u8>; 2] {
+    let numbers = links.iter().flat_map(|&(from, role, to)| [from, role, to]);
+    [elements.iter().flat_map(|rows| rows.record()).collect(), numbers.flat_map(u16::to_le_bytes).collect()]
 }
 
 /// The lines that the printing program prints.

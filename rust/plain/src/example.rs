@@ -1,14 +1,12 @@
-//! The example that a run leaves (document 01, "The example").
+//! The example that a run leaves (document 01, "The example"), and the rows that hold in it (document 02, [2]).
 
-use crate::concept::{Concept, Role};
+use crate::concept::Concept;
+use crate::evaluate::{evaluate, Names, RoleLink};
 use crate::graph::{Graph, Link};
 use crate::row_set::RowSet;
 use crate::set_tests::existentials;
 use crate::status::Status;
 use crate::tableau::ROOT;
-
-/// A link record: from, role code, to.
-pub type RoleLink = (u16, Role, u16);
 
 /// The elements' row sets and the links.
 #[derive(Clone, Debug, PartialEq, Eq)]
@@ -17,7 +15,28 @@ pub struct Example {
     pub links: Vec<RoleLink>,
 }
 
-/// The example of a graph whose root is yes or open.
+impl Example {
+    /// The same elements and links; each element has every row that holds there, and no other.
+    pub fn evaluated(self, concepts: &[Concept]) -> Example {
+        Example { elements: self.rows_that_hold(concepts), links: self.links }
+    }
+
+    /// The rows that hold at each element.
+    pub fn rows_that_hold(&self, concepts: &[Concept]) -> Vec<RowSet> {
+        let names: Vec<Names> = self.elements.iter().map(|&rows| names(concepts, rows)).collect();
+        evaluate(concepts, &names, &self.links)
+    }
+}
+
+/// A name holds where its kind 1 row is in the set.
+fn names(concepts: &[Concept], rows: RowSet) -> Names {
+    rows.rows().fold(0, |names, row| match concepts[row] {
+        Concept::Atomic(name) => names | 1 << name,
+        _ => names,
+    })
+}
+
+/// The example of a graph whose root is yes or open: each element has the rows that the procedure placed in its state's set.
 pub fn example(concepts: &[Concept], graph: &Graph) -> Example {
     // The states met so far; a state's place in the list is its element number.
     let mut states = vec![descend(graph, ROOT)];

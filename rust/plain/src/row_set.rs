@@ -23,6 +23,11 @@ impl RowSet {
         RowSet(self.0 | 1 << row)
     }
 
+    /// The set without that row.
+    pub fn without(self, row: usize) -> RowSet {
+        RowSet(self.0 & !(1 << row))
+    }
+
     /// The rows of either set.
     pub fn union(self, other: RowSet) -> RowSet {
         RowSet(self.0 | other.0)

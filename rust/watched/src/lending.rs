@@ -3,7 +3,7 @@
 use crate::area::{Area, Fate};
 use compare::Prng;
 use gumbyra::{Areas, Example, Refusal, Verdict};
-use plain::{Answer, Lent, RowSet, Used};
+use plain::{records, Answer, Lent, RowSet, Used};
 use std::any::Any;
 use std::panic::{catch_unwind, AssertUnwindSafe};
 
@@ -112,9 +112,7 @@ fn fates(answer: &Answer) -> [Fate; 5] {
             [Fate::Zero, Fate::Zero, Fate::Zero, Fate::Kept, Fate::Kept]
         }
         Answer::Can { elements, links, .. } => {
-            let elements = elements.iter().flat_map(|rows| rows.record()).collect();
-            let links =
-                links.iter().flat_map(|&(from, role, to)| [from, role, to]).flat_map(u16::to_le_bytes).collect();
+            let [elements, links] = records(elements, links);
             [Fate::Zero, Fate::Zero, Fate::Zero, Fate::Begins(elements), Fate::Begins(links)]
         }
     }

@@ -1,8 +1,9 @@
-//! Long chains, and updates and puts that nest deep, on a stack of 1 MiB, in areas of the most records that count.
+//! Long chains, large examples, and updates and puts that nest deep, on a stack of 1 MiB, in areas of the most records that count.
 
 use compare::chains::{clocked_line, delay_line, ladder, shift_register, DEEPEST, RUNGS, RUNGS_AGAIN, THOUSAND_STATES};
 use compare::checks::STACK;
 use compare::on_stack;
+use compare::wide::wide;
 use plain::{print, Lent};
 use watched::Lending;
 
@@ -31,6 +32,11 @@ fn never_goes_through_a_thousand_states() {
 fn updates_nest_deep() {
     check(clocked_line(DEEPEST, true), "CANNOT\n");
     check(clocked_line(DEEPEST, false), "CAN ");
+}
+
+#[test]
+fn large_examples_of_64_rows() {
+    wide().into_iter().for_each(|file| check(file, "CAN "));
 }
 
 #[test]

@@ -1,7 +1,7 @@
 //! The engine against the plain program: the answer and every byte of all five areas, on valid and damaged files in areas of
 //! random lengths.
 
-use compare::{cases, damage, random_bytes, random_file, random_lent, Prng, Shape};
+use compare::{cases, check_example, damage, random_bytes, random_file, random_lent, Prng, Shape};
 use gumbyra::{ALTERNATIVE_BYTES, EDGE_BYTES, NODE_BYTES};
 use plain::{print, Answer, Lent};
 use watched::Lending;
@@ -19,9 +19,11 @@ fn kind(answer: &Answer) -> usize {
     }
 }
 
-/// Printing tells answers apart, but for the area that is short. The areas must be as the plain program's answer says.
+/// Printing tells answers apart, but for the area that is short. The areas must be as the plain program's answer says, and that answer
+/// as the meaning of ALCI says.
 fn check(lending: &mut Lending, file: &[u8], lent: &Lent, kinds: &mut Kinds) {
     let expected = plain::answer(file, lent);
+    check_example(file, &expected);
     let answer = lending.run(file, lent).unwrap_or_else(|broken| panic!("{broken}: {file:02x?} in {lent:?}"));
     assert_eq!(print(&answer), print(&expected), "{file:02x?} in {lent:?}");
     let broken = lending.broken(&expected);

@@ -2,13 +2,16 @@
 //!
 //! Nothing here comes from the tableau or its graph, and nothing from a converter: rows are judged by what they mean, "not" and
 //! "if" of a draft too. [`ontology`] decodes an accepted rule file or draft, [`world`] holds finite interpretations and
-//! evaluates rows over them, [`search`](mod@search) looks for a small world that obeys every rule and has a member of the kit.
+//! evaluates rows over them, [`example`] reads one from the bytes of an example and judges every bit of these,
+//! [`search`](mod@search) looks for a small world that obeys every rule and has a member of the kit.
 
+pub mod example;
 pub mod ontology;
 mod partial;
 pub mod search;
 pub mod world;
 
+pub use example::Example;
 pub use ontology::{Concept, Ontology};
 pub use search::search;
 pub use world::World;

@@ -23,29 +23,6 @@ impl World {
         World { names: vec![0; size], pairs: vec![Vec::new(); ROLES] }
     }
 
-    /// The world of an example with so many elements; `listed` tells whether the set of an element has a row. A name holds
-    /// where its kind 1 row is in the set; (d, e) belongs to role k if (d, 2k, e) or (e, 2k + 1, d) is listed.
-    pub fn of_example(
-        ontology: &Ontology,
-        size: usize,
-        listed: impl Fn(usize, usize) -> bool,
-        links: &[(u16, u16, u16)],
-    ) -> World {
-        let mut world = World::new(size);
-        for (row, concept) in ontology.rows.iter().enumerate() {
-            if let Concept::Name(name) = *concept {
-                let holding = (0..size).filter(|&d| listed(d, row));
-                holding.for_each(|d| world.set_name(name, d));
-            }
-        }
-        for &(from, code, to) in links {
-            let (from, to) = (usize::from(from), usize::from(to));
-            let pair = if code % 2 == 0 { (from, to) } else { (to, from) };
-            world.set_pair(usize::from(code / 2), pair.0, pair.1);
-        }
-        world
-    }
-
     pub fn size(&self) -> usize {
         self.names.len()
     }
@@ -63,7 +40,7 @@ impl World {
     }
 
     /// The elements that the role leads to from `d`.
-    fn led_to(&self, along: RoleUse, d: usize) -> impl Iterator<Item = usize> + '_ {
+    pub fn led_to(&self, along: RoleUse, d: usize) -> impl Iterator<Item = usize> + '_ {
         self.pairs[along.role].iter().filter_map(move |&(x, y)| {
             let (from, to) = if along.inverse { (y, x) } else { (x, y) };
             (from == d).then_some(to)

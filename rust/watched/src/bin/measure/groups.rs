@@ -2,6 +2,7 @@
 //! converted.
 
 use compare::chains::{alternatives, delay_line, shift_register, Delay, THOUSAND_STATES};
+use compare::wide::wide;
 use compare::{random_draft, random_file, Prng, Shape};
 use plain::{answer, Answer, Lent, Used};
 
@@ -40,6 +41,7 @@ pub fn groups() -> Vec<Group> {
         group("40 to 64 rows", by_program, random(40, LARGE, &by_program, is_large)),
         group("thousand states", most, thousand_states(&most)),
         group("many alternatives", by_program, many_alternatives(&by_program)),
+        group("large examples", most, large_examples(&most)),
     ]
 }
 
@@ -102,4 +104,9 @@ fn thousand_states(lent: &Lent) -> Vec<Subject> {
 fn many_alternatives(lent: &Lent) -> Vec<Subject> {
     let made = (3..=5).filter_map(|names| Subject::new(alternatives(names), lent));
     made.chain(random(20, INVERSE, lent, |subject| subject.used.alternatives >= 10)).collect()
+}
+
+/// 64 rows, 64 to 1,221 elements and some 2,000 links: more links cannot be had in 4,096 edges.
+fn large_examples(lent: &Lent) -> Vec<Subject> {
+    wide().into_iter().filter_map(|file| Subject::new(file, lent)).collect()
 }

@@ -5,7 +5,7 @@ mod timing;
 
 use groups::{draft_groups, groups, rising, Group, Subject};
 use plain::Lent;
-use timing::{convert_times, least, times, Times};
+use timing::{convert_times, evaluation, least, times, Evaluation, Times};
 
 const ROUNDS: usize = 15;
 /// No group should be above this ratio.
@@ -14,7 +14,8 @@ const AIM: f64 = 1.0;
 const NOTE: &str = "\
 Engine time over plain Rust time, in one run, by turns. No buffer is cleared before a run: the engine's areas hold what the run
 before left. It leaves its work areas zero, all of them, and that is in its time; so is the plain program's allocation in its own.
-Areas: what a program lends (1,024 nodes, 4,096 edges and alternatives; for a thousand states 4,096 of each), or just enough.
+Areas: what a program lends (1,024 nodes, 4,096 edges and alternatives; for a thousand states and for large examples 4,096 of each),
+or just enough.
 A draft is converted in an area of 4,096 bytes.
 Times are the least of all rounds, the mean of the group's files. ratio: engine over plain; rounds, files: its lowest and highest over them.
 ";
@@ -23,10 +24,10 @@ fn main() {
     let rounds = std::env::args().nth(1).map_or(ROUNDS, |word| word.parse().expect("ROUNDS is a number"));
     println!("{NOTE}\nrounds: {rounds}\n");
     println!("{:<18} {:<12} files   engine µs    plain µs   ratio   rounds         files", "group", "areas");
-    let mut above = Vec::new();
-    for group in groups() {
-        let by_program = print_group(&group, "as a program", rounds, |_| group.lent);
-        let enough = print_group(&group, "just enough", rounds, |subject| subject.enough);
+    let (groups, mut above) = (groups(), Vec::new());
+    for group in &groups {
+        let by_program = print_group(group, "as a program", rounds, |_| group.lent);
+        let enough = print_group(group, "just enough", rounds, |subject| subject.enough);
         above.extend([by_program, enough].iter().any(|&ratio| ratio > AIM).then_some(group.name));
     }
     for group in draft_groups() {
@@ -35,6 +36,11 @@ fn main() {
         above.extend((ratio > AIM).then_some(group.name));
     }
     println!("\nabove {AIM:.1}: {}", if above.is_empty() { "none".to_string() } else { above.join(", ") });
+    println!(
+        "\nFinding the rows that hold, as part of plain Rust's time: files with an example, areas just enough; means."
+    );
+    println!("{:<18} files  elements   links      run µs     rows µs    part", "group");
+    groups.iter().for_each(|group| print_evaluation(group, rounds));
     println!("\nGrowth, in areas just enough. power: of the nodes, since the line before.");
     println!(" nodes   engine µs  power    plain µs  power   ratio");
     print_growth(rounds);
@@ -60,6 +66,21 @@ fn print_times(name: &str, areas: &str, rounds: usize, all: Vec<Times>) -> f64 {
         spread(&by_file)
     );
     ratio
+}
+
+/// Prints which part of the plain program's time it takes to find the rows that hold.
+fn print_evaluation(group: &Group, rounds: usize) {
+    let all: Vec<Evaluation> = group.subjects.iter().filter_map(|subject| evaluation(subject, rounds)).collect();
+    let mean = |of: &dyn Fn(&Evaluation) -> f64| all.iter().map(of).sum::<f64>() / all.len() as f64;
+    let (run, rows) = (mean(&|file| file.run) * 1e6, mean(&|file| file.rows_that_hold) * 1e6);
+    println!(
+        "{:<18} {:>5} {:>9.1} {:>7.1} {run:>11.1} {rows:>11.1} {:>7.3}",
+        group.name,
+        all.len(),
+        mean(&|file| file.elements as f64),
+        mean(&|file| file.links as f64),
+        rows / run
+    );
 }
 
 /// Engine over plain of a whole group, with one time chosen of each file's rounds.

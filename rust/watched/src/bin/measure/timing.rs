@@ -1,8 +1,9 @@
-//! Times of one file or draft in the engine and in the plain program, taken by turns.
+//! Times of one file or draft in the engine and in the plain program, taken by turns; and of a part of the plain program's.
 
 use crate::groups::Subject;
 use gumbyra::{convert, fit, Areas, LONGEST_FILE};
-use plain::Lent;
+use plain::example::Example;
+use plain::{answer_as_placed, Answer, Lent, RuleFile};
 use std::hint::black_box;
 use std::time::{Duration, Instant};
 
@@ -34,7 +35,8 @@ pub fn times(subject: &Subject, lent: &Lent, rounds: usize) -> Times {
     let plain = || {
         black_box(plain::answer(black_box(&subject.file), lent));
     };
-    by_turns(engine, plain, rounds)
+    let (engine, plain) = by_turns(engine, plain, rounds);
+    Times { engine, plain }
 }
 
 /// Takes the times of converting a draft, in an area that suffices for every draft.
@@ -46,14 +48,41 @@ pub fn convert_times(draft: &[u8], rounds: usize) -> Times {
     let plain = || {
         black_box(plain::convert(black_box(draft), LONGEST_FILE).is_ok());
     };
-    by_turns(engine, plain, rounds)
+    let (engine, plain) = by_turns(engine, plain, rounds);
+    Times { engine, plain }
 }
 
-fn by_turns(mut engine: impl FnMut(), mut plain: impl FnMut(), rounds: usize) -> Times {
-    let (engine_repeats, plain_repeats) = (repeats(&mut engine), repeats(&mut plain));
-    let round = |_| (sample(&mut engine, engine_repeats), sample(&mut plain, plain_repeats));
-    let (engine, plain) = (0..rounds).map(round).unzip();
-    Times { engine, plain }
+/// What the plain program's example takes.
+pub struct Evaluation {
+    pub elements: usize,
+    pub links: usize,
+    /// Seconds of the whole run, the least of all rounds.
+    pub run: f64,
+    /// Seconds of finding the rows that hold at each element, as part of it.
+    pub rows_that_hold: f64,
+}
+
+/// Takes the times of a file's run in the plain program and of that part, which is run by itself. `None` if it gets no example.
+pub fn evaluation(subject: &Subject, rounds: usize) -> Option<Evaluation> {
+    let Answer::Can { elements, links, .. } = answer_as_placed(&subject.file, &subject.enough) else { return None };
+    let concepts = RuleFile::read(&subject.file).ok()?.concepts;
+    let placed = Example { elements, links };
+    let run = || {
+        black_box(plain::answer(black_box(&subject.file), &subject.enough));
+    };
+    let part = || {
+        black_box(black_box(&placed).rows_that_hold(&concepts));
+    };
+    let (run, part) = by_turns(run, part, rounds);
+    let (elements, links) = (placed.elements.len(), placed.links.len());
+    Some(Evaluation { elements, links, run: least(&run), rows_that_hold: least(&part) })
+}
+
+/// Seconds of one run of each, in each of the rounds.
+fn by_turns(mut first: impl FnMut(), mut second: impl FnMut(), rounds: usize) -> (Vec<f64>, Vec<f64>) {
+    let (first_repeats, second_repeats) = (repeats(&mut first), repeats(&mut second));
+    let round = |_| (sample(&mut first, first_repeats), sample(&mut second, second_repeats));
+    (0..rounds).map(round).unzip()
 }
 
 /// How often a sample repeats the run.

@@ -1,0 +1,65 @@
+//! Files of 64 rows whose examples are large, so that there is much to list.
+//!
+//! In order: two lines of signals; the rows that nothing needs; the files.
+//!
+//! A link takes a special node and two edges, and the root's put takes two edges. So in 4,096 edges an example has at most 2,047 links,
+//! and only if no set has to be branched over.
+
+use crate::files::{encode, Table};
+use plain::text;
+
+const MOST_ROWS: usize = 64;
+/// The place of the number of rows, from a file's end.
+const ROWS_FROM_END: usize = 6;
+const TRAILER: usize = 8;
+
+/// Each element has two successors along role 0, one of them with a new signal, and so many others along roles 1 to 15, at most 45. The
+/// set of a state tells at which of so many places there is a signal: two to the power of `places` elements.
+fn line(places: usize, others: u8) -> Vec<u8> {
+    let mut table = Table::default();
+    let (name, end) = (table.name(0), table.name(1));
+    let start = (1..places).fold(end, |row, _| table.all(0, row));
+    let mut rules = vec![name, table.some(0, start), table.some(0, name)];
+    rules.extend((0..others).map(|k| table.some(2 + 2 * (k % 15), [name, end, start][usize::from(k / 15)])));
+    encode(b"", &table.rows, &rules, name)
+}
+
+/// Each element has a successor along role 0 and, so many steps after one without a signal, a second one in which a signal starts. It
+/// goes through so many places.
+fn line_with_pause(places: usize, pause: usize) -> Vec<u8> {
+    let mut table = Table::default();
+    let (name, end) = (table.name(0), table.name(1));
+    let signal = (1..places).fold(end, |row, _| table.all(0, row));
+    let start = table.some(0, signal);
+    let later = (0..pause).fold(start, |row, _| table.all(0, row));
+    let next = table.some(0, later);
+    encode(b"", &table.rows, &[name, next], name)
+}
+
+/// The same file, with rows that nothing needs up to the most that a file may have: "some" and "all" along role 0, role 1 and their
+/// inverses, about all lower rows by turns.
+fn padded(file: &[u8]) -> Vec<u8> {
+    let (text, count) = (text(file), usize::from(file[file.len() - ROWS_FROM_END]));
+    let (rows, rest) = file[text.len()..].split_at(4 * count);
+    let mut table = Table { rows: rows.as_chunks().0.to_vec() };
+    for step in 0u8.. {
+        if table.rows.len() == MOST_ROWS {
+            break;
+        }
+        let argument = 5 * step % table.rows.len() as u8;
+        if step % 3 == 0 {
+            table.all(step % 4, argument);
+        } else {
+            table.some(step % 4, argument);
+        }
+    }
+    let (rules, trailer) = rest.split_at(rest.len() - TRAILER);
+    encode(text, &table.rows, rules, trailer[4])
+}
+
+/// Files of 64 rows, 62 of them of kinds 5 and 6. Their examples have 1,221 elements and 2,031 links; 512 and 1,536; 256 and 1,792; 128
+/// and 1,920; 64 and 1,984.
+pub fn wide() -> Vec<Vec<u8>> {
+    let lines = [line_with_pause(13, 5), line(9, 1), line(8, 5), line(7, 13), line(6, 29)];
+    lines.iter().map(|file| padded(file)).collect()
+}
