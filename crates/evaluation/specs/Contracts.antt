@@ -3,7 +3,7 @@
 -- In order: the areas; rows of kinds 1 and 2; rows of kinds 3 and 4; rows of kinds 5 and 6; a row. Each says what becomes of the sets that the area of the elements holds.
 -- Assumes nothing.
 use mathlib.Core.Path.{_≡_}
-use mathlib.Core.Bool.{Bool, _&&_}
+use mathlib.Core.Bool.{Bool, false, _&&_}
 use mathlib.Core.List.{List}
 use Prim.Native.Nat.{ℕ, _+_, _*_, _≤_, _<_}
 use lib.ListN.{length}
@@ -48,8 +48,12 @@ pub record LocalGives (before : Bytes) (count k kind left right : ℕ) (after : 
 
 -- ---- rows of kinds 5 and 6
 
+-- row k is in no set yet
+abbrev pub Absent : ℕ → (ℕ → RowSet) → Type 0
+Absent k f = (d : ℕ) → mem k (f d) ≡ false
+
 pub record FillGives (before : Bytes) (count k : ℕ) (all : Bool) (after : Bytes) : Type 0 where
-  pub holds : (base : Bytes) (f : ℕ → RowSet) → Holding base count f before → Holding base count (λ d. withRow k all (f d)) after
+  pub holds : (base : Bytes) (f : ℕ → RowSet) → Absent k f → Holding base count f before → Holding base count (λ d. withRow k all (f d)) after
 
 pub record FollowAsks (elements : Bytes) (d e k left : ℕ) : Type 0 where
   pub from : setSize * d + setSize ≤ length elements
@@ -67,7 +71,7 @@ pub record AlongAsks (elements : Bytes) (count : ℕ) (links : Bytes) (n k left 
   pub argument : left < k
 
 pub record AlongGives (before : Bytes) (count : ℕ) (links : Bytes) (n k ρ left : ℕ) (all : Bool) (after : Bytes) : Type 0 where
-  pub holds : (base : Bytes) (f : ℕ → RowSet) → Holding base count f before → Holding base count (afterLinks all ρ k left f (linksIn links n)) after
+  pub holds : (base : Bytes) (f : ℕ → RowSet) → Absent k f → Holding base count f before → Holding base count (afterLinks all ρ k left f (linksIn links n)) after
 
 -- ---- a row
 

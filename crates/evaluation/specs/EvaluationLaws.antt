@@ -75,9 +75,10 @@ module _ (W : World) where
     below-tested zero k d = (λ p. p, λ p. p)
     below-tested (suc bound) k d =
         let h = testBelow W t bound in
-        let H = HoldsBelow (finite W) t bound in
-        (means-of h H (λ l e. below-tested bound l e .0) (λ l e. below-tested bound l e .1) (conceptAt t k) d,
-        test-of h H (λ l e. below-tested bound l e .0) (λ l e. below-tested bound l e .1) (conceptAt t k) d)
+        let H = HoldsBelow (finite W) t bound in (
+          means-of h H (λ l e. below-tested bound l e .0) (λ l e. below-tested bound l e .1) (conceptAt t k) d,
+          test-of h H (λ l e. below-tested bound l e .0) (λ l e. below-tested bound l e .1) (conceptAt t k) d,
+        )
 
     -- row k passes at d exactly if it holds there
     pub tested-holds : (k d : ℕ) → T (tested W t k d) → Holds (finite W) t k d

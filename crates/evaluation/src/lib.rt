@@ -1,1 +1,232 @@
-// Which rows hold at each element of a finite world.
+// Which rows hold at each element of a finite world (01, The meaning of ALCI; 02, [2]). It is worked out in place: an area has the names of each element before, and the rows that hold there after.
+//
+// In order: a row in or out of a set; rows of kinds 1 and 2, by an element's names; rows of kinds 3 and 4, by its rows; rows of kinds 5 and 6, along the links; a row; all rows.
+ghost use mathlib.Core.Path.{_≡_};
+ghost use Prim.Native.Nat.{_+_, _*_, _≤_, _<_};
+ghost use lib.ListN.{length};
+ghost use Rattle.concepts.specs.Lowest.{Within};
+ghost use Rattle.words.specs.Words.{overwrite};
+ghost use Rattle.words.specs.Sizes.{setSize, linkSize};
+ghost use Rattle.rowset.specs.Value.{valueOf, width};
+ghost use Rattle.problem.specs.Decoded.{countOf, tableOf, Picked, Decoded};
+ghost use Rattle.evaluation.specs.Evaluation.{evaluated};
+ghost use Rattle.evaluation.specs.Layout.{elementBytes, worldIn};
+ghost use Rattle.evaluation.specs.Steps.{withRow, literal, joined};
+ghost use Rattle.evaluation.specs.Contracts.{Named, BeginGives, LocalGives, FillGives, FollowAsks, FollowGives, AlongAsks, AlongGives, RowGives, EvaluateAsks};
+use rowset::RowSet;
+use rowset::SET_BYTES;
+use words::get2;
+
+// The bytes of a link. An element is a set.
+pub const LINK_BYTES: usize = 6;
+
+// The kinds of rows: a name, not that name, both, either, all along a role, some along a role.
+const ATOMIC: usize = 1;
+
+const NEGATED: usize = 2;
+
+const CONJ: usize = 3;
+
+const DISJ: usize = 4;
+
+const UNIV: usize = 5;
+
+const EXIST: usize = 6;
+
+// The set with row k, or without it.
+fn with_row(s: RowSet, k: usize, holds: bool) -> RowSet
+    requires { ⌜ k < width ⌝ }
+    ensures { λ r. ⌜ valueOf r ≡ withRow k holds (valueOf s) ⌝ }
+{
+    if holds {
+        return rowset::insert(s, k);
+    }
+    rowset::minus(s, rowset::insert(rowset::empty(), k))
+}
+
+// Those of the rows, of kinds 1 and 2, whose name is among the names.
+fn named(problem: &[u64], rows: RowSet, names: RowSet) -> RowSet
+    requires { ⌜ Decoded (now problem) × Within (countOf (now problem)) (valueOf rows) ⌝ }
+    ensures { λ r. ⌜ Named (tableOf (now (problem .entry))) (valueOf names) (valueOf rows) (valueOf r) ⌝ }
+{
+    let mut passed = rowset::empty();
+    let mut m = rows;
+    while !rowset::is_empty(m) {
+        let k = rowset::lowest(m);
+        if rowset::mem(names, problem::left_at(problem, k)) {
+            passed = rowset::insert(passed, k);
+        }
+        m = rowset::rest(m);
+    }
+    passed
+}
+
+// The rows of kinds 1 and 2 that hold where these names do.
+fn literals(problem: &[u64], names: RowSet) -> RowSet
+    requires { ⌜ Decoded (now problem) ⌝ }
+    ensures { λ r. ⌜ Picked (tableOf (now (problem .entry))) (literal (valueOf names)) (valueOf r) ⌝ }
+{
+    let atomic = problem::of_kind(problem, ATOMIC);
+    let negated = problem::of_kind(problem, NEGATED);
+    rowset::union(
+        named(problem, atomic, names),
+        rowset::minus(negated, named(problem, negated, names)),
+    )
+}
+
+// Puts the rows of kinds 1 and 2 that hold at each element in the place of its names.
+fn begin(problem: &[u64], elements: &mut [u8], count: usize)
+    requires { ⌜ Decoded (now problem) × (setSize * count ≤ length (now elements)) ⌝ }
+    ensures { λ _. ⌜ BeginGives (now (problem .entry)) (now (elements .entry)) count (now (elements .exit)) ⌝ }
+{
+    let mut d = 0;
+    while d < count {
+        let names = rowset::get(elements, SET_BYTES * d);
+        rowset::put(elements, SET_BYTES * d, literals(problem, names));
+        d += 1;
+    }
+}
+
+// Whether "both" or "either" holds where the rows of the set do.
+fn joins(s: RowSet, kind: usize, left: usize, right: usize) -> bool
+    requires { ⌜ (left < width) × (right < width) ⌝ }
+    ensures { λ r. ⌜ r ≡ joined kind left right (valueOf s) ⌝ }
+{
+    if kind == CONJ {
+        return rowset::mem(s, left) & rowset::mem(s, right);
+    }
+    rowset::mem(s, left) | rowset::mem(s, right)
+}
+
+// Row k, "both" or "either", at each element.
+fn local(elements: &mut [u8], count: usize, k: usize, kind: usize, left: usize, right: usize)
+    requires { ⌜ (setSize * count ≤ length (now elements)) × (k < width) × (left < width) × (right < width) ⌝ }
+    ensures { λ _. ⌜ LocalGives (now (elements .entry)) count k kind left right (now (elements .exit)) ⌝ }
+{
+    let mut d = 0;
+    while d < count {
+        let s = rowset::get(elements, SET_BYTES * d);
+        rowset::put(
+            elements,
+            SET_BYTES * d,
+            with_row(s, k, joins(s, kind, left, right)),
+        );
+        d += 1;
+    }
+}
+
+// Row k, not in any set yet, at each element, as it is where no link goes: "all" holds, "some" does not.
+fn fill(elements: &mut [u8], count: usize, k: usize, all: bool)
+    requires { ⌜ (setSize * count ≤ length (now elements)) × (k < width) ⌝ }
+    ensures { λ _. ⌜ FillGives (now (elements .entry)) count k all (now (elements .exit)) ⌝ }
+{
+    if !all {
+        return;
+    }
+    let mut d = 0;
+    while d < count {
+        let s = rowset::get(elements, SET_BYTES * d);
+        rowset::put(elements, SET_BYTES * d, rowset::insert(s, k));
+        d += 1;
+    }
+}
+
+// Row k at element d, from which the role leads to element e: "all" fails if the argument does not hold there, "some" holds if it does.
+fn follow(elements: &mut [u8], d: usize, e: usize, k: usize, left: usize, all: bool)
+    requires { ⌜ FollowAsks (now elements) d e k left ⌝ }
+    ensures { λ _. ⌜ FollowGives (now (elements .entry)) d e k left all (now (elements .exit)) ⌝ }
+{
+    let there = rowset::mem(rowset::get(elements, SET_BYTES * e), left);
+    if there != all {
+        let s = rowset::get(elements, SET_BYTES * d);
+        rowset::put(elements, SET_BYTES * d, with_row(s, k, there));
+    }
+}
+
+// Row k, "all" or "some" along a role, by each link that the role leads along, whichever way the link is taken.
+fn along(
+    elements: &mut [u8],
+    count: usize,
+    links: &[u8],
+    link_count: usize,
+    k: usize,
+    role: u8,
+    left: usize,
+    all: bool,
+)
+    requires { ⌜ AlongAsks (now elements) count (now links) link_count k left ⌝ }
+    ensures { λ _. ⌜ AlongGives (now (elements .entry)) count (now (links .entry)) link_count k role left all (now (elements .exit)) ⌝ }
+{
+    fill(elements, count, k, all);
+    let onward = role as u16;
+    let backward = problem::inverse(role) as u16;
+    let mut i = 0;
+    while i < link_count {
+        let at = LINK_BYTES * i;
+        let code = get2(links, at + 2);
+        let from = get2(links, at) as usize;
+        let to = get2(links, at + 4) as usize;
+        if code == onward {
+            follow(elements, from, to, k, left, all);
+        } else {
+            if code == backward {
+                follow(elements, to, from, k, left, all);
+            }
+        }
+        i += 1;
+    }
+}
+
+// Row k at each element, where the rows below it are known.
+fn evaluate_row(
+    problem: &[u64],
+    elements: &mut [u8],
+    count: usize,
+    links: &[u8],
+    link_count: usize,
+    k: usize,
+)
+    requires { ⌜ EvaluateAsks (now problem) (now elements) count (now links) link_count × (k < countOf (now problem)) ⌝ }
+    ensures { λ _. ⌜ RowGives (now (problem .entry)) (now (elements .entry)) count (now (links .entry)) link_count k (now (elements .exit)) ⌝ }
+{
+    let kind = problem::kind_at(problem, k);
+    let left = problem::left_at(problem, k);
+    if (kind == CONJ) | (kind == DISJ) {
+        local(
+            elements,
+            count,
+            k,
+            kind,
+            left,
+            problem::right_at(problem, k),
+        );
+        return;
+    }
+    if (kind == UNIV) | (kind == EXIST) {
+        along(
+            elements,
+            count,
+            links,
+            link_count,
+            k,
+            problem::role_at(problem, k),
+            left,
+            kind == UNIV,
+        );
+    }
+}
+
+// The rows that hold at each of so many elements, in place of their names, in the world with so many links.
+pub fn evaluate(problem: &[u64], elements: &mut [u8], count: usize, links: &[u8], link_count: usize)
+    requires { ⌜ EvaluateAsks (now problem) (now elements) count (now links) link_count ⌝ }
+    ensures { λ _. ⌜ now (elements .exit)
+        ≡ overwrite (elementBytes (evaluated (worldIn (now (elements .entry)) count (now (links .entry)) link_count) (tableOf (now (problem .entry))))) (now (elements .entry)) ⌝ }
+{
+    begin(problem, elements, count);
+    let rows = problem::row_count(problem);
+    let mut k = 0;
+    while k < rows {
+        evaluate_row(problem, elements, count, links, link_count, k);
+        k += 1;
+    }
+}

@@ -99,10 +99,10 @@ listing-lists f x =
     record {
       holds = λ d k h m.
           let (b, p) = and-both (ltb k (length t)) (tested W t k d) (subst T (ap (mem k) (set-is t x d (omega (arith, length-listing t x))) ∙ mem-rowsAt W t k d) m) in
-          (ltb→lt k (length t) b, subst (λ (V : World). Holds (finite V) t k d) (sym (world-listing t x)) (tested-holds W t k d p));
+          (ltb→lt k (length t) b, subst (λ (U : World). Holds (finite U) t k d) (sym (world-listing t x)) (tested-holds W t k d p));
       listed = λ d k h b p.
           subst T (sym (ap (mem k) (set-is t x d (omega (arith, length-listing t x))) ∙ mem-rowsAt W t k d))
-          (and-make (ltb k (length t)) (tested W t k d) (lt→ltb k (length t) b) (holds-tested W t k d (subst (λ (V : World). Holds (finite V) t k d) (world-listing t x) p)));
+          (and-make (ltb k (length t)) (tested W t k d) (lt→ltb k (length t) b) (holds-tested W t k d (subst (λ (U : World). Holds (finite U) t k d) (world-listing t x) p)));
     }
 
 -- ---- sets fit their bytes
