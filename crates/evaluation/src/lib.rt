@@ -75,12 +75,12 @@ fn literals(problem: &[u64], names: RowSet) -> RowSet
 }
 
 // Puts the rows of kinds 1 and 2 that hold at each element in the place of its names.
-fn begin(problem: &[u64], elements: &mut [u8], count: usize)
-    requires { ⌜ Decoded (now problem) × (setSize * count ≤ length (now elements)) ⌝ }
-    ensures { λ _. ⌜ BeginGives (now (problem .entry)) (now (elements .entry)) count (now (elements .exit)) ⌝ }
+fn begin(problem: &[u64], elements: &mut [u8], size: usize)
+    requires { ⌜ Decoded (now problem) × (setSize * size ≤ length (now elements)) ⌝ }
+    ensures { λ _. ⌜ BeginGives (now (problem .entry)) (now (elements .entry)) size (now (elements .exit)) ⌝ }
 {
     let mut d = 0;
-    while d < count {
+    while d < size {
         let names = rowset::get(elements, SET_BYTES * d);
         rowset::put(elements, SET_BYTES * d, literals(problem, names));
         d += 1;
@@ -99,12 +99,12 @@ fn joins(s: RowSet, kind: usize, left: usize, right: usize) -> bool
 }
 
 // Row k, "both" or "either", at each element.
-fn local(elements: &mut [u8], count: usize, k: usize, kind: usize, left: usize, right: usize)
-    requires { ⌜ (setSize * count ≤ length (now elements)) × (k < width) × (left < width) × (right < width) ⌝ }
-    ensures { λ _. ⌜ LocalGives (now (elements .entry)) count k kind left right (now (elements .exit)) ⌝ }
+fn local(elements: &mut [u8], size: usize, k: usize, kind: usize, left: usize, right: usize)
+    requires { ⌜ (setSize * size ≤ length (now elements)) × (k < width) × (left < width) × (right < width) ⌝ }
+    ensures { λ _. ⌜ LocalGives (now (elements .entry)) size k kind left right (now (elements .exit)) ⌝ }
 {
     let mut d = 0;
-    while d < count {
+    while d < size {
         let s = rowset::get(elements, SET_BYTES * d);
         rowset::put(
             elements,
@@ -116,15 +116,15 @@ fn local(elements: &mut [u8], count: usize, k: usize, kind: usize, left: usize, 
 }
 
 // Row k, not in any set yet, at each element, as it is where no link goes: "all" holds, "some" does not.
-fn fill(elements: &mut [u8], count: usize, k: usize, all: bool)
-    requires { ⌜ (setSize * count ≤ length (now elements)) × (k < width) ⌝ }
-    ensures { λ _. ⌜ FillGives (now (elements .entry)) count k all (now (elements .exit)) ⌝ }
+fn fill(elements: &mut [u8], size: usize, k: usize, all: bool)
+    requires { ⌜ (setSize * size ≤ length (now elements)) × (k < width) ⌝ }
+    ensures { λ _. ⌜ FillGives (now (elements .entry)) size k all (now (elements .exit)) ⌝ }
 {
     if !all {
         return;
     }
     let mut d = 0;
-    while d < count {
+    while d < size {
         let s = rowset::get(elements, SET_BYTES * d);
         rowset::put(elements, SET_BYTES * d, rowset::insert(s, k));
         d += 1;
@@ -146,22 +146,22 @@ fn follow(elements: &mut [u8], d: usize, e: usize, k: usize, left: usize, all: b
 // Row k, "all" or "some" along a role, by each link that the role leads along, whichever way the link is taken.
 fn along(
     elements: &mut [u8],
-    count: usize,
+    size: usize,
     links: &[u8],
-    link_count: usize,
+    count: usize,
     k: usize,
     role: u8,
     left: usize,
     all: bool,
 )
-    requires { ⌜ AlongAsks (now elements) count (now links) link_count k left ⌝ }
-    ensures { λ _. ⌜ AlongGives (now (elements .entry)) count (now (links .entry)) link_count k role left all (now (elements .exit)) ⌝ }
+    requires { ⌜ AlongAsks (now elements) size (now links) count k left ⌝ }
+    ensures { λ _. ⌜ AlongGives (now (elements .entry)) size (now (links .entry)) count k role left all (now (elements .exit)) ⌝ }
 {
-    fill(elements, count, k, all);
+    fill(elements, size, k, all);
     let onward = role as u16;
     let backward = problem::inverse(role) as u16;
     let mut i = 0;
-    while i < link_count {
+    while i < count {
         let at = LINK_BYTES * i;
         let code = get2(links, at + 2);
         let from = get2(links, at) as usize;
@@ -181,33 +181,26 @@ fn along(
 fn evaluate_row(
     problem: &[u64],
     elements: &mut [u8],
-    count: usize,
+    size: usize,
     links: &[u8],
-    link_count: usize,
+    count: usize,
     k: usize,
 )
-    requires { ⌜ EvaluateAsks (now problem) (now elements) count (now links) link_count × (k < countOf (now problem)) ⌝ }
-    ensures { λ _. ⌜ RowGives (now (problem .entry)) (now (elements .entry)) count (now (links .entry)) link_count k (now (elements .exit)) ⌝ }
+    requires { ⌜ EvaluateAsks (now problem) (now elements) size (now links) count × (k < countOf (now problem)) ⌝ }
+    ensures { λ _. ⌜ RowGives (now (problem .entry)) (now (elements .entry)) size (now (links .entry)) count k (now (elements .exit)) ⌝ }
 {
     let kind = problem::kind_at(problem, k);
     let left = problem::left_at(problem, k);
     if (kind == CONJ) | (kind == DISJ) {
-        local(
-            elements,
-            count,
-            k,
-            kind,
-            left,
-            problem::right_at(problem, k),
-        );
+        local(elements, size, k, kind, left, problem::right_at(problem, k));
         return;
     }
     if (kind == UNIV) | (kind == EXIST) {
         along(
             elements,
-            count,
+            size,
             links,
-            link_count,
+            count,
             k,
             problem::role_at(problem, k),
             left,
@@ -217,16 +210,16 @@ fn evaluate_row(
 }
 
 // The rows that hold at each of so many elements, in place of their names, in the world with so many links.
-pub fn evaluate(problem: &[u64], elements: &mut [u8], count: usize, links: &[u8], link_count: usize)
-    requires { ⌜ EvaluateAsks (now problem) (now elements) count (now links) link_count ⌝ }
+pub fn evaluate(problem: &[u64], elements: &mut [u8], size: usize, links: &[u8], count: usize)
+    requires { ⌜ EvaluateAsks (now problem) (now elements) size (now links) count ⌝ }
     ensures { λ _. ⌜ now (elements .exit)
-        ≡ overwrite (elementBytes (evaluated (worldIn (now (elements .entry)) count (now (links .entry)) link_count) (tableOf (now (problem .entry))))) (now (elements .entry)) ⌝ }
+        ≡ overwrite (elementBytes (evaluated (worldIn (now (elements .entry)) size (now (links .entry)) count) (tableOf (now (problem .entry))))) (now (elements .entry)) ⌝ }
 {
-    begin(problem, elements, count);
+    begin(problem, elements, size);
     let rows = problem::row_count(problem);
     let mut k = 0;
     while k < rows {
-        evaluate_row(problem, elements, count, links, link_count, k);
+        evaluate_row(problem, elements, size, links, count, k);
         k += 1;
     }
 }
