@@ -12,6 +12,7 @@ ghost use Rattle.run.specs.Run.{areasOf};
 ghost use Rattle.problem.specs.Decoded.{Decoded};
 ghost use Rattle.walk.specs.Contracts.{nodesEdges, WalkAsks};
 ghost use Rattle.conclusion.specs.Contracts.{SmallSizes, goodRoot, VerdictGives, ShowGives, DecideGives};
+use evaluation::LINK_BYTES;
 use graph::Area;
 use graph::Counts;
 use graph::Step;
@@ -21,7 +22,6 @@ use records::load_node;
 use rounds::run;
 use rowset::SET_BYTES;
 use walk::walk;
-use writing::LINK_BYTES;
 use writing::write_example;
 
 // A record found no place in an area; "cannot" or "can", with the records used.
@@ -101,7 +101,7 @@ fn show(
     if !fits(sizes, elements.len(), links.len()) {
         return Decision::TooLong(sizes);
     }
-    write_example(nodes, edges, sizes, elements, links);
+    write_example(problem, nodes, edges, sizes, elements, links);
     Decision::Can(c, sizes)
 }
 

@@ -8,7 +8,8 @@ use mathlib.Core.Bool.{Bool, true, false, not, _&&_, _||_, cond}
 use mathlib.Core.List.{List}
 use mathlib.Core.Option.{Option, none, some}
 use mathlib.Core.Logic.{inl, inr}
-use Prim.Native.Nat.{ℕ, _<_}
+use Prim.Native.Nat.{ℕ, _^_, _<_}
+use native.Mathlib.Omega.{arith}
 use lib.Dec.{T, T-not, not-T, eqb, eqb→eq, eqb-refl}
 use lib.ListN.{length}
 use Rattle.concepts.specs.Tests.{and-both, and-make, decide, same-test}
@@ -17,7 +18,7 @@ use Rattle.concepts.specs.ListLaws.{mem-answers, answers-mem}
 use Rattle.concepts.specs.Concept.{Concept, asAtomic, asNegated, Table, conceptAt, roleOf}
 use Rattle.concepts.specs.ConceptLaws.{asAtomic-some, asNegated-some}
 use Rattle.concepts.specs.RowSet.{RowSet, mem, empty, single, union, common, minus, insert, fromList}
-use Rattle.concepts.specs.RowSetLaws.{mem-empty, mem-common, mem-minus, set-ext, set-witness, empty-union, union-empty, insert-union, mem-fromList, fromList-mem}
+use Rattle.concepts.specs.RowSetLaws.{mem-empty, mem-common, mem-minus, set-ext, set-witness, empty-union, union-empty, insert-union, mem-fromList, fromList-mem, fromList-lt}
 use Rattle.concepts.specs.Lowest.{Lowest, Rest}
 use Rattle.procedure.specs.Problem.{Problem, opposedNames}
 use Rattle.procedure.specs.ProblemLaws.{opposed-one-name, one-name-opposed}
@@ -25,7 +26,8 @@ use Rattle.procedure.specs.SetTests.{concepts, namesOf, clash, unfinishedConj, 
 use Rattle.procedure.specs.SetTestLaws.{concept-mem, mem-concept, clash-found, no-clash, lacking-mem, mem-lacking}
 use Rattle.decoding.specs.RowParts.{kindOf, leftOf, rightOf}
 use Rattle.decoding.specs.RowPartLaws.{views-by-parts}
-use Rattle.problem.specs.Decoded.{Picked, ofKind, universal}
+use Rattle.problem.specs.Decoded.{countOf, tableOf, Picked, ofKind, universal, Decoded}
+use Rattle.problem.specs.DecodedLaws.{length-tableOf, word-parts, left-lt}
 use Rattle.settests.specs.SetLoops.{answers-low, first-low, answers-empty, first-empty}
 use Rattle.settests.specs.Answers.{leftPart, finishedBy, openArguments}
 use Rattle.settests.specs.Masks.{masked-answers, masked-first}
@@ -129,6 +131,16 @@ module _ {t : Table} (s : RowSet) {mask : RowSet} where
   pub names-masked : Picked t (ofKind 1) mask → leftParts t (common s mask) ≡ namesOf t s
   unfolding namesOf ofKind leftPart
   names-masked picked = ap fromList (masked-answers s picked leftPart asAtomic (λ c. views-by-parts c .atomic-is))
+
+-- "name 0 to 63": the names fit one word
+pub names-lt : {w : List ℕ} → Decoded w → (s : RowSet) → namesOf (tableOf w) s < 2 ^ 64
+unfolding namesOf leftOf
+names-lt {w} ok s = fromList-lt 64 (answers asAtomic (concepts (tableOf w) s)) (λ a m.
+    let (c, i, e) = answers-mem asAtomic (concepts (tableOf w) s) a m in
+    let (k, h, j, q) = concept-mem (tableOf w) s c i in
+    let inside : k < countOf w = omega (arith, length-tableOf w) in
+    let name : leftOf (conceptAt (tableOf w) k) ≡ a = ap leftOf (q ∙ asAtomic-some c a e) in
+    omega (arith, name, word-parts ok k inside .left-is, left-lt ok k inside))
 
 -- what the set p lacks of the arguments along a role
 pub minus-lacking : (t : Table) (s : RowSet) (ρ : ℕ) (p : RowSet) → minus (fromList (box t s ρ)) p ≡ lacking t s ρ p

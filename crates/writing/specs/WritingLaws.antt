@@ -1,63 +1,46 @@
--- Laws of Writing: the ways through the loops of the two writers.
+-- Laws of Writing: the ways through the writers.
 --
--- In order: one record more; a writer's start and end; an element; a link.
+-- In order: the names of the elements; the links, one more, a writer's start and end; a link; the whole: what the evaluation asks, and what it gives.
 -- Assumes nothing.
-use mathlib.Core.Path.{_≡_, refl, sym, ap, _∙_}
-use mathlib.Core.List.{[], _++_, map, append-assoc}
+use mathlib.Core.Path.{_≡_, refl, sym, ap, ap₂, _∙_, subst}
+use mathlib.Core.List.{List, _++_, map, map-map, append-assoc, List·Memᴰ}
 use Prim.Native.Nat.{ℕ, _+_, _*_, _≤_, _<_}
 use native.Mathlib.Omega.{arith}
-use lib.ListN.{length, length-append}
+use lib.ListN.{length, getD, length-append}
 use Rattle.concepts.specs.Lists.{range}
-use Rattle.concepts.specs.ListLaws.{length-map-range, range-more}
+use Rattle.concepts.specs.ListLaws.{length-map-range, getD-map-range, range-more, range-mem, map-mem, map-same}
+use Rattle.concepts.specs.RowSet.{RowSet}
+use Rattle.meaning.specs.Meaning.{World}
+use Rattle.meaning.specs.Given.{RoleLink, given}
+use Rattle.procedure.specs.SetTests.{namesOf}
 use Rattle.procedure.specs.Graph.{Node}
-use Rattle.meaning.specs.Given.{RoleLink}
-use Rattle.words.specs.Words.{littleEndian, overwrite, putLe}
-use Rattle.evaluation.specs.Layout.{elementBytes, linkBytes}
-use Rattle.words.specs.WordLaws.{length-littleEndian, putLe-overwrite, length-putLe}
-use Rattle.evaluation.specs.LayoutLaws.{length-elementBytes, elementBytes-snoc, linkRecord, length-linkBytes, linkBytes-snoc}
+use Rattle.procedure.specs.Example.{Example, worldOf}
+use Rattle.procedure.specs.ExampleLaws.{world-given}
+use Rattle.words.specs.Words.{putLe, littleEndian, overwrite}
+use Rattle.words.specs.WordLaws.{length-littleEndian, putLe-overwrite, overwrite-again}
 use Rattle.words.specs.Fields.{putFields}
 use Rattle.words.specs.FieldLaws.{length-putFields}
 use Rattle.words.specs.Sizes.{nodeSize, setSize, linkSize}
+use Rattle.problem.specs.Decoded.{tableOf, Decoded}
+use Rattle.evaluation.specs.Evaluation.{evaluated}
+use Rattle.evaluation.specs.EvaluationLaws.{length-evaluated}
+use Rattle.evaluation.specs.Layout.{elementAt, linkAt, elementBytes, linkBytes, linksIn, worldIn}
+use Rattle.evaluation.specs.LayoutLaws.{linkRecord, length-elementBytes, length-linkBytes, linkBytes-snoc, LinkFits, links-back}
+use Rattle.evaluation.specs.Holding.{Holding}
+use Rattle.evaluation.specs.HoldingLaws.{hold-none, hold-length, hold-get, hold-more}
+use Rattle.evaluation.specs.Contracts.{EvaluateAsks}
+use Rattle.run.specs.Run.{listing}
+use Rattle.settests.specs.AnswerLaws.{names-lt}
 use Rattle.records.specs.Areas.{Bytes, Fits}
 use Rattle.records.specs.Records.{nodeIn}
-use Rattle.marks.specs.Marks.{stateIn, roleLinkOf, roleLinkIn}
+use Rattle.marks.specs.Marks.{stateIn, roleLinkOf, roleLinkIn, exampleHeld}
 use Rattle.marks.specs.declared.LinkMark.{LinkMark}
-use Rattle.writing.specs.Writing.{setIn, elementsTo, linksTo, linkFields, ElementsAsk, Written}
+use Rattle.marks.specs.declared.Sizes.{Sizes}
+use Rattle.writing.specs.Writing.{setIn, namesIn, linksTo, linkFields, ElementsAsk, WriteAsks, WriteGives, Written}
 
--- ---- one record more
+-- ---- the names of the elements
 
-elements-more : (n : Bytes) (d : ℕ) → elementsTo n (d + 1) ≡ elementsTo n d ++ littleEndian setSize (setIn n d)
-elements-more n d = ap elementBytes (range-more (setIn n) d) ∙ elementBytes-snoc (map (setIn n) (range 0 d)) (setIn n d)
-
-links-more : (e : Bytes) (k : ℕ) → linksTo e (k + 1) ≡ linksTo e k ++ linkRecord (roleLinkIn e k)
-links-more e k = ap linkBytes (range-more (roleLinkIn e) k) ∙ linkBytes-snoc (map (roleLinkIn e) (range 0 k)) (roleLinkIn e k)
-
-length-elementsTo : (n : Bytes) (d : ℕ) → length (elementsTo n d) ≡ setSize * d
-length-elementsTo n d = length-elementBytes (map (setIn n) (range 0 d)) ∙ ap (λ (k : ℕ). setSize * k) (length-map-range (setIn n) 0 d)
-
-length-linksTo : (e : Bytes) (k : ℕ) → length (linksTo e k) ≡ linkSize * k
-length-linksTo e k = length-linkBytes (map (roleLinkIn e) (range 0 k)) ∙ ap (λ (i : ℕ). linkSize * i) (length-map-range (roleLinkIn e) 0 k)
-
--- ---- a writer's start and end
-
-pub written-none : {upTo : ℕ → Bytes} {count : ℕ} {area : Bytes} → upTo 0 ≡ [] → Written upTo count area area 0
-written-none {area = area} nil = record { within = omega arith; size = refl; here = ap (λ (b : Bytes). overwrite b area) (sym nil) }
-
-pub written-all : {upTo : ℕ → Bytes} {count : ℕ} {area area′ : Bytes} {i : ℕ} → Written upTo count area area′ i → count ≤ i
-    → area′ ≡ overwrite (upTo count) area
-written-all {upTo} {count} {area} w h = w .here ∙ ap (λ (k : ℕ). overwrite (upTo k) area) (omega (arith, w .within))
-
-pub elements-none : (n : Bytes) → elementsTo n 0 ≡ []
-unfolding elementBytes range
-elements-none n = refl
-
-pub links-none : (e : Bytes) → linksTo e 0 ≡ []
-unfolding linkBytes range
-links-none e = refl
-
--- ---- an element
-
--- it and its state are in the area
+-- an element and its state are in the area
 pub element-fits : {n : Bytes} {count : ℕ} {elements : Bytes} → ElementsAsk n count elements → {d : ℕ} → d < count → Fits nodeSize n d × Fits nodeSize n (stateIn n d)
 element-fits A {d} h = let state = A .states d h in ((omega (arith, A .held), omega (arith, A .held)), (omega arith, omega arith))
 
@@ -65,17 +48,44 @@ element-fits A {d} h = let state = A .states d h in ((omega (arith, A .held), om
 pub element-set : (n : Bytes) (d : ℕ) {y : ℕ} {x : Node} → y ≡ stateIn n d → x ≡ nodeIn n y → x .rows ≡ setIn n d
 element-set n d p q = ap (λ (z : Node). z .rows) q ∙ ap (λ (z : ℕ). nodeIn n z .rows) p
 
-pub element-written : (n : Bytes) {count : ℕ} {area area′ area″ : Bytes} {d : ℕ} → Written (elementsTo n) count area area′ d → d < count
-    → setSize * count ≤ length area → area″ ≡ putLe area′ (setSize * d) setSize (setIn n d) → Written (elementsTo n) count area area″ (d + 1)
-element-written n {count} {area} {area′} {area″} {d} w h room e =
-    record {
-      within = omega arith;
-      size = ap length e ∙ length-putLe area′ (setSize * d) setSize (setIn n d) ∙ w .size;
-      here =
-          e ∙ ap (λ (b : Bytes). putLe b (setSize * d) setSize (setIn n d)) (w .here)
-          ∙ putLe-overwrite (elementsTo n d) area (setSize * d) setSize (setIn n d) (length-elementsTo n d) (omega arith)
-          ∙ ap (λ (b : Bytes). overwrite b area) (sym (elements-more n d));
-    }
+-- the names of the elements below d are written
+pub record Naming (ws : List ℕ) (n : Bytes) (count : ℕ) (area : Bytes) (d : ℕ) (area′ : Bytes) : Type 0 where
+  pub within : d ≤ count
+  pub holds : Holding area d (namesIn (tableOf ws) n) area′
+
+pub naming-none : {ws : List ℕ} {n : Bytes} {count : ℕ} {area : Bytes} → Naming ws n count area 0 area
+naming-none {ws} {n} {area = area} = record { within = omega arith; holds = hold-none area (namesIn (tableOf ws) n) }
+
+module _ {ws : List ℕ} {n : Bytes} {count : ℕ} {area : Bytes} {d : ℕ} {area′ : Bytes} (N : Naming ws n count area d area′) where
+  pub naming-length : length area′ ≡ length area
+  naming-length = hold-length (N .holds)
+
+  pub naming-more : {area″ : Bytes} {s r : RowSet} → Decoded ws → setSize * count ≤ length area → d < count → s ≡ setIn n d → r ≡ namesOf (tableOf ws) s
+      → area″ ≡ putLe area′ (setSize * d) setSize r → Naming ws n count area (d + 1) area″
+  naming-more D room h hs hr e = record {
+    within = omega arith;
+    holds = hold-more (N .holds) (omega arith) (names-lt D (setIn n d)) (e ∙ ap (putLe area′ (setSize * d) setSize) (hr ∙ ap (namesOf (tableOf ws)) hs));
+  }
+
+  pub naming-all : count ≤ d → Holding area count (namesIn (tableOf ws) n) area′
+  naming-all h = let all : d ≡ count = omega (arith, N .within) in subst (λ (k : ℕ). Holding area k (namesIn (tableOf ws) n) area′) all (N .holds)
+
+-- ---- the links: one more
+
+links-more : (e : Bytes) (k : ℕ) → linksTo e (k + 1) ≡ linksTo e k ++ linkRecord (roleLinkIn e k)
+links-more e k = ap linkBytes (range-more (roleLinkIn e) k) ∙ linkBytes-snoc (map (roleLinkIn e) (range 0 k)) (roleLinkIn e k)
+
+length-linksTo : (e : Bytes) (k : ℕ) → length (linksTo e k) ≡ linkSize * k
+length-linksTo e k = length-linkBytes (map (roleLinkIn e) (range 0 k)) ∙ ap (λ (i : ℕ). linkSize * i) (length-map-range (roleLinkIn e) 0 k)
+
+-- ---- the links: a start and an end
+
+pub written-none : (e : Bytes) {count : ℕ} {area : Bytes} → Written e count area area 0
+unfolding linkBytes range
+written-none e = record { within = omega arith; size = refl; here = refl }
+
+pub written-all : {e : Bytes} {count : ℕ} {area area′ : Bytes} {i : ℕ} → Written e count area area′ i → count ≤ i → area′ ≡ overwrite (linksTo e count) area
+written-all {e} {area = area} w h = w .here ∙ ap (λ (k : ℕ). overwrite (linksTo e k) area) (omega (arith, w .within))
 
 -- ---- a link
 
@@ -99,8 +109,8 @@ link-overwrite bs area at l e h =
     let joined : bs ++ f ++ r ++ littleEndian 2 (l .to) ≡ bs ++ linkRecord l = simp append-assoc in
     cc
 
-pub link-written : (e : Bytes) {count : ℕ} {area area′ area″ : Bytes} {k : ℕ} → Written (linksTo e) count area area′ k → k < count
-    → linkSize * count ≤ length area → area″ ≡ putFields area′ (linkSize * k) (linkFields (roleLinkIn e k)) → Written (linksTo e) count area area″ (k + 1)
+pub link-written : (e : Bytes) {count : ℕ} {area area′ area″ : Bytes} {k : ℕ} → Written e count area area′ k → k < count
+    → linkSize * count ≤ length area → area″ ≡ putFields area′ (linkSize * k) (linkFields (roleLinkIn e k)) → Written e count area area″ (k + 1)
 link-written e {count} {area} {area′} {area″} {k} w h room put =
     record {
       within = omega arith;
@@ -110,3 +120,60 @@ link-written e {count} {area} {area′} {area″} {k} w h room put =
           ∙ link-overwrite (linksTo e k) area (linkSize * k) (roleLinkIn e k) (length-linksTo e k) (omega arith)
           ∙ ap (λ (b : Bytes). overwrite b area) (sym (links-more e k));
     }
+
+-- ---- the whole
+
+module _ {ws : List ℕ} {n e : Bytes} {s : Sizes} {elements links : Bytes} (A : WriteAsks ws n e s elements links)
+    {elements₁ : Bytes} (N : Holding elements (s .elements) (namesIn (tableOf ws) n) elements₁) {links₁ : Bytes} (L : links₁ ≡ overwrite (linksTo e (s .links)) links) where
+  abbrev x : Example
+  x = exampleHeld n e (s .elements) (s .links)
+
+  -- the links are read back as they were
+  links-read : linksIn links₁ (s .links) ≡ x .links
+  links-read =
+      let ls = map (roleLinkIn e) (range 0 (s .links)) in
+      let fits : (l : RoleLink) → List·Memᴰ l ls → LinkFits l =
+      (λ l m. let (i, r, q) = map-mem (roleLinkIn e) (range 0 (s .links)) l m in let (lo, hi) = range-mem 0 (s .links) i r in let (from, role, to) = A .ends i (omega arith) in
+      (omega (arith, A .few, ap (λ (k : RoleLink). k .from) q), omega (arith, ap (λ (k : RoleLink). k .role) q), omega (arith, A .few, ap (λ (k : RoleLink). k .to) q))) in
+      ap (λ (b : Bytes). linksIn b (s .links)) L ∙ ap (linksIn (overwrite (linkBytes ls) links)) (sym (length-map-range (roleLinkIn e) 0 (s .links))) ∙ links-back ls links fits
+
+  link-read : (i : ℕ) → i < s .links → linkAt links₁ i ≡ roleLinkIn e i
+  link-read i h =
+      let none : RoleLink = record { from = 0; role = 0; to = 0 } in
+      let z : 0 + i ≡ i = omega arith in
+      sym (getD-map-range (linkAt links₁) 0 (s .links) i none h ∙ ap (linkAt links₁) z) ∙ ap (λ (ls : List RoleLink). getD ls i none) links-read
+      ∙ getD-map-range (roleLinkIn e) 0 (s .links) i none h ∙ ap (roleLinkIn e) z
+
+  pub evaluation-asks : length links₁ ≡ length links → EvaluateAsks ws elements₁ (s .elements) links₁ (s .links)
+  evaluation-asks size = record {
+    decoded = A .decoded;
+    room = omega (arith, A .elementsAsk .room, hold-length N);
+    linked = record {
+      room = omega (arith, A .linksAsk .room);
+      ends = λ i h. let (from, role, to) = A .ends i h in let l = link-read i h in (omega (arith, ap (λ (k : RoleLink). k .from) l), omega (arith, ap (λ (k : RoleLink). k .to) l));
+    };
+  }
+
+  -- the world that is evaluated is that of the example
+  world-read : worldIn elements₁ (s .elements) links₁ (s .links) ≡ worldOf (tableOf ws) x
+  world-read =
+      let m = s .elements in
+      let named : map (elementAt elements₁) (range 0 m) ≡ map (namesOf (tableOf ws)) (x .elements) =
+      map-same (elementAt elements₁) (namesIn (tableOf ws) n) (range 0 m) (λ d r. hold-get N (omega (arith, range-mem 0 m d r .1))) ∙ sym (map-map (namesOf (tableOf ws)) (setIn n) (range 0 m)) in
+      ap₂ given named links-read ∙ sym (world-given (tableOf ws) x)
+
+  pub all-written : {elements₂ : Bytes} → elements₂ ≡ overwrite (elementBytes (evaluated (worldIn elements₁ (s .elements) links₁ (s .links)) (tableOf ws))) elements₁
+      → WriteGives ws n e s elements elements₂ links links₁
+  unfolding listing worldOf
+  all-written {elements₂} E =
+      let sets = evaluated (worldOf (tableOf ws) x) (tableOf ws) in
+      let named = map (namesIn (tableOf ws) n) (range 0 (s .elements)) in
+      let as-many : length sets ≡ length named =
+      length-evaluated (worldOf (tableOf ws) x) (tableOf ws) ∙ length-map-range (setIn n) 0 (s .elements) ∙ sym (length-map-range (namesIn (tableOf ws) n) 0 (s .elements)) in
+      let as-long : length (elementBytes sets) ≡ length (elementBytes named) = length-elementBytes sets ∙ ap (λ (k : ℕ). setSize * k) as-many ∙ sym (length-elementBytes named) in
+      record {
+        elementsWritten =
+            E ∙ ap (λ (W : World). overwrite (elementBytes (evaluated W (tableOf ws))) elements₁) world-read ∙ ap (overwrite (elementBytes sets)) (N .here)
+            ∙ overwrite-again (elementBytes sets) (elementBytes named) elements as-long;
+        linksWritten = L;
+      }

@@ -1,6 +1,6 @@
-// The bytes of the example, written from the spare bytes of the records (01, Areas).
+// The bytes of the example, written from the spare bytes of the records (01, Areas; 02, [2]).
 //
-// In order: the set of an element; all elements; a link; all links; the example.
+// In order: the set of an element; the names of all elements; a link; all links; the example, which lists every row that holds.
 ghost use mathlib.Core.Path.{_≡_};
 ghost use Prim.Native.Nat.{_+_, _*_, _≤_};
 ghost use lib.ListN.{length};
@@ -8,9 +8,13 @@ ghost use Rattle.words.specs.Words.{overwrite};
 ghost use Rattle.words.specs.Fields.{putFields};
 ghost use Rattle.words.specs.Sizes.{nodeSize, edgeSize, linkSize};
 ghost use Rattle.rowset.specs.Value.{valueOf};
+ghost use Rattle.problem.specs.Decoded.{tableOf, Decoded};
+ghost use Rattle.evaluation.specs.Holding.{Holding};
 ghost use Rattle.records.specs.Areas.{Fits};
 ghost use Rattle.marks.specs.Marks.{stateIn, roleLinkIn};
 ghost use Rattle.writing.specs.Writing as Writing;
+use evaluation::LINK_BYTES;
+use evaluation::evaluate;
 use marks::Sizes;
 use marks::load_role_link;
 use marks::load_state;
@@ -19,10 +23,7 @@ use rowset::RowSet;
 use rowset::SET_BYTES;
 use words::put2;
 
-// The bytes of a link. An element is a set.
-pub const LINK_BYTES: usize = 6;
-
-// The set of element d: that of the state for which it stands.
+// The set of element d as the procedure placed it: that of the state for which it stands.
 fn set_of(nodes: &[u8], d: usize) -> RowSet
     requires { ⌜ Fits nodeSize (now nodes) d × Fits nodeSize (now nodes) (stateIn (now nodes) d) ⌝ }
     ensures { λ r. ⌜ valueOf r ≡ Writing.setIn (now (nodes .entry)) d ⌝ }
@@ -32,14 +33,19 @@ fn set_of(nodes: &[u8], d: usize) -> RowSet
     state.rows
 }
 
-// Writes the elements: "8 bytes: the row set, row k as bit k, low byte first".
-fn write_elements(nodes: &[u8], count: usize, elements: &mut [u8])
-    requires { ⌜ Writing.ElementsAsk (now nodes) count (now elements) ⌝ }
-    ensures { λ _. ⌜ now (elements .exit) ≡ overwrite (Writing.elementsTo (now (nodes .entry)) count) (now (elements .entry)) ⌝ }
+// Writes the names of each element where its rows will stand: a name holds "where the procedure placed its kind 1 row in the state's set".
+fn write_names(problem: &[u64], nodes: &[u8], count: usize, elements: &mut [u8])
+    requires { ⌜ Decoded (now problem) × Writing.ElementsAsk (now nodes) count (now elements) ⌝ }
+    ensures { λ _. ⌜ Holding (now (elements .entry)) count (Writing.namesIn (tableOf (now (problem .entry))) (now (nodes .entry))) (now (elements .exit)) ⌝ }
 {
     let mut d = 0;
     while d < count {
-        rowset::put(elements, SET_BYTES * d, set_of(nodes, d));
+        let placed = set_of(nodes, d);
+        rowset::put(
+            elements,
+            SET_BYTES * d,
+            settests::names(problem, placed),
+        );
         d += 1;
     }
 }
@@ -68,17 +74,20 @@ fn write_links(edges: &[u8], count: usize, links: &mut [u8])
     }
 }
 
-// Writes the example that the records hold into the two example areas, "only in the bytes that the example fills".
+// Writes the example that the records hold into the two example areas, "only in the bytes that the example fills". An element lists a row "exactly if it holds there".
 pub fn write_example(
+    problem: &[u64],
     nodes: &[u8],
     edges: &[u8],
     sizes: Sizes,
     elements: &mut [u8],
     links: &mut [u8],
 )
-    requires { ⌜ Writing.WriteAsks (now nodes) (now edges) sizes (now elements) (now links) ⌝ }
-    ensures { λ _. ⌜ Writing.WriteGives (now (nodes .entry)) (now (edges .entry)) sizes (now (elements .entry)) (now (elements .exit)) (now (links .entry)) (now (links .exit)) ⌝ }
+    requires { ⌜ Writing.WriteAsks (now problem) (now nodes) (now edges) sizes (now elements) (now links) ⌝ }
+    ensures { λ _. ⌜ Writing.WriteGives (now (problem .entry)) (now (nodes .entry)) (now (edges .entry)) sizes
+        (now (elements .entry)) (now (elements .exit)) (now (links .entry)) (now (links .exit)) ⌝ }
 {
-    write_elements(nodes, sizes.elements, elements);
+    write_names(problem, nodes, sizes.elements, elements);
     write_links(edges, sizes.links, links);
+    evaluate(problem, elements, sizes.elements, links, sizes.links);
 }

@@ -3,13 +3,13 @@
 use Prim.Native.Nat.{_-_}
 use native.Mathlib.Omega.{arith}
 use borrow.Author.Needs.{needs}
-use Rattle.writing.specs.Writing.{linksTo, Written}
-use Rattle.writing.specs.WritingLaws.{written-none, written-all, links-none, link-written}
+use Rattle.writing.specs.Writing.{Written}
+use Rattle.writing.specs.WritingLaws.{written-none, written-all, link-written}
 use Rattle.writing.proofs.write_links.Statement.{statement}
 use Rattle.writing.proofs.write_links.Tie as tie
 
 abbrev Inv-loop : tie.InvT-loop
-Inv-loop edges count links₀ k₀ links k = Written (linksTo edges) count links₀ links k
+Inv-loop edges count links₀ k₀ links k = Written edges count links₀ links k
 
 abbrev μ-loop : tie.MeasureT-loop
 μ-loop edges count links₀ k₀ links k = count - k
@@ -21,7 +21,7 @@ pub write-links-spec : {M : Type 1} → statement M
 write-links-spec =
     tie.close (tie.spec Inv-loop μ-loop
     -- while k < count
-    (λ c. written-none (links-none _))
+    (λ c. written-none _)
     -- write_link(edges, k, links)
     (λ c κs. ((omega arith, omega arith), omega arith))
     -- k += 1, the loop again

@@ -1,0 +1,33 @@
+-- `writing::write_names` meets its contract: the invariant is that the names of the elements below `d` are written over the area.
+-- Assumes nothing.
+use Prim.Native.Nat.{_-_}
+use native.Mathlib.Omega.{arith}
+use borrow.Author.Needs.{needs}
+use Rattle.writing.specs.WritingLaws.{element-fits, Naming, naming-none, naming-length, naming-more, naming-all}
+use Rattle.writing.proofs.write_names.Statement.{statement}
+use Rattle.writing.proofs.write_names.Tie as tie
+
+abbrev Inv-loop : tie.InvT-loop
+Inv-loop problem nodes count elements₀ d₀ elements d = Naming problem nodes count elements₀ d elements
+
+abbrev μ-loop : tie.MeasureT-loop
+μ-loop problem nodes count elements₀ d₀ elements d = count - d
+
+abbrev At : (tie.InvT-loop → tie.MeasureT-loop → Type 0) → Type 0
+At P = P Inv-loop μ-loop
+
+pub write-names-spec : {M : Type 1} → statement M
+write-names-spec =
+    tie.close (tie.spec Inv-loop μ-loop
+    -- while d < count
+    (λ c. naming-none)
+    -- set_of(nodes, d)
+    (λ c κs. let s : At tie.Start = search in let t : At tie.In-loop = search in element-fits (s .pre .1) (t .loop-test .taken))
+    -- rowset::put(elements, SET_BYTES * d, settests::names(problem, placed))
+    (λ c. ?) (λ c κs. ?) (λ c κs. ?)
+    -- d += 1, the loop again
+    (λ c. ?) (λ c. ?)
+    (λ c. ?)
+    -- the end
+    (λ c. ?)
+    (λ c. naming-all (c .before .loop .inv) (omega arith)))
