@@ -73,11 +73,11 @@ module _ (f : RuleFile) (W : WellFormed (f .table) (f .tbox) (f .wanted)) (N : N
   runOf = run (fileProblem f) c
 
   -- the procedure's example with every row that holds
-  abbrev listed : Example → Example
-  listed p = listing (f .table) p
+  abbrev filled : Example → Example
+  filled p = listing (f .table) p
 
   -- its world is the procedure's, so it is a model too
-  shows-of : (g : Graph) (p : Example) → ExampleRight (fileProblem f) g p → Shows f (listed p)
+  shows-of : (g : Graph) (p : Example) → ExampleRight (fileProblem f) g p → Shows f (filled p)
   shows-of g p R =
       let same = sym (world-listing (f .table) p) in
       record {
@@ -87,11 +87,11 @@ module _ (f : RuleFile) (W : WellFormed (f .table) (f .tbox) (f .wanted)) (N : N
 
   -- a run has one result and a graph one example
   placed-of : (g : Graph) → runOf ≡ reached g → (p : Example) → example (f .table) g ≡ some p
-      → (h : Graph) → runOf ≡ reached h → (q : Example) → example (f .table) h ≡ some q → Keeps (f .table) q (listed p)
+      → (h : Graph) → runOf ≡ reached h → (q : Example) → example (f .table) h ≡ some q → Keeps (f .table) q (filled p)
   placed-of g e p s h d q r =
       let graphs : g ≡ h = cc in
       let examples : p ≡ q = cc in
-      subst (λ (y : Example). Keeps (f .table) y (listed p)) examples (listing-keeps (f .table) p)
+      subst (λ (y : Example). Keeps (f .table) y (filled p)) examples (listing-keeps (f .table) p)
 
   -- a run makes no more nodes than there are places
   nodes-fit : (g : Graph) → runOf ≡ reached g → nodeCount g ≤ mostRecords
@@ -100,7 +100,7 @@ module _ (f : RuleFile) (W : WellFormed (f .table) (f .tbox) (f .wanted)) (N : N
       let E : Ended S g = subst (λ (r : Result). Sure (Ended S) r) e (run-ends S) in
       omega (arith, E .inv .fits)
 
-  backed : (g : Graph) → runOf ≡ reached g → (p : Example) → example (f .table) g ≡ some p → ExampleRight (fileProblem f) g p → Backed f l (used g) (listed p)
+  backed : (g : Graph) → runOf ≡ reached g → (p : Example) → example (f .table) g ≡ some p → ExampleRight (fileProblem f) g p → Backed f l (used g) (filled p)
   unfolding listing
   backed g e p s R = record {
     shows = shows-of g p R;
@@ -116,9 +116,9 @@ module _ (f : RuleFile) (W : WellFormed (f .table) (f .tbox) (f .wanted)) (N : N
 
   can-backed : (g : Graph) → runOf ≡ reached g → (p : Example) → example (f .table) g ≡ some p → ExampleRight (fileProblem f) g p → Backs f l (answerCan l (used g) (shown (f .table) g))
   unfolding answerCan
-  can-backed g e p s R = subst (λ (o : Option Example). Backs f l (answerCan l (used g) o)) (sym (shown-some (f .table) g p s)) (go (fits l (listed p)) refl)
+  can-backed g e p s R = subst (λ (o : Option Example). Backs f l (answerCan l (used g) o)) (sym (shown-some (f .table) g p s)) (go (fits l (filled p)) refl)
     where
-      go : (b : Bool) → fits l (listed p) ≡ b → Backs f l (elim b [ true ↦ can (used g) (listed p) | false ↦ tooLong (listed p) ])
+      go : (b : Bool) → fits l (filled p) ≡ b → Backs f l (elim b [ true ↦ can (used g) (filled p) | false ↦ tooLong (filled p) ])
       go true q = backed g e p s R
       go false q = (shows-of g p R, listing-lists f p, q)
 
