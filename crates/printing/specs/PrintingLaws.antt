@@ -15,9 +15,9 @@ use lib.Seq.{sets, length-sets, set-out, length-take-le, take-all, take-length, 
 use borrow.Author.Tests.{eqb-true, eqb-false, eq-eqb, ne-eqb}
 use Rattle.rulefile.specs.Format.{Bytes}
 use Rattle.words.specs.Words.{overwrite}
+use Rattle.evaluation.specs.Layout.{linkAt}
 use Rattle.run.specs.Run.{Lengths, Numbers}
 use Rattle.run.specs.RunLaws.{Room}
-use Rattle.evaluation.specs.Layout.{linkAt}
 use Rattle.run.specs.Printed.{ascii, digit, hexadecimal, decimal, spaced, line, elementLine, linkLine, elementLines, linkLines, usedLine, refusedLine, canLines, cannotLines, printed}
 use Rattle.run.specs.PrintedLaws.{decimal-last, decimal-more, length-decimal-word, hexadecimal-more}
 use Rattle.printing.specs.Printing.{Wrote, Pieces, Prints}

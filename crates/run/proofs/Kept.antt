@@ -15,13 +15,16 @@ use Rattle.rulefile.specs.Format.{Bytes, RuleFile, refused, accepted, reading}
 use Rattle.procedure.specs.Graph.{Area, noPlace}
 use Rattle.procedure.specs.Tableau.{run}
 use Rattle.procedure.specs.Example.{Example, worldOf}
+use Rattle.words.specs.Words.{overwrite}
 use Rattle.words.specs.Sizes.{setSize, linkSize}
-use Rattle.run.specs.Run.{Areas, Lengths, lengths, capacity, fileProblem, Answer, refusedFile, short, cannot, can, tooLong, undefined, fits, answerResult, refusedWith}
+use Rattle.evaluation.specs.Layout.{elementBytes, linkBytes}
+use Rattle.run.specs.Run.{Areas, Lengths, lengths, capacity, fileProblem, Used, Answer, refusedFile, short, cannot, can, tooLong, undefined, fits, answerResult, refusedWith}
 use Rattle.run.specs.Run.{numbers, answer, areasAfter}
-use Rattle.run.specs.Claim.{Shows}
+use Rattle.run.specs.Claim.{Shows, Lists, Keeps}
+use Rattle.run.specs.ExampleBytes.{exampleIn}
 use Rattle.run.specs.ExampleBytesLaws.{example-back}
 use Rattle.run.specs.Promise.{Right, Promise}
-use Rattle.run.proofs.Verdict.{Backs, answer-accepted, answer-refused, answer-backed}
+use Rattle.run.proofs.Verdict.{Backed, Backs, answer-accepted, answer-refused, answer-backed}
 
 -- ---- an accepted file
 
@@ -47,6 +50,11 @@ module _ (f : RuleFile) (before : Areas) where
   abbrev NoPlaceIs : Answer → Type 0
   NoPlaceIs a = (r : Area) → run (fileProblem f) (capacity l) ≡ noPlace r → a ≡ short r
 
+  -- the example that is read from the areas is the one that was written there
+  read-back : (u : Used) (x : Example) → Backed f l u x
+      → x ≡ exampleIn (overwrite (elementBytes (x .elements)) (before .elements)) (overwrite (linkBytes (x .links)) (before .links)) (length (x .elements)) (length (x .links))
+  read-back u x B = sym (example-back x (before .elements) (before .links) (B .sets) (B .ends))
+
   right-of : (a : Answer) → Backs f l a → NoPlaceIs a → Right f l (numbers a) (areasAfter a before)
   unfolding numbers areasAfter
   right-of (cannot u) B P = record {
@@ -58,6 +66,8 @@ module _ (f : RuleFile) (before : Areas) where
     canOnly = λ d m. absurd (B m);
     tooLong = λ e. absurd (omega (arith, e));
     example = λ e. absurd (omega (arith, e));
+    lists = λ e. absurd (omega (arith, e));
+    placed = λ e. absurd (omega (arith, e));
   }
   right-of (can u x) B P = record {
     short = λ e. absurd (omega (arith, e));
@@ -67,7 +77,9 @@ module _ (f : RuleFile) (before : Areas) where
     can = λ s. model-of f x (B .shows);
     canOnly = λ d m. inl refl;
     tooLong = λ e. absurd (omega (arith, e));
-    example = λ e. subst (Shows f) (sym (example-back x (before .elements) (before .links) (B .sets) (B .ends))) (B .shows);
+    example = λ e. subst (Shows f) (read-back u x B) (B .shows);
+    lists = λ e. subst (Lists f) (read-back u x B) (B .lists);
+    placed = λ e g r p s. subst (Keeps (f .table) p) (read-back u x B) (B .placed g r p s);
   }
   right-of (tooLong x) B P = record {
     short = λ e. absurd (omega (arith, e));
@@ -76,8 +88,10 @@ module _ (f : RuleFile) (before : Areas) where
     cannotOnly = λ d n. absurd (n (model-of f x (B .0)));
     can = λ s. model-of f x (B .0);
     canOnly = λ d m. inr refl;
-    tooLong = λ e. unfit l x (B .1);
+    tooLong = λ e. unfit l x (B .2);
     example = λ e. absurd (omega (arith, e));
+    lists = λ e. absurd (omega (arith, e));
+    placed = λ e. absurd (omega (arith, e));
   }
   right-of (short a) B P = record {
     short = λ e. (a, B);
@@ -88,6 +102,8 @@ module _ (f : RuleFile) (before : Areas) where
     canOnly = λ d m. absurd (d refl);
     tooLong = λ e. absurd (omega (arith, e));
     example = λ e. absurd (omega (arith, e));
+    lists = λ e. absurd (omega (arith, e));
+    placed = λ e. absurd (omega (arith, e));
   }
   right-of (refusedFile n) B P = absurd B
   right-of undefined B P = absurd B

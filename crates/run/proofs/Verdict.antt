@@ -10,11 +10,11 @@ use mathlib.Core.Option.{Option, some}
 use Prim.Native.Nat.{ℕ, _^_, _≤_, _<_}
 use native.Mathlib.Omega.{arith}
 use lib.ListN.{length}
-use lib.Pow.{pow-mono}
 use Rattle.concepts.specs.Tests.{impossible}
 use Rattle.concepts.specs.Concept.{WellFormed, Normal}
 use Rattle.concepts.specs.RowSet.{RowSet}
-use Rattle.meaning.specs.Meaning.{Model}
+use Rattle.meaning.specs.Meaning.{World, Model, finite, Obeys, Member}
+use Rattle.meaning.specs.Given.{RoleLink}
 use Rattle.rulefile.specs.Format.{Bytes, RuleFile, Reading, refused, accepted, reading}
 use Rattle.decoding.specs.Decoding.{ruleKinds}
 use Rattle.rulefile.specs.FormatLaws.{accepted-admitted, accepted-normal}
@@ -23,23 +23,25 @@ use Rattle.procedure.specs.Status.{Status, unset, «open», sat, unsat, toosmal
 use Rattle.procedure.specs.Graph.{Graph, Capacity, Result, reached, noPlace, outOfFuel, nodeAt, nodeCount}
 use Rattle.procedure.specs.GraphLaws.{Sure}
 use Rattle.procedure.specs.Tableau.{run}
-use Rattle.meaning.specs.Given.{RoleLink}
-use Rattle.procedure.specs.Example.{Example, worldOf}
+use Rattle.procedure.specs.Example.{Example, example, worldOf}
 use Rattle.procedure.proofs.Bare.{bare}
 use Rattle.procedure.proofs.Whole.{Ended, run-ends}
 use Rattle.procedure.proofs.Correct.{no-model, example-there, example-obeys, example-member, root-set, no-fuel}
 use Rattle.procedure.proofs.Model.{ExampleRight}
 use Rattle.words.specs.Sizes.{mostRecords}
-use Rattle.run.specs.Run.{Lengths, capacity, fileProblem, Used, used, Answer, refusedFile, short, cannot, can, tooLong, undefined, fits, answerCan, answerRoot}
-use Rattle.run.specs.Run.{answerResult, answerReading, answer}
-use Rattle.run.specs.Claim.{Shows, Claim, SaysCan}
 use Rattle.evaluation.specs.LayoutLaws.{LinkFits}
+use Rattle.run.specs.Run.{Lengths, capacity, fileProblem, listing, shown, Used, used, Answer, refusedFile, short, cannot, can, tooLong, undefined, fits, answerCan, answerRoot}
+use Rattle.run.specs.Run.{answerResult, answerReading, answer}
+use Rattle.run.specs.Claim.{Shows, Lists, Keeps, Claim, SaysCan}
+use Rattle.run.specs.ListingLaws.{length-listing, world-listing, listing-keeps, listing-lists, listing-lt, shown-some}
 
 -- ---- what backs an answer
 
--- the example is a model, no larger than the graph, and each of its numbers fits its field
-pub record Backed (f : RuleFile) (u : Used) (x : Example) : Type 0 where
+-- the example is a model and lists what holds; it is the procedure's, no larger than the graph, and each of its numbers fits its field
+pub record Backed (f : RuleFile) (l : Lengths) (u : Used) (x : Example) : Type 0 where
   pub shows : Shows f x
+  pub lists : Lists f x
+  pub placed : (g : Graph) → run (fileProblem f) (capacity l) ≡ reached g → (p : Example) → example (f .table) g ≡ some p → Keeps (f .table) p x
   pub few-elements : length (x .elements) ≤ u .nodes
   pub few-links : length (x .links) ≤ u .edges
   pub sets : (s : RowSet) → List·Memᴰ s (x .elements) → s < 2 ^ 64
@@ -47,16 +49,16 @@ pub record Backed (f : RuleFile) (u : Used) (x : Example) : Type 0 where
 
 abbrev pub Backs : RuleFile → Lengths → Answer → Type 0
 Backs f l (cannot u) = Model (f .table) (f .tbox) (f .wanted) → ⊥
-Backs f l (can u x) = Backed f u x
-Backs f l (tooLong x) = Shows f x × (fits l x ≡ false)
+Backs f l (can u x) = Backed f l u x
+Backs f l (tooLong x) = Shows f x × Lists f x × (fits l x ≡ false)
 Backs f l (short a) = run (fileProblem f) (capacity l) ≡ noPlace a
 Backs f l (refusedFile n) = ⊥
 Backs f l undefined = ⊥
 
 claimed : (f : RuleFile) (l : Lengths) (a : Answer) → Backs f l a → Claim f a
 claimed f l (cannot u) B = B
-claimed f l (can u x) B = (B .shows, B .few-elements, B .few-links)
-claimed f l (tooLong x) B = B .0
+claimed f l (can u x) B = (B .shows, B .lists, B .few-elements, B .few-links)
+claimed f l (tooLong x) B = (B .0, B .1)
 claimed f l (short a) B = tt
 claimed f l (refusedFile n) B = B
 claimed f l undefined B = B
@@ -70,11 +72,26 @@ module _ (f : RuleFile) (W : WellFormed (f .table) (f .tbox) (f .wanted)) (N : N
   abbrev runOf : Result
   runOf = run (fileProblem f) c
 
-  shows-of : (g : Graph) (x : Example) → ExampleRight (fileProblem f) g x → Shows f x
-  shows-of g x R = record {
-    obeys = example-obeys (f .table) c (f .tbox) (f .wanted) W N g x R;
-    member = example-member (f .table) c (f .tbox) (f .wanted) W N g x R;
-  }
+  -- the procedure's example with every row that holds
+  abbrev filled : Example → Example
+  filled p = listing (f .table) p
+
+  -- its world is the procedure's, so it is a model too
+  shows-of : (g : Graph) (p : Example) → ExampleRight (fileProblem f) g p → Shows f (filled p)
+  shows-of g p R =
+      let same = sym (world-listing (f .table) p) in
+      record {
+        obeys = subst (λ (U : World). Obeys (finite U) (f .table) (f .tbox)) same (example-obeys (f .table) c (f .tbox) (f .wanted) W N g p R);
+        member = subst (λ (U : World). Member (finite U) (f .table) (f .wanted) 0) same (example-member (f .table) c (f .tbox) (f .wanted) W N g p R);
+      }
+
+  -- a run has one result and a graph one example
+  placed-of : (g : Graph) → runOf ≡ reached g → (p : Example) → example (f .table) g ≡ some p
+      → (h : Graph) → runOf ≡ reached h → (q : Example) → example (f .table) h ≡ some q → Keeps (f .table) q (filled p)
+  placed-of g e p s h d q r =
+      let graphs : g ≡ h = cc in
+      let examples : p ≡ q = cc in
+      subst (λ (y : Example). Keeps (f .table) y (filled p)) examples (listing-keeps (f .table) p)
 
   -- a run makes no more nodes than there are places
   nodes-fit : (g : Graph) → runOf ≡ reached g → nodeCount g ≤ mostRecords
@@ -83,37 +100,37 @@ module _ (f : RuleFile) (W : WellFormed (f .table) (f .tbox) (f .wanted)) (N : N
       let E : Ended S g = subst (λ (r : Result). Sure (Ended S) r) e (run-ends S) in
       omega (arith, E .inv .fits)
 
-  backed : (g : Graph) → runOf ≡ reached g → (x : Example) → ExampleRight (fileProblem f) g x → Backed f (used g) x
-  backed g e x R = record {
-    shows = shows-of g x R;
-    few-elements = R .few-elements;
+  backed : (g : Graph) → runOf ≡ reached g → (p : Example) → example (f .table) g ≡ some p → ExampleRight (fileProblem f) g p → Backed f l (used g) (filled p)
+  unfolding listing
+  backed g e p s R = record {
+    shows = shows-of g p R;
+    lists = listing-lists f p;
+    placed = placed-of g e p s;
+    few-elements = omega (arith, R .few-elements, length-listing (f .table) p);
     few-links = R .few-links;
-    sets = λ s m. omega (arith, R .element-rows s m, pow-le few);
+    sets = listing-lt (f .table) p few;
     ends = λ k m.
-        let (p, q, r) = R .link-ends k m in
+        let (from, role, to) = R .link-ends k m in
         (omega (arith, R .few-elements, nodes-fit g e), omega arith, omega (arith, R .few-elements, nodes-fit g e));
   }
-    where
-      pow-le : length (f .table) ≤ 64 → 2 ^ length (f .table) ≤ 2 ^ 64
-      pow-le h = pow-mono h
 
-  can-backed : (g : Graph) → runOf ≡ reached g → (x : Example) → ExampleRight (fileProblem f) g x → Backs f l (answerCan l (used g) (some x))
+  can-backed : (g : Graph) → runOf ≡ reached g → (p : Example) → example (f .table) g ≡ some p → ExampleRight (fileProblem f) g p → Backs f l (answerCan l (used g) (shown (f .table) g))
   unfolding answerCan
-  can-backed g e x R = go (fits l x) refl
+  can-backed g e p s R = subst (λ (o : Option Example). Backs f l (answerCan l (used g) o)) (sym (shown-some (f .table) g p s)) (go (fits l (filled p)) refl)
     where
-      go : (b : Bool) → fits l x ≡ b → Backs f l (elim b [ true ↦ can (used g) x | false ↦ tooLong x ])
-      go true q = backed g e x R
-      go false q = (shows-of g x R, q)
+      go : (b : Bool) → fits l (filled p) ≡ b → Backs f l (elim b [ true ↦ can (used g) (filled p) | false ↦ tooLong (filled p) ])
+      go true q = backed g e p s R
+      go false q = (shows-of g p R, listing-lists f p, q)
 
   root-backed : (g : Graph) → runOf ≡ reached g → (v : Status) → nodeAt g 0 .status ≡ v → Backs f l (answerRoot v l (f .table) g)
   unfolding answerRoot
   root-backed g e unset q = root-set (f .table) c (f .tbox) (f .wanted) W N g e q
   root-backed g e sat q =
-      let (x, p, R) = example-there (f .table) c (f .tbox) (f .wanted) W N g e false (λ w. impossible cc) (rw q tt) in
-      subst (λ (o : Option Example). Backs f l (answerCan l (used g) o)) (sym p) (can-backed g e x R)
+      let (p, s, R) = example-there (f .table) c (f .tbox) (f .wanted) W N g e false (λ w. impossible cc) (rw q tt) in
+      can-backed g e p s R
   root-backed g e «open» q =
-      let (x, p, R) = example-there (f .table) c (f .tbox) (f .wanted) W N g e true (λ w. rw q tt) (rw q tt) in
-      subst (λ (o : Option Example). Backs f l (answerCan l (used g) o)) (sym p) (can-backed g e x R)
+      let (p, s, R) = example-there (f .table) c (f .tbox) (f .wanted) W N g e true (λ w. rw q tt) (rw q tt) in
+      can-backed g e p s R
   root-backed g e unsat q = no-model (f .table) c (f .tbox) (f .wanted) W N g e (inl q)
   root-backed g e toosmall q = no-model (f .table) c (f .tbox) (f .wanted) W N g e (inr q)
 
@@ -150,7 +167,7 @@ can-model b l q = by-reading (reading b) refl
   where
     model-of : (f : RuleFile) (a : Answer) → Claim f a → SaysCan a → Model (f .table) (f .tbox) (f .wanted)
     model-of f (can u x) C s = record { world = worldOf (f .table) x; obeys = C .0 .obeys; element = 0; member = C .0 .member }
-    model-of f (tooLong x) C s = record { world = worldOf (f .table) x; obeys = C .obeys; element = 0; member = C .member }
+    model-of f (tooLong x) C s = record { world = worldOf (f .table) x; obeys = C .0 .obeys; element = 0; member = C .0 .member }
     model-of f (cannot u) C s = absurd s
     model-of f (short a) C s = absurd s
     model-of f (refusedFile n) C s = absurd s

@@ -7,6 +7,7 @@ use lib.ListN.{length}
 use Rattle.concepts.specs.Lists.{range, select, any, every, consAnswer, answers, first}
 use Rattle.concepts.specs.Role.{inverse}
 use Rattle.concepts.specs.RowSet.{RowSet, mem, single, union, fromList, members}
+use Rattle.meaning.specs.Given.{RoleLink, listed}
 use Rattle.rulefile.specs.Format.{Bytes, badLength, badMark, badCounts, badPlace, badRow, badArgument, sameRow, repeated, badRule, isName, checks, refusal, readingOf}
 use Rattle.decoding.specs.Decoding.{ofKind, decode}
 use Rattle.procedure.specs.Status.{branchTable, stateTable, entry, foldStatus}
@@ -18,10 +19,10 @@ use Rattle.procedure.specs.Tableau.{foldChildren, putAlternatives, judgeLinked,
 use Rattle.procedure.specs.Tableau.{putWithin, put, updateParents, updateChanged, updateWithin, update, successor, putSuccessors, putKit, expandState, expandDisj, expandConj}
 use Rattle.procedure.specs.Tableau.{expand, loopWithin, run}
 use Rattle.procedure.specs.Example as X
-use Rattle.meaning.specs.Given.{RoleLink}
-use Rattle.procedure.specs.Example.{firstChild, liveChild, descendBy, descendWithin, descend, position, meet, walkRows, rowsOf, walkWithin, walk, example}
+use Rattle.procedure.specs.Example.{firstChild, liveChild, descendBy, descendWithin, descend, position, meet, walkRows, rowsOf, walkWithin, walk, example, worldOf}
 use Rattle.words.specs.Sizes.{nodeSize, edgeSize, alternativeSize}
-use Rattle.run.specs.Run.{Lengths, Used, Answer, refusedFile, short, cannot, can, fits, answerCan, answerRoot, answerResult, answerReading, answer}
+use Rattle.evaluation.specs.Evaluation.{testBelow, tested, rowsAt, evaluated}
+use Rattle.run.specs.Run.{Lengths, listing, shown, Used, Answer, refusedFile, short, cannot, can, fits, answerCan, answerRoot, answerResult, answerReading, answer}
 
 pub record KnownRun : Type 0 where
   pub file : Bytes
@@ -64,7 +65,7 @@ knownRuns =
     ∷ record { file = written (row 1 0 0 0 ∷ row 2 0 0 0 ∷ row 3 0 0 1 ∷ []) [] 2; lent = program; expected = cannot (counts 3 2 0) }
     ∷ record { file = written (row 1 0 0 0 ∷ row 6 0 0 0 ∷ []) (1 ∷ []) 0; lent = program; expected = can (counts 4 4 0) (showing (3 ∷ []) (link 0 0 0 ∷ [])) }
     ∷ record { file = written (row 1 0 0 0 ∷ row 2 0 0 0 ∷ row 5 1 0 0 ∷ row 6 0 2 0 ∷ row 3 0 1 3 ∷ []) [] 4; lent = program; expected = cannot (counts 6 5 1) }
-    ∷ record { file = eightNodes; lent = program; expected = can (counts 8 7 1) (showing (5 ∷ 2 ∷ []) (link 0 0 1 ∷ [])) }
+    ∷ record { file = eightNodes; lent = program; expected = can (counts 8 7 1) (showing (7 ∷ 2 ∷ []) (link 0 0 1 ∷ [])) }
     ∷ record { file = eightNodes; lent = lend 7 4096 4096; expected = short nodeArea }
     ∷ record { file = eightNodes; lent = lend 1024 6 4096; expected = short edgeArea }
     ∷ record { file = eightNodes; lent = lend 1024 4096 0; expected = short alternativeArea }
@@ -78,5 +79,5 @@ unfolding knownRuns written flatten range select any every consAnswer answers fi
     lacking existentials _>>=_ forEach addNode addEdge hasAlternative addAlternative children parents alternativesOf lowest findState lowestUnset foldChildren putAlternatives
     judgeLinked judgeBy judge joinAlternatives linkTo linkFound linkSpecial putSpecial putNode putBy putWithin put updateParents updateChanged updateWithin update successor
     putSuccessors putKit expandState expandDisj expandConj expand loopWithin run X._>>=_ firstChild liveChild descendBy descendWithin descend position meet walkRows rowsOf
-    walkWithin walk example fits answerCan answerRoot answerResult answerReading answer mathlib.Core.List.zip mathlib.Core.List.zipWith
+    walkWithin walk example worldOf listed testBelow tested rowsAt evaluated listing shown fits answerCan answerRoot answerResult answerReading answer mathlib.Core.List.zip mathlib.Core.List.zipWith
 known-runs = refl

@@ -4,8 +4,7 @@
 -- Assumes nothing.
 use mathlib.Core.Path.{_≡_, refl, sym, ap, _∙_, subst}
 use mathlib.Core.List.{List·Memᴰ}
-use mathlib.Core.Logic.{inl, inr}
-use mathlib.Core.Option.{Option, none, some}
+use mathlib.Core.Option.{some}
 use Prim.Native.Nat.{ℕ, _^_, _≤_, _<_}
 use native.Mathlib.Decide.{decLt}
 use native.Mathlib.Omega.{arith}
@@ -15,7 +14,7 @@ use lib.Pow.{pow-mono}
 use Rattle.concepts.specs.Tests.{and-both, and-make, same-test}
 use Rattle.concepts.specs.Lists.{range}
 use Rattle.concepts.specs.ListLaws.{map-mem}
-use Rattle.concepts.specs.Concept.{Concept, atomic, Table, conceptAt}
+use Rattle.concepts.specs.Concept.{Table}
 use Rattle.concepts.specs.RowSet.{RowSet, mem, empty}
 use Rattle.concepts.specs.RowSetLaws.{mem-empty}
 use Rattle.meaning.specs.Meaning.{Holds, World, finite}
@@ -23,18 +22,21 @@ use Rattle.rulefile.specs.Format.{RuleFile}
 use Rattle.procedure.specs.Graph.{Graph}
 use Rattle.procedure.specs.Example.{Example, example, worldOf}
 use Rattle.procedure.specs.ExampleLaws.{named-in, named-out}
-use Rattle.evaluation.specs.Evaluation.{tested, testBelow, rowsAt, evaluated}
+use Rattle.evaluation.specs.Evaluation.{tested, rowsAt, evaluated}
 use Rattle.evaluation.specs.EvaluationLaws.{tested-holds, holds-tested, tested-atomic, mem-rowsAt, rowsAt-lt, length-evaluated, getD-evaluated}
 use Rattle.run.specs.Run.{listing, shown}
 use Rattle.run.specs.Claim.{Lists, Keeps}
 
 module _ (t : Table) (x : Example) where
+  -- the world of the example
   abbrev W : World
   W = worldOf t x
 
-  -- the set of element d
+  -- what element d lists
   abbrev setAt : ℕ → RowSet
   setAt d = getD (listing t x .elements) d empty
+
+  -- ---- how many elements
 
   world-size : W .size ≡ length (x .elements)
   unfolding worldOf
@@ -44,16 +46,18 @@ module _ (t : Table) (x : Example) where
   unfolding listing
   length-listing = length-evaluated W t ∙ world-size
 
+  -- it lists the rows that hold
   set-is : (d : ℕ) → d < length (x .elements) → setAt d ≡ rowsAt W t d
   unfolding listing
   set-is d h = getD-evaluated W t d empty (omega (arith, world-size))
 
-  -- beyond the elements nothing is in a set
+  -- past the elements nothing is in a set
   none-past : {A : Type 0} (y : Example) (d k : ℕ) → length (y .elements) ≤ d → T (mem k (getD (y .elements) d empty)) → A
   none-past y d k h m = absurd (rw (mem-empty k) at (rw (List·getD-eq-default (y .elements) empty h) at m))
 
   -- ---- names
 
+  -- a name whose row is listed is a name of the world
   named-listed : (a d : ℕ) → T (worldOf t (listing t x) .named a d) → T (W .named a d)
   named-listed a d h = elim (decLt d (length (x .elements))) [
     | yes inside ↦
@@ -65,6 +69,7 @@ module _ (t : Table) (x : Example) where
         none-past (listing t x) d k (omega (arith, length-listing)) m
   ]
 
+  -- and the row of a name of the world is listed
   named-placed : (a d : ℕ) → T (W .named a d) → T (worldOf t (listing t x) .named a d)
   named-placed a d h = elim (decLt d (length (x .elements))) [
     | yes inside ↦

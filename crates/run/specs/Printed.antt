@@ -10,10 +10,10 @@ use Prim.Native.String.{String, [] as empty, _∷_ as _then_}
 use lib.Dec.{eqb, ltb}
 use Rattle.concepts.specs.Lists.{range}
 use Rattle.concepts.specs.RowSet.{RowSet}
-use Rattle.rulefile.specs.Format.{Bytes}
 use Rattle.meaning.specs.Given.{RoleLink}
-use Rattle.run.specs.Run.{Numbers}
+use Rattle.rulefile.specs.Format.{Bytes}
 use Rattle.evaluation.specs.Layout.{elementAt, linkAt}
+use Rattle.run.specs.Run.{Numbers}
 
 -- ---- words and numbers
 

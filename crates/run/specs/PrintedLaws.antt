@@ -14,9 +14,8 @@ use borrow.Author.Tests.{lt-ltb, le-ltb, ltb-true, ltb-false}
 use Rattle.concepts.specs.Lists.{range}
 use Rattle.rulefile.specs.Format.{Bytes}
 use Rattle.words.specs.Words.{leAt, littleEndian}
-use Rattle.evaluation.specs.Layout.{elementBytes, linkBytes}
+use Rattle.evaluation.specs.Layout.{elementAt, linkAt, elementBytes, linkBytes}
 use Rattle.run.specs.Run.{Numbers, refusedWith}
-use Rattle.evaluation.specs.Layout.{elementAt, linkAt}
 use Rattle.run.specs.Printed.{ascii, digit, hexadecimal, decimalWithin, decimal, spaced, line, elementLine, linkLine, elementLines, linkLines, usedLine, refusedLine}
 use Rattle.run.specs.Printed.{canLines, cannotLines, printed}
 
@@ -28,8 +27,8 @@ eightNodes = record { verdict = 1; refusal = 0; nodes = 8; edges = 7; alternativ
 
 -- its two elements and its link, whatever the areas hold after them
 pub printed-eight-nodes : (e l : Bytes)
-    → printed eightNodes (elementBytes (5 ∷ 2 ∷ []) ++ e) (linkBytes (record { from = 0; role = 0; to = 1 } ∷ []) ++ l)
-    ≡ ascii "CAN 2 1\nUSED 8 7 1\nE 0 0000000000000005\nE 1 0000000000000002\nL 0 0 1\n"
+    → printed eightNodes (elementBytes (7 ∷ 2 ∷ []) ++ e) (linkBytes (record { from = 0; role = 0; to = 1 } ∷ []) ++ l)
+    ≡ ascii "CAN 2 1\nUSED 8 7 1\nE 0 0000000000000007\nE 1 0000000000000002\nL 0 0 1\n"
 unfolding printed canLines usedLine linkLines elementLines linkLine elementLine line spaced decimal decimalWithin hexadecimal digit elementBytes linkBytes littleEndian leAt range flatten
 printed-eight-nodes e l = refl
 

@@ -37,11 +37,11 @@ lengths-programAreas = λ i. record {
 -- ---- the run that document 01 prints
 
 -- "prints for the eight-node run (20 bytes, no text)"
-pub programText-eight-nodes : programText eightNodes ≡ ascii "CAN 2 1\nUSED 8 7 1\nE 0 0000000000000005\nE 1 0000000000000002\nL 0 0 1\n"
+pub programText-eight-nodes : programText eightNodes ≡ ascii "CAN 2 1\nUSED 8 7 1\nE 0 0000000000000007\nE 1 0000000000000002\nL 0 0 1\n"
 unfolding programText numbers areasAfter knownRuns
 programText-eight-nodes =
     let answered = ap (answer eightNodes) lengths-programAreas ∙ ap (λ (all : List Answer). getD all 4 undefined) known-runs in
-    let elements : Bytes = drop (length (elementBytes (5 ∷ 2 ∷ []))) (programAreas .elements) in
+    let elements : Bytes = drop (length (elementBytes (7 ∷ 2 ∷ []))) (programAreas .elements) in
     let links : Bytes = drop (length (linkBytes (record { from = 0; role = 0; to = 1 } ∷ []))) (programAreas .links) in
     ap (λ (a : Answer). printedAfter a programAreas) answered ∙ printed-eight-nodes elements links
 

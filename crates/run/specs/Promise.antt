@@ -11,7 +11,7 @@ use Rattle.meaning.specs.Meaning.{Model}
 use Rattle.rulefile.specs.Format.{Bytes, RuleFile, refused, accepted, reading}
 use Rattle.procedure.specs.Graph.{Graph, Area, reached, noPlace}
 use Rattle.procedure.specs.Tableau.{run}
-use Rattle.procedure.specs.Example.{Example, example}
+use Rattle.procedure.specs.Example as Procedure
 use Rattle.words.specs.Sizes.{setSize, linkSize}
 use Rattle.run.specs.Run.{Areas, Lengths, lengths, capacity, fileProblem, Numbers, refusedWith, numbers, answer, areasAfter}
 use Rattle.run.specs.Claim.{Shows, Lists, Keeps}
@@ -47,7 +47,7 @@ pub record Right (f : RuleFile) (l : Lengths) (r : Numbers) (after : Areas) : Ty
   -- each element lists a row exactly if it holds there, in the world read from the bytes
   pub lists : r .verdict ≡ 1 → Lists f (exampleIn (after .elements) (after .links) (r .elements) (r .links))
   -- that world is the one of the procedure's example
-  pub placed : r .verdict ≡ 1 → (g : Graph) → run (fileProblem f) (capacity l) ≡ reached g → (x : Example) → example (f .table) g ≡ some x
+  pub placed : r .verdict ≡ 1 → (g : Graph) → run (fileProblem f) (capacity l) ≡ reached g → (x : Procedure.Example) → Procedure.example (f .table) g ≡ some x
       → Keeps (f .table) x (exampleIn (after .elements) (after .links) (r .elements) (r .links))
 
 -- ---- the whole promise: the call found the areas `before` and left them as `after`

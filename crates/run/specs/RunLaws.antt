@@ -16,9 +16,9 @@ use Rattle.rulefile.specs.Format.{Bytes, Reading, refused, accepted, reading}
 use Rattle.procedure.specs.Status.{Status, unset, «open», sat, unsat, toosmall}
 use Rattle.procedure.specs.Graph.{Graph, Result, reached, noPlace, outOfFuel, nodeAt}
 use Rattle.procedure.specs.Tableau.{run}
-use Rattle.procedure.specs.Example.{Example, example}
+use Rattle.procedure.specs.Example.{Example}
 use Rattle.words.specs.Sizes.{setSize, linkSize}
-use Rattle.run.specs.Run.{Lengths, capacity, fileProblem, Used, used, Answer, can, tooLong, fits, answerCan, answerRoot, answerResult, answerReading, answer, Numbers, numbers}
+use Rattle.run.specs.Run.{Lengths, capacity, fileProblem, shown, Used, used, Answer, can, tooLong, fits, answerCan, answerRoot, answerResult, answerReading, answer, Numbers, numbers}
 
 -- ---- what has room
 
@@ -57,8 +57,8 @@ module _ (l : Lengths) where
 
   answerRoot-room : (s : Status) (t : Table) (g : Graph) → RoomWithCan l (answerRoot s l t g)
   unfolding answerRoot numbers
-  answerRoot-room sat t g e = answerCan-room (used g) (example t g) e
-  answerRoot-room «open» t g e = answerCan-room (used g) (example t g) e
+  answerRoot-room sat t g e = answerCan-room (used g) (shown t g) e
+  answerRoot-room «open» t g e = answerCan-room (used g) (shown t g) e
   answerRoot-room unsat t g e = absurd (omega (arith, e))
   answerRoot-room toosmall t g e = absurd (omega (arith, e))
   answerRoot-room unset t g e = absurd (omega (arith, e))
