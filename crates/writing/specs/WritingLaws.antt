@@ -17,7 +17,7 @@ use Rattle.procedure.specs.Graph.{Node}
 use Rattle.procedure.specs.Example.{Example, worldOf}
 use Rattle.procedure.specs.ExampleLaws.{world-given}
 use Rattle.words.specs.Words.{putLe, littleEndian, overwrite}
-use Rattle.words.specs.WordLaws.{length-littleEndian, putLe-overwrite, overwrite-again}
+use Rattle.words.specs.WordLaws.{length-putLe, length-littleEndian, putLe-overwrite, overwrite-again}
 use Rattle.words.specs.Fields.{putFields}
 use Rattle.words.specs.FieldLaws.{length-putFields}
 use Rattle.words.specs.Sizes.{nodeSize, setSize, linkSize}
@@ -51,19 +51,18 @@ element-set n d p q = ap (λ (z : Node). z .rows) q ∙ ap (λ (z : ℕ). nodeIn
 -- the names of the elements below d are written
 pub record Naming (ws : List ℕ) (n : Bytes) (count : ℕ) (area : Bytes) (d : ℕ) (area′ : Bytes) : Type 0 where
   pub within : d ≤ count
+  pub size : length area′ ≡ length area
   pub holds : Holding area d (namesIn (tableOf ws) n) area′
 
 pub naming-none : {ws : List ℕ} {n : Bytes} {count : ℕ} {area : Bytes} → Naming ws n count area 0 area
-naming-none {ws} {n} {area = area} = record { within = omega arith; holds = hold-none area (namesIn (tableOf ws) n) }
+naming-none {ws} {n} {area = area} = record { within = omega arith; size = refl; holds = hold-none area (namesIn (tableOf ws) n) }
 
 module _ {ws : List ℕ} {n : Bytes} {count : ℕ} {area : Bytes} {d : ℕ} {area′ : Bytes} (N : Naming ws n count area d area′) where
-  pub naming-length : length area′ ≡ length area
-  naming-length = hold-length (N .holds)
-
   pub naming-more : {area″ : Bytes} {s r : RowSet} → Decoded ws → setSize * count ≤ length area → d < count → s ≡ setIn n d → r ≡ namesOf (tableOf ws) s
       → area″ ≡ putLe area′ (setSize * d) setSize r → Naming ws n count area (d + 1) area″
-  naming-more D room h hs hr e = record {
+  naming-more {r = r} D room h hs hr e = record {
     within = omega arith;
+    size = ap length e ∙ length-putLe area′ (setSize * d) setSize r ∙ N .size;
     holds = hold-more (N .holds) (omega arith) (names-lt D (setIn n d)) (e ∙ ap (putLe area′ (setSize * d) setSize) (hr ∙ ap (namesOf (tableOf ws)) hs));
   }
 

@@ -3,7 +3,7 @@
 use Prim.Native.Nat.{_-_}
 use native.Mathlib.Omega.{arith}
 use borrow.Author.Needs.{needs}
-use Rattle.writing.specs.WritingLaws.{element-fits, Naming, naming-none, naming-length, naming-more, naming-all}
+use Rattle.writing.specs.WritingLaws.{element-fits, Naming, naming-none, naming-more, naming-all}
 use Rattle.writing.proofs.write_names.Statement.{statement}
 use Rattle.writing.proofs.write_names.Tie as tie
 
@@ -24,10 +24,12 @@ write-names-spec =
     -- set_of(nodes, d)
     (λ c κs. let s : At tie.Start = search in let t : At tie.In-loop = search in element-fits (s .pre .1) (t .loop-test .taken))
     -- rowset::put(elements, SET_BYTES * d, settests::names(problem, placed))
-    (λ c. ?) (λ c κs. ?) (λ c κs. ?)
+    (λ c. omega arith) (λ c κs. search needs) (λ c κs. omega arith)
     -- d += 1, the loop again
-    (λ c. ?) (λ c. ?)
-    (λ c. ?)
+    (λ c. omega arith) (λ c. omega arith)
+    (λ c. let s : At tie.Start = search in let l : At tie.At-loop = search in let g : At tie.After-set-of = search in
+    let r : At tie.After-names = search in let p : At tie.After-put = search in
+    naming-more (l .loop .inv) (s .pre .0) (s .pre .1 .room) (omega arith) (g .set-of .ensures) (r .names .ensures) (p .put .ensures))
     -- the end
-    (λ c. ?)
+    (λ c. search needs)
     (λ c. naming-all (c .before .loop .inv) (omega arith)))
