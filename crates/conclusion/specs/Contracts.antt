@@ -10,9 +10,9 @@ use lib.ListN.{length}
 use Rattle.procedure.specs.Status.{Status, unset, «open», sat, unsat, toosmall}
 use Rattle.procedure.specs.Graph.{reached, noPlace, nodeAt}
 use Rattle.procedure.specs.Tableau.{run}
-use Rattle.procedure.specs.Example.{Example, example}
+use Rattle.procedure.specs.Example.{Example}
 use Rattle.words.specs.Sizes.{mostRecords}
-use Rattle.run.specs.Run.{Areas, lengths, Used, used, Answer, short, cannot, can, tooLong, answerCan, answerResult, areasAfter}
+use Rattle.run.specs.Run.{Areas, lengths, shown, Used, used, Answer, short, cannot, can, tooLong, answerCan, answerResult, areasAfter}
 use Rattle.records.specs.Areas.{Bytes}
 use Rattle.graph.specs.Graphs.{Work, work, graphOf, capacityOf, areaOf, Held}
 use Rattle.graph.specs.declared.Counts.{Counts}
@@ -95,7 +95,7 @@ pub record VerdictGives (ws : List ℕ) (w : Work) (r : Verdict) (w′ : Work) :
 abbrev pub ShowGives : List ℕ → (n e : Bytes) → Counts → (elements links : Bytes) → Decision → (elements′ links′ : Bytes) → Type 0
 ShowGives ws n e c elements links r elements′ links′ =
     (a : Bytes) (before : Areas) → before .elements ≡ elements → before .links ≡ links
-    → Decided (answerCan (lengths before) (used (graphOf (work n e a) c)) (example (tableOf ws) (graphOf (work n e a) c))) before r elements′ links′
+    → Decided (answerCan (lengths before) (used (graphOf (work n e a) c)) (shown (tableOf ws) (graphOf (work n e a) c))) before r elements′ links′
 
 -- ---- the decision
 

@@ -11,10 +11,9 @@ use Rattle.concepts.specs.Tests.{impossible}
 use Rattle.concepts.specs.Concept.{Table}
 use Rattle.procedure.specs.Status.{Status, unset, «open», sat, unsat, toosmall, isLive}
 use Rattle.procedure.specs.Graph.{Graph, nodeAt}
-use Rattle.procedure.specs.Example.{example}
 use Rattle.procedure.proofs.Can.{goodIf}
 use Rattle.procedure.proofs.Outcome.{finished-at, root-set}
-use Rattle.run.specs.Run.{Areas, areasOf, Lengths, lengths, used, Answer, cannot, answerCan, answerRoot, answerResult, areasAfter}
+use Rattle.run.specs.Run.{Areas, areasOf, Lengths, lengths, shown, used, Answer, cannot, answerCan, answerRoot, answerResult, areasAfter}
 use Rattle.problem.specs.Decoded.{tableOf, problemOf, Decoded}
 use Rattle.problem.specs.DecodedLaws.{decoded-posed}
 use Rattle.records.specs.Areas.{Bytes}
@@ -30,7 +29,7 @@ use Rattle.conclusion.specs.declared.Decision.the-variants.{Short, Canno
 
 -- ---- the answer by the root's status
 
-answer-can : (v : Status) (l : Lengths) (t : Table) (g : Graph) → goodRoot v ≡ true → answerRoot v l t g ≡ answerCan l (used g) (example t g)
+answer-can : (v : Status) (l : Lengths) (t : Table) (g : Graph) → goodRoot v ≡ true → answerRoot v l t g ≡ answerCan l (used g) (shown t g)
 unfolding answerRoot
 answer-can sat l t g h = refl
 answer-can «open» l t g h = refl
