@@ -1,7 +1,7 @@
 -- The ways through the loops over the elements, on plain values.
 --
--- In order: some elements changed and the others not yet (`mixed`); a loop that changes each set by itself; "all" and "some" before any link is followed; the loop that takes the names of each element for its rows of kinds 1 and 2;
--- its parts: the rows whose name is among the names, and the rows of both kinds.
+-- In order: some elements changed and the others not yet (`mixed`); a loop that changes each set by itself; "all" and "some" before any link is followed;
+-- the loop that takes the names of each element for its rows of kinds 1 and 2; its parts: the rows whose name is among the names, and the rows of both kinds.
 -- Assumes nothing.
 use mathlib.Core.Path.{_≡_, refl, sym, ap, ap₂, _∙_, subst}
 use mathlib.Core.Bool.{Bool, true, false, not, _&&_, _||_, cond}
@@ -92,7 +92,8 @@ module _ {change : RowSet → RowSet} {m : ℕ} {before : Bytes} where
 
 pub fill-none : {before : Bytes} {m k : ℕ} {all : Bool} → all ≡ false → FillGives before m k all before
 fill-none {k = k} {all} e = record {
-  holds = λ base f absent H. hold-same H (λ d h. sym (ap (λ (b : Bool). withRow k b (f d)) e ∙ set-ext (withRow k false (f d)) (f d) (λ j. mem-withRow k false (f d) j ∙ by-row f absent d j (ℕ-discrete j k))));
+  holds = λ base f absent H.
+      hold-same H (λ d h. sym (ap (λ (b : Bool). withRow k b (f d)) e ∙ set-ext (withRow k false (f d)) (f d) (λ j. mem-withRow k false (f d) j ∙ by-row f absent d j (ℕ-discrete j k))));
 }
   where
     by-row : (f : ℕ → RowSet) → Absent k f → (d j : ℕ) → Dec (j ≡ k) → cond (eqb j k) false (mem j (f d)) ≡ mem j (f d)
@@ -181,7 +182,9 @@ module _ {t : Table} {names rows : RowSet} where
 
   pub asking-all : {passed m : RowSet} → Asking t names rows passed m → m ≡ empty → Named t names rows passed
   asking-all A e = record {
-    is = λ j. A .is j ∙ ap (λ (y : Bool). (mem j rows && not y) && mem (leftOf (conceptAt t j)) names) (ap (mem j) e ∙ mem-empty j) ∙ ap (λ (y : Bool). y && mem (leftOf (conceptAt t j)) names) (and-all (mem j rows));
+    is = λ j.
+        let name = mem (leftOf (conceptAt t j)) names in
+        A .is j ∙ ap (λ (y : Bool). (mem j rows && not y) && name) (ap (mem j) e ∙ mem-empty j) ∙ ap (λ (y : Bool). y && name) (and-all (mem j rows));
   }
 
 -- ---- the rows of kinds 1 and 2

@@ -24,27 +24,7 @@ module _ (W : World) where
   -- ---- a concept
 
   module _ (h : ℕ → ℕ → Bool) (H : ℕ → ℕ → Type 0) where
-    -- what passes the test is so, where that is known of the rows
-    means-of : ((l e : ℕ) → T (h l e) → H l e) → ((l e : ℕ) → H l e → T (h l e)) → (c : Concept) (d : ℕ) → T (test W h c d) → Means (finite W) H c d
-    means-of to from (atomic a) d p = p
-    means-of to from (negated a) d p = p
-    means-of to from (conj l r) d p = let (a, b) = and-both (h l d) (h r d) p in (to l d a, to r d b)
-    means-of to from (disj l r) d p = elim (or-cases (h l d) (h r d) p) [ inl a ↦ inl (to l d a) | inr b ↦ inr (to r d b) ]
-    means-of to from (univ ρ l) d p = λ e inside way.
-        elim (or-cases (not (leads (finite W) ρ d e)) (h l e)
-        (every-mem (λ e. not (leads (finite W) ρ d e) || h l e) (range 0 (W .size)) e p (mem-range 0 (W .size) e (omega arith) (omega arith)))) [
-          | inl n ↦ absurd (T-not (leads (finite W) ρ d e) n way)
-          | inr a ↦ to l e a
-        ]
-    means-of to from (exist ρ l) d p =
-        let (e, m, q) = mem-any (λ e. leads (finite W) ρ d e && h l e) (range 0 (W .size)) p in
-        let (way, a) = and-both (leads (finite W) ρ d e) (h l e) q in
-        let (lo, hi) = range-mem 0 (W .size) e m in
-        (e, omega arith, way, to l e a)
-    means-of to from (neg l) d p = λ a. T-not (h l d) p (from l d a)
-    means-of to from (impl l r) d p = λ a. elim (or-cases (not (h l d)) (h r d) p) [ inl n ↦ absurd (T-not (h l d) n (from l d a)) | inr b ↦ to r d b ]
-
-    -- and what is so passes it
+    -- what is so passes the test, where that is known of the rows
     test-of : ((l e : ℕ) → T (h l e) → H l e) → ((l e : ℕ) → H l e → T (h l e)) → (c : Concept) (d : ℕ) → Means (finite W) H c d → T (test W h c d)
     test-of to from (atomic a) d p = p
     test-of to from (negated a) d p = p
@@ -65,6 +45,26 @@ module _ (W : World) where
       | inl a ↦ or-right (not (h l d)) (h r d) (from r d (p (to l d a)))
       | inr n ↦ or-left (not (h l d)) (h r d) n
     ]
+
+    -- and what passes it is so
+    means-of : ((l e : ℕ) → T (h l e) → H l e) → ((l e : ℕ) → H l e → T (h l e)) → (c : Concept) (d : ℕ) → T (test W h c d) → Means (finite W) H c d
+    means-of to from (atomic a) d p = p
+    means-of to from (negated a) d p = p
+    means-of to from (conj l r) d p = let (a, b) = and-both (h l d) (h r d) p in (to l d a, to r d b)
+    means-of to from (disj l r) d p = elim (or-cases (h l d) (h r d) p) [ inl a ↦ inl (to l d a) | inr b ↦ inr (to r d b) ]
+    means-of to from (univ ρ l) d p = λ e inside way.
+        elim (or-cases (not (leads (finite W) ρ d e)) (h l e)
+        (every-mem (λ e. not (leads (finite W) ρ d e) || h l e) (range 0 (W .size)) e p (mem-range 0 (W .size) e (omega arith) (omega arith)))) [
+          | inl n ↦ absurd (T-not (leads (finite W) ρ d e) n way)
+          | inr a ↦ to l e a
+        ]
+    means-of to from (exist ρ l) d p =
+        let (e, m, q) = mem-any (λ e. leads (finite W) ρ d e && h l e) (range 0 (W .size)) p in
+        let (way, a) = and-both (leads (finite W) ρ d e) (h l e) q in
+        let (lo, hi) = range-mem 0 (W .size) e m in
+        (e, omega arith, way, to l e a)
+    means-of to from (neg l) d p = λ a. T-not (h l d) p (from l d a)
+    means-of to from (impl l r) d p = λ a. elim (or-cases (not (h l d)) (h r d) p) [ inl n ↦ absurd (T-not (h l d) n (from l d a)) | inr b ↦ to r d b ]
 
   module _ (t : Table) where
     -- ---- a row

@@ -94,8 +94,9 @@ module _ (W : World) (t : Table) where
   pub known-start : (d names s : ℕ) → ((a : ℕ) → W .named a d ≡ mem a names) → Picked t (literal names) s → s ≡ known W t 0 d
   unfolding knownTest
   known-start d names s same P = set-ext s (known W t 0 d) (λ j.
+      let c = conceptAt t j in
       P .rows j
-      ∙ ap (λ (x : Bool). ltb j (length t) && x) (sym (start-row d names same j (conceptAt t j) refl) ∙ ap (λ (x : Bool). (x || isLiteral (conceptAt t j)) && tested W t j d) (sym (le-ltb j 0 (omega arith))))
+      ∙ ap (λ (x : Bool). ltb j (length t) && x) (sym (start-row d names same j c refl) ∙ ap (λ (x : Bool). (x || isLiteral c) && tested W t j d) (sym (le-ltb j 0 (omega arith))))
       ∙ sym (mem-known 0 d j))
 
   module _ (k d : ℕ) where

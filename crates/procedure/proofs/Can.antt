@@ -6,13 +6,11 @@ use mathlib.Core.Path.{_≡_, refl, sym, ap, _∙_, subst}
 use mathlib.Core.Bool.{Bool, true, false, not, _||_}
 use mathlib.Core.List.{List, [], _∷_}
 use mathlib.Core.Logic.{_⊎_, inl, inr, _≢_}
-use Prim.Native.Nat.{ℕ, zero, suc, _≤_, _<_, _^_}
+use Prim.Native.Nat.{ℕ, zero, suc, _≤_, _<_}
 use native.Mathlib.Nat.{not-suc-le-zero, le-of-suc-le-suc}
-use native.Mathlib.Decide.{decLt}
 use native.Mathlib.Omega.{arith}
 use lib.Dec.{T}
-use lib.ListN.{length, getD, List·getD-eq-default}
-use lib.Pow.{pow-pos}
+use lib.ListN.{length, getD}
 use Rattle.concepts.specs.Tests.{impossible}
 use Rattle.concepts.specs.ListLaws.{map-mem, mem-map}
 use Rattle.concepts.specs.Role.{inverse}
@@ -21,9 +19,9 @@ use Rattle.procedure.specs.Status.{Status, unset, «open», sat, unsat, 
 use Rattle.procedure.specs.StatusLaws.{branch-found, state-greatest, live-open}
 use Rattle.procedure.specs.SetTests.{existentials}
 use Rattle.procedure.specs.SetTestLaws.{no-clash, conj-done, disj-done, lacking-none}
-use Rattle.procedure.specs.Graph.{Link, unlinked, toState, lapsed, Graph, noNode, nodeAt, nodeCount, children}
+use Rattle.procedure.specs.Graph.{Link, unlinked, toState, lapsed, Graph, nodeAt, nodeCount, children}
 use Rattle.procedure.specs.GraphLaws.{Child}
-use Rattle.procedure.proofs.Setting.{Setting, rowCount}
+use Rattle.procedure.proofs.Setting.{Setting}
 use Rattle.procedure.proofs.Finished.{Saturated, Under, Answers, Finished}
 use Rattle.procedure.proofs.Invariant.{StateSays, SatSays, BranchSays, AnswerAll, Expanded, Linked, LinkShape, Inv, statuses, QuietLink, QuietOpen, QuietBy, QuietBut}
 use Rattle.procedure.proofs.Judge.{state-fact, branch-fact, branch-edge, link-edge}
@@ -191,12 +189,6 @@ module _ (S : Setting) (g : Graph) (I : Inv S g) (Q : QuietBut S None g) (b : Bo
 
   -- ---- all of it together
 
-  bounded : (x : ℕ) → nodeAt g x .rows < 2 ^ rowCount S
-  bounded x = elim (decLt x (nodeCount g)) [
-    | yes q ↦ I .fact x q .bounded
-    | no d ↦ rw (List·getD-eq-default (g .nodes) noNode {n = x} (omega arith)) (pow-pos (rowCount S))
-  ]
-
   pub run-finished : T (good (nodeAt g 0 .status)) → Finished (S .problem) g good
   run-finished t =
       let (h0, st0) = I .root in
@@ -213,7 +205,6 @@ module _ (S : Setting) (g : Graph) (I : Inv S g) (Q : QuietBut S None g) (b : Bo
         good-children = good-children;
         answers-length = λ x hx st d q. answer-length x (existentials (S .problem .table) (nodeAt g x .rows)) (children g x) (answered x hx st d q);
         answers = λ x i hx st d q h. answer-at x (existentials (S .problem .table) (nodeAt g x .rows)) (children g x) i (answered x hx st d q) h;
-        bounded = bounded;
         root = (h0, st0, state-fact S g I 0 h0 st0 .0 .link, t);
         root-child = (c, e, U .there, U .noState, U .pst, w);
       }

@@ -5,7 +5,7 @@ use mathlib.Core.Path.{_≡_}
 use mathlib.Core.Bool.{Bool, true, false, _||_}
 use mathlib.Core.List.{[], _∷_, List·Memᴰ}
 use mathlib.Core.Logic.{_⊎_, _≢_}
-use Prim.Native.Nat.{ℕ, _<_, _^_}
+use Prim.Native.Nat.{ℕ, _<_}
 use lib.Dec.{T}
 use lib.ListN.{length, getD}
 use Rattle.concepts.specs.Role.{inverse}
@@ -61,8 +61,6 @@ module _ (P : Problem) (g : Graph) where
         → length (children g x) ≡ length (existentials (P .table) (nodeAt g x .rows))
     pub answers : (x i : ℕ) → x < nodeCount g → nodeAt g x .isState ≡ true → x ≢ 0 → T (good (nodeAt g x .status)) → i < length (children g x)
         → Answers x (getD (existentials (P .table) (nodeAt g x .rows)) i (0, 0) .0) (getD (existentials (P .table) (nodeAt g x .rows)) i (0, 0) .1) (getD (children g x) i 0)
-    -- every set is one of rows of the table
-    pub bounded : (x : ℕ) → nodeAt g x .rows < 2 ^ length (P .table)
     -- the root
     pub root : (0 < nodeCount g) × (nodeAt g 0 .isState ≡ true) × (nodeAt g 0 .link ≡ unlinked) × T (good (nodeAt g 0 .status))
     pub root-child : (c : ℕ) × (children g 0 ≡ c ∷ []) × (c < nodeCount g) × (nodeAt g c .isState ≡ false) × (nodeAt g c .pst ≡ 0)

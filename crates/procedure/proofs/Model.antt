@@ -5,9 +5,9 @@
 -- Assumes nothing.
 use mathlib.Core.Path.{_≡_, sym, ap, subst, subst₂}
 use mathlib.Core.Bool.{Bool}
-use mathlib.Core.List.{map, List·Memᴰ, Memᴰ·of-map}
+use mathlib.Core.List.{map, List·Memᴰ}
 use mathlib.Core.Option.{some}
-use Prim.Native.Nat.{ℕ, _^_, _≤_, _<_}
+use Prim.Native.Nat.{ℕ, _≤_, _<_}
 use native.Mathlib.Omega.{arith}
 use lib.Dec.{T}
 use lib.ListN.{length, take, length-map}
@@ -38,8 +38,7 @@ pub record ExampleRight (P : Problem) (g : Graph) (x : Example) : Type 0 where
   -- its records are no more than the graph's, so they find place
   pub few-elements : length (x .elements) ≤ nodeCount g
   pub few-links : length (x .links) ≤ length (g .edges)
-  -- each number fits its field: a set has rows of the table, a link has a role code and goes between elements
-  pub element-rows : (s : RowSet) → List·Memᴰ s (x .elements) → s < 2 ^ length (P .table)
+  -- a link has a role code and goes between elements
   pub link-ends : (l : RoleLink) → List·Memᴰ l (x .links) → (l .from < length (x .elements)) × (l .role < 32) × (l .to < length (x .elements))
 
 -- the example that a walk leaves
@@ -91,7 +90,6 @@ module _ (P : Problem) (g : Graph) (good : Status → Bool) (codes : (k ρ l : �
     member = (nonempty, λ k m. holds k 0 (posed .wantedRows k m) nonempty (first k m));
     few-elements = omega (arith, written-size g w, right-few (P .table) g good w (W .right));
     few-links = omega (arith, W .few, share-le (λ e. e .from) (g .edges) (w .states) (W .right .distinct), whole);
-    element-rows = λ s m. let (y, n, e) = Memᴰ·of-map (λ y. nodeAt g y .rows) (w .states) m in subst (λ (u : RowSet). u < 2 ^ length (P .table)) e (F .bounded y);
     link-ends = λ l m. let (a, b, J) = W .right .joins l m in (omega (arith, written-size g w), J .code, omega (arith, written-size g w));
   }
     where

@@ -114,7 +114,6 @@ module _ (w : Work) (a : Bytes) (c : Counts) where
     good-children = F .good-children;
     answers-length = F .answers-length;
     answers = λ x i h s z q l. let A = F .answers x i h s z q l in record { under = under-bare (A .under); argument = A .argument; along = A .along };
-    bounded = F .bounded;
     root = F .root;
     root-child = F .root-child;
   }

@@ -41,11 +41,7 @@ fn write_names(problem: &[u64], nodes: &[u8], count: usize, elements: &mut [u8])
     let mut d = 0;
     while d < count {
         let placed = set_of(nodes, d);
-        rowset::put(
-            elements,
-            SET_BYTES * d,
-            settests::names(problem, placed),
-        );
+        rowset::put(elements, SET_BYTES * d, settests::names(problem, placed));
         d += 1;
     }
 }
