@@ -171,7 +171,9 @@ module _ {t : Table} {names rows : RowSet} where
     pub asking-in : {x : Bool} → x ≡ mem (leftOf (conceptAt t k)) names → x ≡ true → {more : RowSet} → more ≡ insert k passed → Asking t names rows more r
     asking-in hx hv e = record {
       inside = still-inside;
-      is = λ j. ap (mem j) e ∙ mem-insert j k passed ∙ ap (λ (y : Bool). y || mem j passed) (sym (and-all (eqb j k)) ∙ ap (λ (z : Bool). eqb j k && z) (sym hv)) ∙ asked-now hx j (eqb j k) refl;
+      is = λ j.
+          ap (mem j) e ∙ mem-insert j k passed ∙ ap (λ (y : Bool). y || mem j passed) (sym (and-all (eqb j k)) ∙ ap (λ (z : Bool). eqb j k && z) (sym hv))
+          ∙ asked-now hx j (eqb j k) refl;
     }
 
     pub asking-out : {x : Bool} → x ≡ mem (leftOf (conceptAt t k)) names → x ≡ false → {more : RowSet} → more ≡ passed → Asking t names rows more r

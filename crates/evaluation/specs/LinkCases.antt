@@ -53,8 +53,8 @@ there-held {left = left} f A h H = sym (A .is ∙ ap (mem left) (hold-get H h))
 
 module _ {before : Bytes} (d : ℕ) {e k left : ℕ} {all there : Bool} (A : There before e left there) where
   -- it tells more than is known
-  pub follow-changed : {r u : RowSet} {after : Bytes} → not (Bool·beq there all) ≡ true → k < width → u ≡ elementAt before d → r ≡ withRow k there u → after ≡ putLe before (setSize * d) setSize r
-      → FollowGives before d e k left all after
+  pub follow-changed : {r u : RowSet} {after : Bytes} → not (Bool·beq there all) ≡ true → k < width → u ≡ elementAt before d → r ≡ withRow k there u
+      → after ≡ putLe before (setSize * d) setSize r → FollowGives before d e k left all after
   follow-changed n hk hu hr ha = record {
     holds = λ base m f hd he H.
         let way = sym (differs all there) ∙ n in
