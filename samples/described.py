@@ -3,7 +3,7 @@
 In order: the kinds of row; the samples; which file each is in.
 
 A row is called by what it says, and other rows, the rules and the wanted row refer to it by these words. Its number is its place in
-the list. Nothing here checks a file: that is the engine's work, and three of the samples are to be refused.
+the list. Nothing here checks a file: that is the engine's work, and four of the samples are to be refused.
 """
 from dataclasses import dataclass
 
@@ -279,6 +279,18 @@ CLAIM = Sample(
     wanted="the claim is not true of it",
 )
 
+NAMELESS = Sample(
+    title="A kit in terms of itself: no row says which kind of part. Refused: row 0 names row 1.",
+    names=[],
+    roles=[HOLDS, FITTED],
+    rows={
+        "holds some part that is fitted to such a part": some_along("holds", "is fitted to some part that holds such a part"),
+        "is fitted to some part that holds such a part": some_along("is fitted to", "holds some part that is fitted to such a part"),
+    },
+    rules=[],
+    wanted="holds some part that is fitted to such a part",
+)
+
 UNCONVERTED = Sample(
     title="A draft that was not converted. Refused: rows 2 and 3 have kinds 9 and 8.",
     names=["peristaltic pump", "dosing pump"],
@@ -300,6 +312,7 @@ SAMPLES = {
     "seal.fit": SEAL,
     "questions.fit": QUESTIONS,
     "order.fit": ORDER,
+    "nameless.fit": NAMELESS,
     "edited.fit": EDITED,
     "unconverted.fit": UNCONVERTED,
     "hose.draft": HOSE,

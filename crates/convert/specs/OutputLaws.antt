@@ -18,7 +18,7 @@ use Rattle.concepts.specs.ListLaws.{mem-range, every-mem, least-below}
 use Rattle.decoding.specs.Decoding.{Kinds, draftKinds}
 use Rattle.rulefile.specs.Format.{Bytes, RuleFile, checks, Reading, refused, accepted, readingOf}
 use Rattle.rulefile.specs.Checks.{checkAt, refusesAt}
-use Rattle.rulefile.specs.CheckLaws.{reading-refused, reading-accepted}
+use Rattle.rulefile.specs.CheckLaws.{refused-number}
 use Rattle.run.specs.Printed.{ascii, line}
 use Rattle.run.specs.ProgramLaws.{reading-take}
 use Rattle.drafts.specs.Normalize.{normalized}
@@ -30,21 +30,6 @@ use Rattle.printing.specs.PrintingLaws.{wrote-size, wrote-start}
 use Rattle.convert.specs.Output.{outputOf, output, Outputs}
 
 -- ---- what is known of every conversion
-
--- "a refusal is never 0": the checks are numbered from 1 on
-number-some : (kinds : Kinds) (i : ℕ) → i < 9 → 0 < checkAt kinds i .number
-unfolding range every checks
-number-some kinds i h =
-    ltb→lt 0 (checkAt kinds i .number) (every-mem (λ k. ltb 0 (checkAt kinds k .number)) (range 0 9) i tt (mem-range 0 9 i (omega arith) h))
-
-refused-some : (kinds : Kinds) (b : Bytes) (n : ℕ) → readingOf kinds b ≡ refused n → 0 < n
-refused-some kinds b n e = elim (least-below (refusesAt kinds b) 9) [
-  | inl (i, h, p, r) ↦
-      let q = reading-refused kinds b i h p r in
-      let same : checkAt kinds i .number ≡ n = cc in
-      omega (arith, number-some kinds i h)
-  | inr p ↦ let q = reading-accepted kinds b p in impossible cc
-]
 
 -- a refusal has a number, and a file has room
 abbrev Sound : ℕ → Conversion → Type 0
@@ -62,7 +47,7 @@ conversion-sound draft room = go (draftReading draft) refl
         ltb-false room bytes (or-neither (ltb 4096 bytes) (ltb room bytes) (or-neither (ltb 64 (length (f .table))) (ltb 4096 bytes || ltb room bytes) e .1) .1)
 
     go : (r : Reading) → draftReading draft ≡ r → Sound room (conversionOf room r)
-    go (refused n) e = refused-some draftKinds draft n e
+    go (refused n) e = refused-number draftKinds draft n e .0
     go (accepted d) e = fits (normalized d) (tooLarge room (normalized d)) refl
 
 -- ---- a file is written

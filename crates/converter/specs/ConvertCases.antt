@@ -60,7 +60,7 @@ module _ {b : Bytes} {l : Layout} (L : Laid draftKinds b l) where
   laid-draft = record { passed = accepted-passed draftKinds b (L .file) (L .reads) }
 
   laid-admitted : Admitted (contents draftKinds b)
-  laid-admitted = contents-admitted draftKinds b (λ k h. laid-draft .passed k (omega arith))
+  laid-admitted = contents-admitted draftKinds b (laid-draft .passed)
 
   laid-reading : draftReading b ≡ accepted (contents draftKinds b)
   laid-reading = L .reads ∙ ap accepted (accepted-contents draftKinds b (L .file) (L .reads))

@@ -22,7 +22,7 @@ use rulefile::wanted_of;
 // The refusal's number and 0, or 0 and the length of the file that is written.
 #[repr(C)]
 pub struct Conversion {
-    // 1 to 9: a check refuses the draft; 12: the result is too large. 0 with a file.
+    // 1 to 8: a check refuses the draft; 12: the result is too large. 0 with a file.
     pub refusal: u32,
     // How many bytes of the area are the file.
     pub length: u32,

@@ -24,9 +24,8 @@ use Rattle.decoding.specs.Decoding.{ruleKinds, decode, malformed, conceptOf}
 use Rattle.decoding.specs.RowPartLaws.{decode-own}
 use Rattle.rulefile.specs.Format.{Bytes, trailerByte, firstRow, rowCount, ruleCount, wantedRow, rowByte, rule, conceptIn, RuleFile, contents, accepted, reading}
 use Rattle.rulefile.specs.Format.{badLength, badMark, badCounts, badPlace, badRow, badArgument, someRow, sameRow, repeated, badRule, checks}
-use Rattle.rulefile.specs.Checks.{refusesAt, Passed}
+use Rattle.rulefile.specs.Checks.{refusesAt, PassedAll}
 use Rattle.rulefile.specs.CheckLaws.{reading-accepted}
-use Rattle.rulefile.specs.FormatLaws.{passed-last}
 use Rattle.drafts.specs.Normalize.{sameRow as sameParts}
 use Rattle.drafts.specs.Encoding.{rowBytes, tableBytes, trailer, fileBytes}
 use Rattle.drafts.specs.Sound.{Writable}
@@ -196,7 +195,7 @@ module _ (f : RuleFile) (W : Writable f) where
       rw (any-range-none (λ i. leb n (rule (fileBytes f) i)) (ruleCount (fileBytes f)) (λ i h. lt-leb n (rule (fileBytes f) i) (rule-lt i h)))
       (lt-leb n (wantedRow (fileBytes f)) (omega (arith, wanted-lt, rowCount-fileBytes f, wantedRow-fileBytes f)))
 
-  passed-fileBytes : Passed ruleKinds (fileBytes f) 9
+  passed-fileBytes : PassedAll ruleKinds (fileBytes f)
   unfolding checks
   passed-fileBytes =
       let next = NoneBelow-suc (refusesAt ruleKinds (fileBytes f)) in
@@ -207,8 +206,7 @@ module _ (f : RuleFile) (W : Writable f) where
       let p₅ = next 4 p₄ (someRow-fileBytes (badRow ruleKinds (fileBytes f)) badRow-fileBytes) in
       let p₆ = next 5 p₅ (someRow-fileBytes (badArgument ruleKinds (fileBytes f)) badArgument-fileBytes) in
       let p₇ = next 6 p₆ (someRow-fileBytes (repeated (fileBytes f)) repeated-fileBytes) in
-      let p₈ = next 7 p₇ badRule-fileBytes in
-      next 8 p₈ (passed-last ruleKinds (fileBytes f) p₈)
+      next 7 p₇ badRule-fileBytes
 
   -- ---- the bytes hold the file
 

@@ -10,7 +10,7 @@ use Rattle.concepts.specs.Begins.{Begins}
 use Rattle.concepts.specs.Concept.{Table}
 use Rattle.decoding.specs.Decoding.{draftKinds}
 use Rattle.rulefile.specs.Format.{Bytes, rowCount}
-use Rattle.rulefile.specs.Checks.{Passed}
+use Rattle.rulefile.specs.Checks.{PassedAll}
 use Rattle.drafts.specs.Normalize as Normalize
 use Rattle.drafts.specs.Normalize.{Sign, stands, share, put, PutList, putList}
 use Rattle.normalize.specs.declared.Placement.{Placement}
@@ -23,7 +23,7 @@ use Rattle.normalize.specs.Shapes.{tableOf, slotOf}
 -- ---- a draft that passed all checks
 
 pub record Draft (b : Bytes) : Type 0 where
-  pub passed : Passed draftKinds b 9
+  pub passed : PassedAll draftKinds b
 
 -- ---- places that are remembered
 

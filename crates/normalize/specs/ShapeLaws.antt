@@ -19,7 +19,7 @@ use Rattle.decoding.specs.RowPartLaws.{Parts, row-parts}
 use Rattle.rulefile.specs.Format.{Bytes, rowCount, rowByte, conceptIn, badRow}
 use Rattle.rulefile.specs.Checks.{Parted}
 use Rattle.rulefile.specs.CheckLaws.{parted}
-use Rattle.rulefile.specs.FormatLaws.{row-formed, contents-admitted}
+use Rattle.rulefile.specs.FormatLaws.{contents-parts, contents-admitted}
 use Rattle.drafts.specs.Normalize.{Sign, shape}
 use Rattle.normalize.specs.Shapes.{IsLiteral, IsModal, IsPair, tableOf, ShapeAt, writtenKind, formOf}
 use Rattle.normalize.specs.declared.Shape.the-variants.{Literal, Other, Unary, Binary}
@@ -53,18 +53,14 @@ module _ {b : Bytes} (D : Draft b) where
   draft-parted = parted draftKinds b (D .passed) (omega arith)
 
   pub draft-ordered : Ordered (tableOf b)
-  draft-ordered = contents-admitted draftKinds b (λ k h. D .passed k (omega arith)) .wellFormed .ordered
+  draft-ordered = contents-admitted draftKinds b (D .passed) .wellFormed .ordered
 
   pub draft-rows : length (tableOf b) ≡ rowCount b
   draft-rows = length-map-range (conceptIn draftKinds b) 0 (rowCount b)
 
   module _ (k : ℕ) (h : k < rowCount b) where
-    row-at : conceptAt (tableOf b) k ≡ conceptIn draftKinds b k
-    row-at = getD-map-range (conceptIn draftKinds b) 0 (rowCount b) k (atomic 0) h ∙ ap (conceptIn draftKinds b) (omega arith)
-
     parts-at : Parts (rowByte b k 0) (rowByte b k 1) (rowByte b k 2) (rowByte b k 3) (conceptAt (tableOf b) k)
-    unfolding badRow
-    parts-at = rw row-at (row-parts draftKinds (rowByte b k 0) (rowByte b k 1) (rowByte b k 2) (rowByte b k 3) (row-formed draftKinds b (λ j l. D .passed j (omega arith)) k h))
+    parts-at = contents-parts draftKinds b (D .passed) k h
 
     pub shape-bytes : (s : Sign) → formOf (rowByte b k 0) (rowByte b k 1) (rowByte b k 2) (rowByte b k 3) s ≡ shape (conceptAt (tableOf b) k) s
     shape-bytes s =

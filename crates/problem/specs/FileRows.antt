@@ -13,9 +13,9 @@ use Rattle.concepts.specs.Concept.{Ordered}
 use Rattle.rulefile.specs.Format as Format
 use Rattle.rulefile.specs.Format.{rowsPart}
 use Rattle.decoding.specs.Decoding.{ruleKinds, conceptOf, malformed}
-use Rattle.rulefile.specs.Checks.{Parted, Passed}
-use Rattle.rulefile.specs.CheckLaws.{parted, accepted-contents, accepted-parted}
-use Rattle.rulefile.specs.FormatLaws.{row-formed, contents-admitted, accepted-eight, accepted-admitted}
+use Rattle.rulefile.specs.Checks.{Parted, PassedAll}
+use Rattle.rulefile.specs.CheckLaws.{parted, accepted-contents, accepted-passed, accepted-parted}
+use Rattle.rulefile.specs.FormatLaws.{row-formed, contents-admitted, accepted-admitted}
 use Rattle.problem.specs.Rows.{rowByte, rowCount, conceptIn, tableIn, Rows, ListsRows}
 use Rattle.problem.specs.RowLaws.{length-tableIn}
 
@@ -48,7 +48,7 @@ module _ (b : Format.Bytes) (p : Parted b) where
       let h : k < Format.rowCount b = omega (arith, range-mem 0 (Format.rowCount b) k m .1) in
       four-bytes (λ kind role left right. conceptOf ruleKinds kind role left right ≡ Format.conceptIn ruleKinds b k) k h refl)
 
-module _ (b : Format.Bytes) (passed : Passed ruleKinds b 8) where
+module _ (b : Format.Bytes) (passed : PassedAll ruleKinds b) where
   rows-rowsPart : Rows (rowsPart b)
   rows-rowsPart =
       let p : Parted b = parted ruleKinds b passed (omega arith) in
@@ -63,7 +63,7 @@ module _ (b : Format.Bytes) (passed : Passed ruleKinds b 8) where
 -- an accepted file
 module _ (b : Format.Bytes) (f : Format.RuleFile) (e : Format.reading b ≡ Format.accepted f) where
   pub accepted-rows : Rows (rowsPart b)
-  accepted-rows = rows-rowsPart b (accepted-eight ruleKinds b f e)
+  accepted-rows = rows-rowsPart b (accepted-passed ruleKinds b f e)
 
   pub accepted-table : tableIn (rowsPart b) ≡ f .table
   accepted-table = rw (accepted-contents ruleKinds b f e) (table-rowsPart b (accepted-parted ruleKinds b f e))

@@ -1,49 +1,70 @@
 -- Laws of Checks: reading goes by the first check that refuses, and what the first four checks give.
 --
 -- In order: refusal and reading, check by check (`refusal-at`, `refusal-none`, `reading-refused`, `reading-accepted`);
--- an accepted file passed every check (`accepted-contents`, `accepted-passed`); where the parts of a file stand (`long`, `parted`).
+-- the numbers that a refused file can get (`refused-number`); an accepted file passed every check (`accepted-contents`, `accepted-passed`); where the parts of a file stand (`long`, `parted`).
 -- Assumes nothing.
 use mathlib.Core.Path.{_≡_, refl}
-use mathlib.Core.Bool.{Bool, true, false, _||_}
+use mathlib.Core.Bool.{Bool, true, false, _&&_, _||_}
+use mathlib.Core.Logic.{inl, inr}
 use mathlib.Core.Option.{Option, none, some}
 use Prim.Native.Nat.{ℕ, _+_, _*_, _≤_, _<_}
 use native.Mathlib.Omega.{arith}
-use lib.Dec.{eqb, ltb}
+use lib.Dec.{eqb, ltb, leb, ltb→lt, leb→le}
 use lib.ListN.{length}
 use borrow.Author.Tests.{ltb-false, eqb-true, eqb-false, not-false}
-use Rattle.concepts.specs.Tests.{impossible, or-neither}
-use Rattle.concepts.specs.ListLaws.{getD-mem, first-at, first-nowhere, first-none}
-use Rattle.rulefile.specs.Format.{Bytes, firstRow, rowCount, ruleCount, badLength, badCounts, badPlace, Check, checks, refusal, RuleFile, contents, Reading, refused, accepted, readingOf}
+use Rattle.concepts.specs.Tests.{impossible, or-neither, and-both}
+use Rattle.concepts.specs.Lists.{range, every}
+use Rattle.concepts.specs.ListLaws.{getD-mem, mem-range, every-mem, least-below, first-at, first-nowhere, first-none}
+use Rattle.rulefile.specs.Format.{Bytes, firstRow, rowCount, ruleCount, badLength, badCounts, badPlace, Check, checks, answerOf, refusal, RuleFile, contents, Reading, refused, accepted, readingOf}
 use Rattle.decoding.specs.Decoding.{Kinds}
-use Rattle.rulefile.specs.Checks.{noCheck, checkAt, refusesAt, Passed, Parted}
+use Rattle.rulefile.specs.Checks.{checkCount, noCheck, checkAt, refusesAt, Passed, PassedAll, Parted}
 
 -- ---- reading, check by check
 
--- the number of a check, if it refuses the file
-abbrev answerOf : Bytes → Check → Option ℕ
-answerOf b c = elim (c .refuses b) [ true ↦ some (c .number) | false ↦ none ]
+pub length-checks : (kinds : Kinds) → length (checks kinds) ≡ checkCount
+unfolding checks
+length-checks kinds = refl
 
 module _ (kinds : Kinds) (b : Bytes) where
   passed-none : (i : ℕ) → Passed kinds b i → (j : ℕ) → j < i → answerOf b (checkAt kinds j) ≡ none
   passed-none i p j h = rw (p j h, answerOf)
 
-  pub refusal-at : (i : ℕ) → i < 9 → Passed kinds b i → refusesAt kinds b i ≡ true → refusal kinds b ≡ some (checkAt kinds i .number)
+  pub refusal-at : (i : ℕ) → i < checkCount → Passed kinds b i → refusesAt kinds b i ≡ true → refusal kinds b ≡ some (checkAt kinds i .number)
   unfolding refusal checks
   refusal-at i h p e =
       let here : answerOf b (checkAt kinds i) ≡ some (checkAt kinds i .number) = rw e in
       first-at (answerOf b) (checks kinds) noCheck i (checkAt kinds i .number) h (λ j l. passed-none i p j l) here
 
-  pub refusal-none : Passed kinds b 9 → refusal kinds b ≡ none
+  pub refusal-none : PassedAll kinds b → refusal kinds b ≡ none
   unfolding refusal checks
-  refusal-none p = first-nowhere (answerOf b) (checks kinds) noCheck (λ j l. passed-none 9 p j l)
+  refusal-none p = first-nowhere (answerOf b) (checks kinds) noCheck (λ j l. passed-none checkCount p j l)
 
-  pub reading-refused : (i : ℕ) → i < 9 → Passed kinds b i → refusesAt kinds b i ≡ true → readingOf kinds b ≡ refused (checkAt kinds i .number)
+  pub reading-refused : (i : ℕ) → i < checkCount → Passed kinds b i → refusesAt kinds b i ≡ true → readingOf kinds b ≡ refused (checkAt kinds i .number)
   unfolding readingOf
   reading-refused i h p e = rw (refusal-at i h p e, readingOf)
 
-  pub reading-accepted : Passed kinds b 9 → readingOf kinds b ≡ accepted (contents kinds b)
+  pub reading-accepted : PassedAll kinds b → readingOf kinds b ≡ accepted (contents kinds b)
   unfolding readingOf
   reading-accepted p = rw (refusal-none p, readingOf)
+
+  -- ---- the numbers of refusals
+
+  number-at : (i : ℕ) → i < checkCount → (0 < checkAt kinds i .number) × (checkAt kinds i .number ≤ 8)
+  unfolding range every checks
+  number-at i h =
+      let listed : ℕ → Bool = λ k. ltb 0 (checkAt kinds k .number) && leb (checkAt kinds k .number) 8 in
+      let (above, most) = and-both (ltb 0 (checkAt kinds i .number)) (leb (checkAt kinds i .number) 8)
+        (every-mem listed (range 0 checkCount) i tt (mem-range 0 checkCount i (omega arith) h)) in
+      (ltb→lt 0 (checkAt kinds i .number) above, leb→le (checkAt kinds i .number) 8 most)
+
+  pub refused-number : (n : ℕ) → readingOf kinds b ≡ refused n → (0 < n) × (n ≤ 8)
+  refused-number n e = elim (least-below (refusesAt kinds b) checkCount) [
+    | inl (i, h, p, r) ↦
+        let q = reading-refused i h p r in
+        let same : checkAt kinds i .number ≡ n = cc in
+        rw (← same) (number-at i h)
+    | inr p ↦ let q = reading-accepted p in impossible cc
+  ]
 
   -- ---- an accepted file passed every check
 
@@ -56,7 +77,7 @@ module _ (kinds : Kinds) (b : Bytes) where
   unfolding readingOf
   accepted-contents f e = accepted-none f (refusal kinds b) e .1
 
-  pub none-passed : refusal kinds b ≡ none → Passed kinds b 9
+  pub none-passed : refusal kinds b ≡ none → PassedAll kinds b
   unfolding refusal checks
   none-passed e k l = by-answer (checkAt kinds k) (first-none (answerOf b) (checks kinds) (checkAt kinds k) e (getD-mem (checks kinds) k noCheck l))
     where
@@ -67,7 +88,7 @@ module _ (kinds : Kinds) (b : Bytes) where
           of false e = refl
           of true e = impossible cc
 
-  pub accepted-passed : (f : RuleFile) → readingOf kinds b ≡ accepted f → Passed kinds b 9
+  pub accepted-passed : (f : RuleFile) → readingOf kinds b ≡ accepted f → PassedAll kinds b
   unfolding readingOf
   accepted-passed f e = none-passed (accepted-none f (refusal kinds b) e .0)
 

@@ -1,6 +1,6 @@
 -- The checks by their places in the list, and what the first of them give (01, Refusals, in checking order).
 --
--- In order: the check at a place; a file that passed the checks before a place; where the parts of such a file stand.
+-- In order: how many checks there are, and the check at a place; a file that passed the checks before a place; where the parts of such a file stand.
 -- A check's number, which a refusal gives, is another thing than its place: `Format.checks` has both. The laws are in CheckLaws.
 -- Assumes nothing.
 use mathlib.Core.Path.{_≡_}
@@ -10,6 +10,10 @@ use lib.ListN.{length, getD}
 use Rattle.concepts.specs.Lists.{NoneBelow}
 use Rattle.rulefile.specs.Format.{Bytes, firstRow, rowCount, ruleCount, Check, checks}
 use Rattle.decoding.specs.Decoding.{Kinds}
+
+-- the length of the list (`CheckLaws.length-checks`)
+abbrev pub checkCount : ℕ
+checkCount = 8
 
 -- past the end of the list nothing is refused
 abbrev pub noCheck : Check
@@ -25,6 +29,10 @@ refusesAt kinds b i = checkAt kinds i .refuses b
 -- none of the first i checks refuses the file
 abbrev pub Passed : Kinds → Bytes → ℕ → Type 0
 Passed kinds b i = NoneBelow (refusesAt kinds b) i
+
+-- no check refuses the file
+abbrev pub PassedAll : Kinds → Bytes → Type 0
+PassedAll kinds b = Passed kinds b checkCount
 
 -- "text, rows, rule list, trailer": the parts fill the file. What checks 1 to 4 give
 pub record Parted (b : Bytes) : Type 0 where

@@ -1,6 +1,6 @@
 -- The rule file (01, The rule file; Refusals, in checking order).
 --
--- In order: where the parts of a file stand; the checks 1 to 9; what a file holds; reading. A row's bytes and its concept are in Decoding.
+-- In order: where the parts of a file stand; the checks 1 to 8; what a file holds; reading. A row's bytes and its concept are in Decoding.
 -- A file is a list of bytes, numbers below 256. Places past its end read as 0.
 -- Which kinds of rows are allowed is a parameter of all that looks at rows; a rule file is read with `ruleKinds`.
 -- Assumes nothing.
@@ -97,15 +97,12 @@ repeated b k = any (sameRow b k) (range 0 k)
 unfoldable pub badRule : Bytes → Bool
 badRule b = any (λ i. leb (rowCount b) (rule b i)) (range 0 (ruleCount b)) || leb (rowCount b) (wantedRow b)
 
-unfoldable pub isName : Bytes → ℕ → Bool
-isName b k = eqb (rowByte b k 0) 1 || eqb (rowByte b k 0) 2
-
 -- the refusal that a check gives, and which files it refuses
 pub record Check : Type 0 where
   pub number : ℕ
   pub refuses : Bytes → Bool
 
--- in checking order
+-- in checking order. 9 was document 01's "No row has kind 1 or 2"; no file that passes these met it, and the number is not used again (02, [3]; RowZeroLaws)
 unfoldable pub checks : Kinds → List Check
 checks kinds =
     record { number = 1; refuses = badLength }
@@ -116,12 +113,18 @@ checks kinds =
     ∷ record { number = 6; refuses = λ b. someRow b (badArgument kinds b) }
     ∷ record { number = 7; refuses = λ b. someRow b (repeated b) }
     ∷ record { number = 8; refuses = badRule }
-    ∷ record { number = 9; refuses = λ b. not (someRow b (isName b)) }
     ∷ []
 
--- the number of the first check that refuses the file
+-- the number of a check, if it refuses the file
+abbrev pub answerOf : Bytes → Check → Option ℕ
+answerOf b c = elim (c .refuses b) [ true ↦ some (c .number) | false ↦ none ]
+
+-- the number of the first check of a list that refuses the file
+abbrev pub refusalBy : List Check → Bytes → Option ℕ
+refusalBy cs b = first (answerOf b) cs
+
 unfoldable pub refusal : Kinds → Bytes → Option ℕ
-refusal kinds b = first (λ c. elim (c .refuses b) [ true ↦ some (c .number) | false ↦ none ]) (checks kinds)
+refusal kinds b = refusalBy (checks kinds) b
 
 -- ---- what a file holds
 
@@ -153,6 +156,6 @@ readingOf kinds b = elim (refusal kinds b) [ some n ↦ refused n | none ↦ acc
 abbrev pub reading : Bytes → Reading
 reading b = readingOf ruleKinds b
 
--- "handed back as that part of the file .. of a refused file 1 to 9, the empty part at its start"
+-- "handed back as that part of the file .. of a refused file .. the empty part at its start"
 unfoldable pub textOf : Kinds → Bytes → Bytes
 textOf kinds b = elim (readingOf kinds b) [ refused n ↦ [] | accepted f ↦ f .text ]

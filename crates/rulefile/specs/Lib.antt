@@ -4,5 +4,6 @@ pub mod Checks
 pub mod Read
 pub mod CheckLaws
 pub mod FormatLaws
+pub mod RowZeroLaws
 pub mod ReadLaws
 pub mod PartLaws

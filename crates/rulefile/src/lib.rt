@@ -1,6 +1,6 @@
 // The reader of rule files (01, The rule file; Refusals, in checking order).
 //
-// In order: the answer; the bounds; the trailer, a row's bytes and a rule; checks 1 to 4; what checks 5 to 9 look for in a row or
+// In order: the answer; the bounds; the trailer, a row's bytes and a rule; checks 1 to 4; what checks 5 to 8 look for in a row or
 // rule; the search for it; check by check; the reader; the parts of an accepted file.
 // Which kinds of rows are allowed is a parameter, `kinds`, as in `decoding`. A rule file is read with its RULE_KINDS.
 ghost use mathlib.Core.Path.{_≡_};
@@ -9,7 +9,7 @@ ghost use lib.ListN.{length, take, drop};
 ghost use Rattle.decoding.specs.Decoding.{Kinds};
 ghost use Rattle.decoding.specs.Named.{namedBy};
 ghost use Rattle.rulefile.specs.Format as Format;
-ghost use Rattle.rulefile.specs.Checks.{Parted, Passed, checkAt, refusesAt};
+ghost use Rattle.rulefile.specs.Checks.{checkCount, Parted, Passed, checkAt, refusesAt};
 ghost use Rattle.rulefile.specs.Read.{readOf, trailerLayout, Starts, Placed, namedAt, extent, foundAt, found};
 use decoding::Row;
 use decoding::decode;
@@ -24,19 +24,18 @@ pub struct Layout {
     pub wanted: usize,
 }
 
-// A file is refused with the number of the first check that fails, 1 to 9, or accepted.
+// A file is refused with the number of the first check that fails, 1 to 8, or accepted.
 pub enum Outcome {
     Refused(u8),
     Accepted(Layout),
 }
 
-// What check 5, 6, 7, 8 and 9 looks for in each row or rule.
+// What check 5, 6, 7 and 8 looks for in each row or rule.
 enum Finding {
     Malformed,
     Argument,
     Repeated,
     Rule,
-    Name,
 }
 
 // "Length 8 to 4,096 bytes"; "The trailer is the last 8 bytes".
@@ -52,9 +51,9 @@ const MOST_RULES: u8 = 64;
 const ROW: usize = 4;
 
 // The refusals of the checks, in checking order.
-const CHECKS: usize = 9;
+const CHECKS: usize = 8;
 
-const NUMBERS: [u8; CHECKS] = [1, 2, 3, 4, 5, 6, 7, 8, 9];
+const NUMBERS: [u8; CHECKS] = [1, 2, 3, 4, 5, 6, 7, 8];
 
 // The wanted row stands four bytes before the end of a file.
 const WANTED: usize = 4;
@@ -205,15 +204,6 @@ fn repeated(file: &[u8], k: usize) -> bool
     false
 }
 
-// Whether row k has kind 1 or 2.
-fn is_name(file: &[u8], k: usize) -> bool
-    requires { ⌜ Parted (now file) × (k < Format.rowCount (now file)) ⌝ }
-    ensures { λ r. ⌜ r ≡ Format.isName (now (file .entry)) k ⌝ }
-{
-    let kind = row_byte(file, k, 0);
-    (kind == 1) | (kind == 2)
-}
-
 // How many rows or rules are searched for a finding.
 fn extent(file: &[u8], finding: Finding) -> usize
     requires { ⌜ 8 ≤ length (now file) ⌝ }
@@ -236,7 +226,6 @@ fn found_at(file: &[u8], kinds: u16, finding: Finding, i: usize) -> bool
         Finding::Argument => bad_argument(file, kinds, i),
         Finding::Repeated => repeated(file, i),
         Finding::Rule => row_count(file) <= rule(file, i),
-        Finding::Name => is_name(file, i),
     }
 }
 
@@ -266,7 +255,7 @@ fn bad_rule(file: &[u8], kinds: u16) -> bool
 
 // Whether the check at place i refuses the file, which passed the checks before it.
 fn refuses(file: &[u8], kinds: u16, i: usize) -> bool
-    requires { ⌜ (i < 9) × Passed kinds (now file) i ⌝ }
+    requires { ⌜ (i < checkCount) × Passed kinds (now file) i ⌝ }
     ensures { λ r. ⌜ r ≡ refusesAt kinds (now (file .entry)) i ⌝ }
 {
     match i {
@@ -277,14 +266,13 @@ fn refuses(file: &[u8], kinds: u16, i: usize) -> bool
         4 => found(file, kinds, Finding::Malformed),
         5 => found(file, kinds, Finding::Argument),
         6 => found(file, kinds, Finding::Repeated),
-        7 => bad_rule(file, kinds),
-        _ => !found(file, kinds, Finding::Name),
+        _ => bad_rule(file, kinds),
     }
 }
 
 // The refusal that the check at place i gives.
 fn number(i: usize) -> u8
-    requires { ⌜ i < 9 ⌝ }
+    requires { ⌜ i < checkCount ⌝ }
     ensures { λ r. ⌜ ((kinds : Kinds) → r ≡ checkAt kinds i .number) ⌝ }
 {
     NUMBERS[i]

@@ -79,7 +79,7 @@ abbrev pub used : Graph → Used
 used g = record { nodes = length (g .nodes); edges = length (g .edges); alternatives = length (g .alternatives) }
 
 pub data Answer : Type 0 where
-  refusedFile : ℕ → Answer  -- a file check refuses the file: 1 to 9
+  refusedFile : ℕ → Answer  -- a file check refuses the file: 1 to 8
   short : Area → Answer  -- refusal 10: a record has no place in this area
   cannot : Used → Answer
   can : Used → Example → Answer

@@ -81,10 +81,11 @@ impl DraftCounts {
         add(&mut self.just_enough, area == file.len());
     }
 
-    /// Fails if one of refusals 1 to 8 and 12 was rare, or if 9 came: row 0 names no lower row, so it is a name or a negation.
+    /// Fails if one of refusals 1 to 8 and 12 was rare, or if another came: a conversion has no others.
     pub fn assert_each_refusal(&self, least: usize) {
         let came = [1, 2, 3, 4, 5, 6, 7, 8, 12].map(|number| self.refusals[number]);
-        assert!(came.iter().all(|&times| times >= least) && self.refusals[9] == 0, "{:?}", self.refusals);
+        let only_these = came.iter().sum::<usize>() == self.refusals.iter().sum();
+        assert!(came.iter().all(|&times| times >= least) && only_these, "{:?}", self.refusals);
         assert!(self.converted >= least, "only {} drafts are converted", self.converted);
     }
 

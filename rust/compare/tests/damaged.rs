@@ -8,8 +8,8 @@ use worlds::Ontology;
 
 const SHAPE: Shape = Shape { names: 2, roles: 2, compound: 12, rules: 4, text: 8 };
 
-/// How often each refusal came, by its number; 0 counts accepted files.
-type Refusals = [usize; 10];
+/// How often each refusal by a check came, by its number; 0 counts accepted files.
+type Refusals = [usize; 9];
 
 fn check(file: &[u8], lent: &Lent, refusals: &mut Refusals) {
     let answer = answer(file, lent);
@@ -18,11 +18,10 @@ fn check(file: &[u8], lent: &Lent, refusals: &mut Refusals) {
     refusals[usize::from(RuleFile::read(file).err().unwrap_or(0))] += 1;
 }
 
-/// Accepted files and refusals 1 to 8 came each so often. Refusal 9 cannot happen: row 0 names no lower row, so it is a name or
-/// a negation.
+/// Accepted files and refusals 1 to 8 came each so often.
 fn assert_often(refusals: &Refusals, least: usize) {
-    println!("accepted, then refusals 1 to 9: {refusals:?}");
-    assert!(refusals[..9].iter().all(|&times| times >= least) && refusals[9] == 0, "{refusals:?}");
+    println!("accepted, then refusals 1 to 8: {refusals:?}");
+    assert!(refusals.iter().all(|&times| times >= least), "{refusals:?}");
 }
 
 #[test]

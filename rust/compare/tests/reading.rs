@@ -1,7 +1,8 @@
-//! The text of a file, the order of the checks, and the kinds of a draft.
+//! The text of a file, the order of the checks, the kinds of a draft, and what a table can begin with.
 
 use compare::encode;
-use plain::{text, Draft, RuleFile};
+use compare::row_zero::{check_first_rows, check_tables_without_names};
+use plain::{answer, convert, text, Draft, RuleFile};
 
 const ROWS: [[u8; 4]; 3] = [[1, 0, 0, 0], [5, 31, 0, 0], [6, 0, 1, 0]];
 
@@ -52,4 +53,14 @@ fn a_draft_has_two_kinds_more() {
     for row in [[8, 0, 1, 0], [9, 0, 1, 0], [9, 0, 0, 1]] {
         assert_eq!(refusals(row), (Some(5), Some(6)), "{row:?}");
     }
+}
+
+#[test]
+fn every_first_row() {
+    check_first_rows(answer, convert);
+}
+
+#[test]
+fn tables_without_names() {
+    check_tables_without_names(answer, convert);
 }

@@ -29,13 +29,13 @@ enum { GUMBYRA_REFUSED = 0, GUMBYRA_CAN = 1, GUMBYRA_CANNOT = 2 };
 
 typedef struct {
     uint32_t verdict;                    /* GUMBYRA_CAN, GUMBYRA_CANNOT or GUMBYRA_REFUSED */
-    uint32_t refusal;                    /* 0 with a verdict; else 1 to 9: the file; 10: a work area is short; 11: an example area is */
+    uint32_t refusal;                    /* 0 with a verdict; else 1 to 8: the file; 10: a work area is short; 11: an example area is */
     uint32_t nodes, edges, alternatives; /* records used; zero with a refusal */
     uint32_t elements, links;            /* the example's, with GUMBYRA_CAN or refusal 11; else zero */
 } gumbyra_answer;
 
 /* Decides a rule file. The areas may be of any length and hold anything; no two may overlap, nor one the file. After a verdict,
-   10 or 11 every byte of nodes, edges and alternatives is zero, after 1 to 9 they are as they were. elements and links change
+   10 or 11 every byte of nodes, edges and alternatives is zero, after 1 to 8 they are as they were. elements and links change
    with GUMBYRA_CAN only, in the first GUMBYRA_ELEMENT * answer.elements and GUMBYRA_LINK * answer.links bytes. An element lists a
    row of the file exactly if the row holds there in the example, whether a rule or the kit needs the row or not. */
 gumbyra_answer gumbyra_fit(const uint8_t *file, size_t file_len,
@@ -45,11 +45,11 @@ gumbyra_answer gumbyra_fit(const uint8_t *file, size_t file_len,
                            uint8_t *elements, size_t elements_len,
                            uint8_t *links, size_t links_len);
 
-/* How many leading bytes of a rule file are its text; 0 for a file that is refused with 1 to 9. */
+/* How many leading bytes of a rule file are its text; 0 for a file that is refused with 1 to 8. */
 size_t gumbyra_text(const uint8_t *file, size_t file_len);
 
 typedef struct {
-    uint32_t refusal; /* 0 if a file was written; else 1 to 9: the draft; 12: the result is too long for a file or for the area */
+    uint32_t refusal; /* 0 if a file was written; else 1 to 8: the draft; 12: the result is too long for a file or for the area */
     uint32_t length;  /* how many bytes at the start of the area are the file; 0 with a refusal */
 } gumbyra_conversion;
 

@@ -30,14 +30,14 @@ mod tests {
         assert_eq!(of_numbers(0, 12, &area), Some(Ok(&area[..12])));
         assert_eq!(of_numbers(0, 12, &area[..12]), Some(Ok(&area[..12])));
         assert_eq!(of_numbers(0, 4096, &area), Some(Ok(&area[..4096])));
-        assert_eq!(of_numbers(9, 0, &area), Some(Err(Refusal::NoName)));
+        assert_eq!(of_numbers(8, 0, &area), Some(Err(Refusal::NoSuchRow)));
         assert_eq!(of_numbers(12, 0, b""), Some(Err(Refusal::ResultTooLong)));
     }
 
     #[test]
     fn other_numbers_are_no_answer() {
         let area = [7; LONGEST_FILE + 1];
-        for (refusal, length) in [(0, 0), (1, 1), (10, 0), (11, 0), (12, 12), (13, 0), (0, 4097), (0, u32::MAX)] {
+        for (refusal, length) in [(0, 0), (1, 1), (9, 0), (10, 0), (11, 0), (12, 12), (13, 0), (0, 4097), (0, u32::MAX)] {
             assert_eq!(of_numbers(refusal, length, &area), None, "{refusal} {length}");
         }
         assert_eq!(of_numbers(0, 12, &area[..11]), None, "longer than the area");

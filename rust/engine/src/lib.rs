@@ -68,7 +68,7 @@ pub fn fit<'a>(file: &[u8], mut areas: Areas<'a>) -> Result<Verdict<'a>, Refusal
         .unwrap_or_else(|| panic!("no answer of the engine: {answer:?}"))
 }
 
-/// The text of a rule file: the part of the file before its rows, uncopied. Of a file that a file check refuses (1 to 9) it is
+/// The text of a rule file: the part of the file before its rows, uncopied. Of a file that a file check refuses (1 to 8) it is
 /// the empty part at the file's start.
 ///
 /// ```

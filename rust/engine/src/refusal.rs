@@ -4,7 +4,8 @@ use std::fmt;
 
 /// Why there is no verdict, or no file from a draft.
 ///
-/// Later versions of the engine have more refusals, and may give up one of these.
+/// Later versions of the engine have more refusals, and may give up one of these. There is no 9: it was "No row has kind 1 or 2",
+/// which no file met (document 02, [3]), and the number is not used again.
 #[derive(Clone, Copy, Debug, PartialEq, Eq, Hash)]
 #[non_exhaustive]
 pub enum Refusal {
@@ -24,8 +25,6 @@ pub enum Refusal {
     Repeat,
     /// 8: a rule or the wanted row.
     NoSuchRow,
-    /// 9: no name.
-    NoName,
     /// 10: a work area is short. The file may get a verdict in larger areas.
     NoPlace,
     /// 11: the kit can exist, but the example areas don't hold so many records.
@@ -35,7 +34,7 @@ pub enum Refusal {
 }
 
 /// The refusals by a check of the file or the draft.
-const CHECKS: [Refusal; 9] = [
+const CHECKS: [Refusal; 8] = [
     Refusal::Length,
     Refusal::Mark,
     Refusal::Counts,
@@ -44,7 +43,6 @@ const CHECKS: [Refusal; 9] = [
     Refusal::Argument,
     Refusal::Repeat,
     Refusal::NoSuchRow,
-    Refusal::NoName,
 ];
 
 impl Refusal {
@@ -95,7 +93,6 @@ impl Refusal {
             Refusal::Argument => (6, "A row names an argument row that isn't lower than itself."),
             Refusal::Repeat => (7, "Two rows have the same four bytes."),
             Refusal::NoSuchRow => (8, "A rule or the wanted row isn't below the number of rows."),
-            Refusal::NoName => (9, "No row has kind 1 or 2."),
             Refusal::NoPlace => (10, "The procedure's next record has no place in its area."),
             Refusal::ExampleTooLong { .. } => (11, "The verdict is \"can\" and an example area is too short."),
             Refusal::ResultTooLong => {
@@ -126,7 +123,7 @@ mod tests {
     #[test]
     fn each_number_has_its_refusal() {
         let numbers: Vec<u8> = CHECKS.iter().map(Refusal::number).collect();
-        assert_eq!(numbers, [1, 2, 3, 4, 5, 6, 7, 8, 9]);
+        assert_eq!(numbers, [1, 2, 3, 4, 5, 6, 7, 8]);
         for check in CHECKS {
             assert_eq!(Refusal::of_run(check.number().into(), [0, 0]), Some(check));
             assert_eq!(Refusal::of_conversion(check.number().into()), Some(check));
@@ -140,10 +137,22 @@ mod tests {
 
     #[test]
     fn other_numbers_have_none() {
-        assert!([(0, [0, 0]), (12, [0, 0]), (13, [0, 0]), (10, [0, 1]), (1, [1, 0])]
+        assert!([(0, [0, 0]), (9, [0, 0]), (12, [0, 0]), (13, [0, 0]), (10, [0, 1]), (1, [1, 0])]
             .into_iter()
             .all(|(number, counts)| Refusal::of_run(number, counts).is_none()));
-        assert!([0, 10, 11, 13].into_iter().all(|number| Refusal::of_conversion(number).is_none()));
+        assert!([0, 9, 10, 11, 13].into_iter().all(|number| Refusal::of_conversion(number).is_none()));
+    }
+
+    /// For translators: samples/README.md has each number with its sentence, and no other.
+    #[test]
+    fn the_list_of_messages_is_complete() {
+        let path = concat!(env!("CARGO_MANIFEST_DIR"), "/../../samples/README.md");
+        let readme = std::fs::read_to_string(path).expect("samples/README.md");
+        let (_, list) = readme.split_once("| number | sentence |\n|---|---|\n").expect("the list of messages");
+        let listed: Vec<&str> = list.lines().take_while(|line| line.starts_with('|')).collect();
+        let others = [Refusal::NoPlace, Refusal::ExampleTooLong { elements: 0, links: 0 }, Refusal::ResultTooLong];
+        let lines = CHECKS.iter().chain(&others).map(|r| format!("| {} | {} |", r.number(), r.sentence()));
+        assert_eq!(listed, lines.collect::<Vec<_>>());
     }
 
     #[test]

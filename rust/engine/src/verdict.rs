@@ -61,7 +61,7 @@ mod tests {
         assert_eq!((of_can, example.elements().len()), (used, 2));
         assert_eq!(example.links().collect::<Vec<_>>(), [Link { from: 256, role: 2, to: 1 }]);
         assert_eq!(of_numbers([2, 0, 8, 7, 1, 0, 0]), Some(Ok(Verdict::Cannot { used })));
-        assert_eq!(of_numbers([0, 9, 0, 0, 0, 0, 0]), Some(Err(Refusal::NoName)));
+        assert_eq!(of_numbers([0, 8, 0, 0, 0, 0, 0]), Some(Err(Refusal::NoSuchRow)));
         assert_eq!(of_numbers([0, 10, 0, 0, 0, 0, 0]), Some(Err(Refusal::NoPlace)));
         let too_long = Refusal::ExampleTooLong { elements: 2, links: 1 };
         assert_eq!(of_numbers([0, 11, 0, 0, 0, 2, 1]), Some(Err(too_long)));
@@ -77,6 +77,7 @@ mod tests {
             [1, 0, 8, 7, 1, 2, 2],
             [2, 0, 8, 7, 1, 2, 0],
             [0, 1, 1, 0, 0, 0, 0],
+            [0, 9, 0, 0, 0, 0, 0],
             [0, 10, 0, 0, 0, 0, 1],
             [0, 11, 0, 1, 0, 2, 1],
             [0, 12, 0, 0, 0, 0, 0],

@@ -81,7 +81,7 @@ pub struct Used {
 /// What a run answers.
 #[derive(Clone, Debug, PartialEq, Eq)]
 pub enum Answer {
-    /// A file check refuses the file: 1 to 9.
+    /// A file check refuses the file: 1 to 8.
     Refused(u8),
     /// Refusal 10: the procedure's next record has no place in its area. `plain` tells which, the engine does not.
     Short(Option<Area>),

@@ -28,9 +28,6 @@ pub trait Kinds: Copy {
 
     /// The highest row that it names as an argument.
     fn highest_argument(self) -> Option<usize>;
-
-    /// Is it a name or the negation of one?
-    fn is_literal(self) -> bool;
 }
 
 /// What a row of a rule file says; arguments are numbers of lower rows.
@@ -70,9 +67,5 @@ impl Kinds for Concept {
             Concept::Conj(l, r) | Concept::Disj(l, r) => Some(l.max(r)),
             Concept::Univ(_, l) | Concept::Exist(_, l) => Some(l),
         }
-    }
-
-    fn is_literal(self) -> bool {
-        matches!(self, Concept::Atomic(_) | Concept::Negated(_))
     }
 }

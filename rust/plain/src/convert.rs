@@ -7,7 +7,7 @@ use crate::rulefile::{encode, Draft, LONGEST_FILE, MOST_ROWS};
 /// The refusal of a result that needs more than 64 rows, more than 4,096 bytes or more than the area.
 const TOO_LONG: u8 = 12;
 
-/// The file that a draft becomes in an area of so many bytes, or the number of the refusal: 1 to 9 or 12.
+/// The file that a draft becomes in an area of so many bytes, or the number of the refusal: 1 to 8 or 12.
 pub fn convert(draft: &[u8], area: usize) -> Result<Vec<u8>, u8> {
     let draft = Draft::read(draft)?;
     let mut table = Table { draft: &draft.concepts, written: vec![[None; 2]; draft.concepts.len()], rows: Vec::new() };

@@ -29,8 +29,4 @@ impl Kinds for DraftConcept {
             DraftConcept::If(l, r) => Some(l.max(r)),
         }
     }
-
-    fn is_literal(self) -> bool {
-        matches!(self, DraftConcept::Plain(concept) if concept.is_literal())
-    }
 }

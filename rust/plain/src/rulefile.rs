@@ -1,4 +1,4 @@
-//! The rule file and its checks, refusals 1 to 9 (document 01, "The rule file" and "Refusals, in checking order"). A draft passes
+//! The rule file and its checks, refusals 1 to 8 (document 01, "The rule file" and "Refusals, in checking order"). A draft passes
 //! the same checks with two kinds of row more (document 02, [1]), so what a row can say is a parameter.
 
 use crate::concept::{Concept, Kinds, Row, ROW};
@@ -35,8 +35,6 @@ impl<'a, C: Kinds> Accepted<'a, C> {
         let parts = Parts::of(bytes)?;
         let concepts = check_rows::<C>(&parts.rows)?;
         check_rules(&parts, concepts.len())?;
-        // Row 0 has no lower row to name, so check 9 never fires; document 01 lists it, and so it stands here.
-        require(concepts.iter().any(|c| c.is_literal()), 9)?;
         Ok(Accepted {
             text: parts.text,
             concepts,

@@ -74,8 +74,8 @@ fn damaged_files() {
         check(&mut lending, &file, &lent, &mut kinds);
     }
     println!("damaged files: refusals 1 to 11, cannot, can: {:?}", &kinds[1..]);
-    // Refusal 9 cannot happen: row 0 names no lower row, so it is a name or a negation.
-    assert!((1..14).all(|kind| kind == 9 || kinds[kind] >= 100), "{kinds:?}");
+    // There is no refusal 9 (document 02, [3]).
+    assert!((1..14).all(|kind| if kind == 9 { kinds[kind] == 0 } else { kinds[kind] >= 100 }), "{kinds:?}");
 }
 
 #[test]

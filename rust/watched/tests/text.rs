@@ -10,14 +10,15 @@ const ROWS: [Row; 2] = [[1, 0, 0, 0], [6, 1, 0, 0]];
 /// A file of these rows and one rule with the longest text that check 1 lets pass.
 const LONGEST_TEXT: usize = 4096 - 4 * ROWS.len() - 1 - 8;
 
-/// How often each refusal came, by its number, but 0 counts accepted files with a text, 9 those without.
-type Kinds = [usize; 10];
+/// How often each refusal came, by its number; 0 counts accepted files with a text, the place after the refusals those without.
+type Kinds = [usize; NO_TEXT + 1];
+const NO_TEXT: usize = 9;
 
 fn check(file: &[u8], kinds: &mut Kinds) {
     let (text, expected) = (text(file), plain::text(file));
     assert_eq!((text.as_ptr(), text.len()), (expected.as_ptr(), expected.len()), "{file:02x?}");
     let kind = match RuleFile::read(file) {
-        Ok(read) if read.text.is_empty() => 9,
+        Ok(read) if read.text.is_empty() => NO_TEXT,
         Ok(_) => 0,
         Err(number) => usize::from(number),
     };
@@ -47,7 +48,7 @@ fn of_random_files_before_and_after_damage() {
         damage(&mut prng, &mut file);
         check(&file, &mut damaged);
     }
-    assert!(whole[0] >= 5000 && whole[9] >= 5000, "{whole:?}");
+    assert!(whole[0] >= 5000 && whole[NO_TEXT] >= 5000, "{whole:?}");
     assert_often("damaged", &damaged, 100);
 }
 
@@ -70,5 +71,5 @@ fn of_every_length() {
         assert_eq!(text(&file), if length <= LONGEST_TEXT { &expected[..] } else { b"" });
         check(&file, &mut kinds);
     }
-    assert_eq!((kinds[0], kinds[1], kinds[9]), (LONGEST_TEXT, 1, 1));
+    assert_eq!((kinds[0], kinds[1], kinds[NO_TEXT]), (LONGEST_TEXT, 1, 1));
 }

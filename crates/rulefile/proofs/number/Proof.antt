@@ -9,19 +9,19 @@ use borrow.Author.Needs.{needs}
 use Rattle.concepts.specs.Lists.{range, every}
 use Rattle.concepts.specs.ListLaws.{mem-range, every-mem}
 use Rattle.rulefile.specs.Format.{checks}
-use Rattle.rulefile.specs.Checks.{checkAt}
+use Rattle.rulefile.specs.Checks.{checkCount, checkAt}
 use Rattle.rulefile.proofs.number.Statement.{statement}
 use Rattle.rulefile.proofs.number.Tie as tie
 
 abbrev numbers : List ℕ
-numbers = 1 ∷ 2 ∷ 3 ∷ 4 ∷ 5 ∷ 6 ∷ 7 ∷ 8 ∷ 9 ∷ []
+numbers = 1 ∷ 2 ∷ 3 ∷ 4 ∷ 5 ∷ 6 ∷ 7 ∷ 8 ∷ []
 
 returns : tie.Need-returns
 unfolding range every checks
 returns c kinds =
     let i = c .args .i in
     eqb→eq (getD numbers i 0) (checkAt kinds i .number)
-    (every-mem (λ k. eqb (getD numbers k 0) (checkAt kinds k .number)) (range 0 9) i tt (mem-range 0 9 i (omega arith) (c .pre)))
+    (every-mem (λ k. eqb (getD numbers k 0) (checkAt kinds k .number)) (range 0 checkCount) i tt (mem-range 0 checkCount i (omega arith) (c .pre)))
 
 pub number-spec : {M : Type 1} → statement M
 number-spec =

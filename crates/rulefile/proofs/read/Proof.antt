@@ -5,7 +5,7 @@ use Prim.Native.Nat.{_≤_, _-_}
 use native.Mathlib.Omega.{arith}
 use borrow.Author.Count.{below-none, below-more}
 use Rattle.rulefile.specs.declared.Outcome.the-variants.{Refused, Accepted}
-use Rattle.rulefile.specs.Checks.{Passed}
+use Rattle.rulefile.specs.Checks.{checkCount, Passed}
 use Rattle.rulefile.specs.CheckLaws.{reading-refused, reading-accepted, parted}
 use Rattle.rulefile.specs.Read.{readOf}
 use Rattle.rulefile.specs.ReadLaws.{layout-trailer}
@@ -13,10 +13,10 @@ use Rattle.rulefile.proofs.read.Statement.{statement}
 use Rattle.rulefile.proofs.read.Tie as tie
 
 abbrev Inv-loop : tie.InvT-loop
-Inv-loop file kinds i₀ i = (i ≤ 9) × Passed kinds file i
+Inv-loop file kinds i₀ i = (i ≤ checkCount) × Passed kinds file i
 
 abbrev μ-loop : tie.MeasureT-loop
-μ-loop file kinds i₀ i = 9 - i
+μ-loop file kinds i₀ i = checkCount - i
 
 loop-holds : tie.Need-loop-holds Inv-loop μ-loop
 loop-holds c = (omega arith, below-none _)

@@ -1,29 +1,28 @@
 -- `rulefile::refuses` meets its contract: each arm calls the function of its check, whose `requires` follows from the checks before it.
 -- Assumes nothing.
-use mathlib.Core.Path.{_≡_, ap}
-use mathlib.Core.Bool.{not}
+use mathlib.Core.Path.{_≡_}
 use Prim.Native.Nat.{ℕ, _<_}
 use native.Mathlib.Omega.{arith}
 use borrow.Author.Needs.{needs}
 use Rattle.rulefile.specs.Format.{checks}
+use Rattle.rulefile.specs.Checks.{checkCount}
 use Rattle.rulefile.specs.CheckLaws.{long, parted}
 use Rattle.rulefile.specs.Read.{extent, foundAt}
 use Rattle.rulefile.proofs.refuses.Statement.{statement}
 use Rattle.rulefile.proofs.refuses.Tie as tie
 
 -- the last arm is that of the last check
-past-three : (i : ℕ) → (i ≡ 0 → ⊥) → (i ≡ 1 → ⊥) → (i ≡ 2 → ⊥) → (i ≡ 3 → ⊥) → 3 < i
-past-three i h₀ h₁ h₂ h₃ = omega arith
-
-last : (i : ℕ) → 3 < i → i < 9 → (i ≡ 4 → ⊥) → (i ≡ 5 → ⊥) → (i ≡ 6 → ⊥) → (i ≡ 7 → ⊥) → i ≡ 8
-last i h l h₄ h₅ h₆ h₇ = omega arith
-
-last-arm : (i : ℕ) → i < 9
-    → (((((((Unit {0} × (i ≡ 0 → ⊥)) × (i ≡ 1 → ⊥)) × (i ≡ 2 → ⊥)) × (i ≡ 3 → ⊥)) × (i ≡ 4 → ⊥)) × (i ≡ 5 → ⊥)) × (i ≡ 6 → ⊥)) × (i ≡ 7 → ⊥)
-    → i ≡ 8
+last-arm : (i : ℕ) → i < checkCount
+    → ((((((Unit {0} × (i ≡ 0 → ⊥)) × (i ≡ 1 → ⊥)) × (i ≡ 2 → ⊥)) × (i ≡ 3 → ⊥)) × (i ≡ 4 → ⊥)) × (i ≡ 5 → ⊥)) × (i ≡ 6 → ⊥)
+    → i ≡ 7
 last-arm i l r =
-    last i (past-three i (r .0 .0 .0 .0 .0 .0 .0 .1) (r .0 .0 .0 .0 .0 .0 .1) (r .0 .0 .0 .0 .0 .1) (r .0 .0 .0 .0 .1)) l
-    (r .0 .0 .0 .1) (r .0 .0 .1) (r .0 .1) (r .1)
+    last (past-three (r .0 .0 .0 .0 .0 .0 .1) (r .0 .0 .0 .0 .0 .1) (r .0 .0 .0 .0 .1) (r .0 .0 .0 .1)) (r .0 .0 .1) (r .0 .1) (r .1)
+  where
+    past-three : (i ≡ 0 → ⊥) → (i ≡ 1 → ⊥) → (i ≡ 2 → ⊥) → (i ≡ 3 → ⊥) → 3 < i
+    past-three h₀ h₁ h₂ h₃ = omega arith
+
+    last : 3 < i → (i ≡ 4 → ⊥) → (i ≡ 5 → ⊥) → (i ≡ 6 → ⊥) → i ≡ 7
+    last h h₄ h₅ h₆ = omega arith
 
 bad-mark-requires : tie.Need-bad-mark-requires
 bad-mark-requires c κs = long (c .before .before .args .kinds) (c .before .before .args .file .now) (c .before .before .pre .1) (omega (arith, c .match))
@@ -44,10 +43,7 @@ found-requires-3 : tie.Need-found-requires-3
 found-requires-3 c κs = parted (c .before .before .args .kinds) (c .before .before .args .file .now) (c .before .before .pre .1) (omega (arith, c .match))
 
 bad-rule-requires : tie.Need-bad-rule-requires
-bad-rule-requires c κs = parted (c .before .before .args .kinds) (c .before .before .args .file .now) (c .before .before .pre .1) (omega (arith, c .match))
-
-found-requires-4 : tie.Need-found-requires-4
-found-requires-4 c κs =
+bad-rule-requires c κs =
     let s = c .before .before in
     parted (s .args .kinds) (s .args .file .now) (s .pre .1) (omega (arith, last-arm (s .args .i) (s .pre .0) (c .match .rest)))
 
@@ -81,16 +77,12 @@ returns-7 c = rw (c .before .match .keys7) (c .found3 .ensures)
 
 returns-8 : tie.Need-returns-8
 unfolding checks extent foundAt
-returns-8 c = rw (c .before .match .keys8) (c .bad-rule .ensures)
-
-returns-9 : tie.Need-returns-9
-unfolding checks extent foundAt
-returns-9 c =
+returns-8 c =
     let s = c .before .before .before in
-    rw (last-arm (s .args .i) (s .pre .0) (c .before .match .rest)) (ap not (c .found4 .ensures))
+    rw (last-arm (s .args .i) (s .pre .0) (c .before .match .rest)) (c .bad-rule .ensures)
 
 pub refuses-spec : {M : Type 1} → statement M
 refuses-spec =
     tie.close (tie.spec
     (λ c κs. search needs) bad-mark-requires bad-counts-requires bad-place-requires found-requires found-requires-2 found-requires-3 bad-rule-requires
-    found-requires-4 returns returns-2 returns-3 returns-4 returns-5 returns-6 returns-7 returns-8 returns-9)
+    returns returns-2 returns-3 returns-4 returns-5 returns-6 returns-7 returns-8)
