@@ -4,20 +4,16 @@
 -- Assumes nothing.
 use mathlib.Core.Path.{_≡_, refl, sym, ap, _∙_}
 use mathlib.Core.Bool.{Bool, true, false, _||_}
-use mathlib.Core.Logic.{inl, inr}
 use mathlib.Core.List.{[], _∷_}
 use Prim.Native.Nat.{ℕ, _≤_, _<_}
 use native.Mathlib.Omega.{arith}
-use lib.Dec.{ltb, ltb→lt}
+use lib.Dec.{ltb}
 use lib.ListN.{length, take, drop, length-append}
 use lib.Seq.{take-at}
 use borrow.Author.Tests.{ltb-false}
-use Rattle.concepts.specs.Tests.{impossible, or-neither}
-use Rattle.concepts.specs.Lists.{range, every}
-use Rattle.concepts.specs.ListLaws.{mem-range, every-mem, least-below}
-use Rattle.decoding.specs.Decoding.{Kinds, draftKinds}
-use Rattle.rulefile.specs.Format.{Bytes, RuleFile, checks, Reading, refused, accepted, readingOf}
-use Rattle.rulefile.specs.Checks.{checkAt, refusesAt}
+use Rattle.concepts.specs.Tests.{or-neither}
+use Rattle.decoding.specs.Decoding.{draftKinds}
+use Rattle.rulefile.specs.Format.{Bytes, RuleFile, Reading, refused, accepted}
 use Rattle.rulefile.specs.CheckLaws.{refused-number}
 use Rattle.run.specs.Printed.{ascii, line}
 use Rattle.run.specs.ProgramLaws.{reading-take}

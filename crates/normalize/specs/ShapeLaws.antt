@@ -2,7 +2,7 @@
 --
 -- In order: by the parts of a concept; row k of a draft: its parts are its bytes, and it becomes what they say (`shape-bytes`), case by case (`RowRead`, `literal-case`, ..).
 -- Assumes nothing.
-use mathlib.Core.Path.{_≡_, refl, sym, ap, _∙_}
+use mathlib.Core.Path.{_≡_, refl, sym, _∙_}
 use mathlib.Core.Bool.{true, false, not, _||_}
 use mathlib.Core.Logic.{inl, inr}
 use Prim.Native.Nat.{ℕ, zero, suc, _≤_, _<_}
@@ -11,12 +11,12 @@ use lib.Dec.{eqb, eqb→eq}
 use lib.ListN.{length}
 use borrow.Author.Tests.{le-leb, lt-leb, eq-eqb, ne-eqb}
 use Rattle.concepts.specs.Tests.{impossible, or-cases, from-true}
-use Rattle.concepts.specs.ListLaws.{length-map-range, getD-map-range}
+use Rattle.concepts.specs.ListLaws.{length-map-range}
 use Rattle.concepts.specs.Concept.{Concept, atomic, negated, conj, disj, univ, exist, neg, impl, conceptAt, roleOf, Ordered}
 use Rattle.decoding.specs.Decoding.{draftKinds}
 use Rattle.decoding.specs.RowParts.{kindOf, leftOf, rightOf, ofParts}
-use Rattle.decoding.specs.RowPartLaws.{Parts, row-parts}
-use Rattle.rulefile.specs.Format.{Bytes, rowCount, rowByte, conceptIn, badRow}
+use Rattle.decoding.specs.RowPartLaws.{Parts}
+use Rattle.rulefile.specs.Format.{Bytes, rowCount, rowByte, conceptIn}
 use Rattle.rulefile.specs.Checks.{Parted}
 use Rattle.rulefile.specs.CheckLaws.{parted}
 use Rattle.rulefile.specs.FormatLaws.{contents-parts, contents-admitted}

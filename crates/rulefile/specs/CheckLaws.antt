@@ -1,7 +1,8 @@
 -- Laws of Checks: reading goes by the first check that refuses, and what the first four checks give.
 --
 -- In order: refusal and reading, check by check (`refusal-at`, `refusal-none`, `reading-refused`, `reading-accepted`);
--- the numbers that a refused file can get (`refused-number`); an accepted file passed every check (`accepted-contents`, `accepted-passed`); where the parts of a file stand (`long`, `parted`).
+-- the numbers that a refused file can get (`refused-number`); an accepted file passed every check (`accepted-contents`, `accepted-passed`);
+-- where the parts of a file stand (`long`, `parted`).
 -- Assumes nothing.
 use mathlib.Core.Path.{_≡_, refl}
 use mathlib.Core.Bool.{Bool, true, false, _&&_, _||_}
@@ -15,7 +16,8 @@ use borrow.Author.Tests.{ltb-false, eqb-true, eqb-false, not-false}
 use Rattle.concepts.specs.Tests.{impossible, or-neither, and-both}
 use Rattle.concepts.specs.Lists.{range, every}
 use Rattle.concepts.specs.ListLaws.{getD-mem, mem-range, every-mem, least-below, first-at, first-nowhere, first-none}
-use Rattle.rulefile.specs.Format.{Bytes, firstRow, rowCount, ruleCount, badLength, badCounts, badPlace, Check, checks, answerOf, refusal, RuleFile, contents, Reading, refused, accepted, readingOf}
+use Rattle.rulefile.specs.Format.{Bytes, firstRow, rowCount, ruleCount, badLength, badCounts, badPlace}
+use Rattle.rulefile.specs.Format.{Check, checks, answerOf, refusal, RuleFile, contents, Reading, refused, accepted, readingOf}
 use Rattle.decoding.specs.Decoding.{Kinds}
 use Rattle.rulefile.specs.Checks.{checkCount, noCheck, checkAt, refusesAt, Passed, PassedAll, Parted}
 
@@ -53,8 +55,8 @@ module _ (kinds : Kinds) (b : Bytes) where
   unfolding range every checks
   number-at i h =
       let listed : ℕ → Bool = λ k. ltb 0 (checkAt kinds k .number) && leb (checkAt kinds k .number) 8 in
-      let (above, most) = and-both (ltb 0 (checkAt kinds i .number)) (leb (checkAt kinds i .number) 8)
-        (every-mem listed (range 0 checkCount) i tt (mem-range 0 checkCount i (omega arith) h)) in
+      let here = every-mem listed (range 0 checkCount) i tt (mem-range 0 checkCount i (omega arith) h) in
+      let (above, most) = and-both (ltb 0 (checkAt kinds i .number)) (leb (checkAt kinds i .number) 8) here in
       (ltb→lt 0 (checkAt kinds i .number) above, leb→le (checkAt kinds i .number) 8 most)
 
   pub refused-number : (n : ℕ) → readingOf kinds b ≡ refused n → (0 < n) × (n ≤ 8)

@@ -66,12 +66,13 @@ module _ (kinds : Kinds) (b : Bytes) (passed : PassedAll kinds b) where
       → (k : ℕ) → P k (conceptAt (contents kinds b .table) k)
   row-cases P row past k = map-range-cases (P k) (conceptIn kinds b) (rowCount b) k (atomic 0) (row k) (λ h. past k)
 
+  row-at : (k : ℕ) → k < rowCount b → conceptAt (contents kinds b .table) k ≡ conceptIn kinds b k
+  row-at k h = getD-map-range (conceptIn kinds b) 0 (rowCount b) k (atomic 0) h ∙ ap (conceptIn kinds b) (omega arith)
+
   -- row k of the table has the four bytes of row k of the file as its parts
   pub contents-parts : (k : ℕ) → k < rowCount b → Parts (rowByte b k 0) (rowByte b k 1) (rowByte b k 2) (rowByte b k 3) (conceptAt (contents kinds b .table) k)
   contents-parts k h =
-      let at : conceptAt (contents kinds b .table) k ≡ conceptIn kinds b k = getD-map-range (conceptIn kinds b) 0 (rowCount b) k (atomic 0) h ∙ ap (conceptIn kinds b) (omega arith) in
-      rw at
-      (row-parts kinds (rowByte b k 0) (rowByte b k 1) (rowByte b k 2) (rowByte b k 3) (unfold badRow in row-formed k h))
+      rw (row-at k h) (row-parts kinds (rowByte b k 0) (rowByte b k 1) (rowByte b k 2) (rowByte b k 3) (unfold badRow in row-formed k h))
 
   contents-ordered : Ordered (contents kinds b .table)
   contents-ordered =

@@ -37,7 +37,7 @@ none-below-zero [] e = refl
 none-below-zero (l ∷ ls) e = let z : _≡_ {A = ℕ} 0 1 = cc (or-neither (leb 0 l) (any (λ k. leb 0 k) ls) e .0, leb·zero l) in absurd (omega arith)
 
 -- row k is of kind 1 or 2, by its bytes
-abbrev literalAt : Bytes → ℕ → Bool
+abbrev pub literalAt : Bytes → ℕ → Bool
 literalAt b k = eqb (rowByte b k 0) 1 || eqb (rowByte b k 0) 2
 
 module _ (kinds : Kinds) (b : Bytes) (passed : PassedAll kinds b) where
@@ -67,9 +67,10 @@ pub accepted-begins-with-literal : (kinds : Kinds) (b : Bytes) (f : RuleFile) �
     → (0 < length (f .table)) × Literal (conceptAt (f .table) 0)
 accepted-begins-with-literal kinds b f e =
     let passed = accepted-passed kinds b f e in
-    let row = contents-parts kinds b passed 0 (some-rows kinds b passed) in
-    (accepted-admitted kinds b f e .someRows,
-    rw (accepted-contents kinds b f e) (literal-of (conceptAt (contents kinds b .table) 0) (row .kind-is) (row-zero kinds b passed)))
+    let row = contents-parts kinds b passed 0 (some-rows kinds b passed) in (
+      accepted-admitted kinds b f e .someRows,
+      rw (accepted-contents kinds b f e) (literal-of (conceptAt (contents kinds b .table) 0) (row .kind-is) (row-zero kinds b passed)),
+    )
 
 -- ---- the check that was taken out
 
@@ -92,10 +93,10 @@ spare-check (d ∷ cs) c b h = by (answerOf b d) (spare-check cs c b) h
     by none rest h = rest h
 
 -- document 01's check 9: "No row has kind 1 or 2"
-abbrev checkNine : Check
+abbrev pub checkNine : Check
 checkNine = record { number = 9; refuses = λ b. not (someRow b (literalAt b)) }
 
--- with that check behind the others every file gets the refusal that it gets without, or none
+-- with that check behind the others every file gets the refusal that it gets without, or none; a reading goes by the refusal alone, and all answers by the reading
 pub refusal-as-before : (kinds : Kinds) (b : Bytes) → refusalBy (checks kinds ++ (checkNine ∷ [])) b ≡ refusal kinds b
 unfolding refusal
 refusal-as-before kinds b =

@@ -44,7 +44,7 @@ pub fn check_first_rows(mut answer: impl Answering, mut convert: impl Converting
                     let expected = [refusal(row, false), refusal(row, true)];
                     check(&mut answer, &mut convert, &encode(b"", &[row], &[], 0), expected);
                     check(&mut answer, &mut convert, &encode(b"", &[row, NAME], &[1], 0), expected);
-                    expected.map(|number| came[usize::from(number.unwrap_or(0))] += 1);
+                    expected.iter().for_each(|number| came[usize::from(number.unwrap_or(0))] += 1);
                 }
             }
         }
@@ -88,8 +88,8 @@ pub fn check_tables_without_names(mut answer: impl Answering, mut convert: impl 
 fn rows_without_names(prng: &mut Prng, is_draft: bool) -> Vec<Row> {
     let shape = Shape { names: 0, roles: 16, compound: 0, rules: 0, text: 0 };
     let mut rows: Vec<Row> = Vec::new();
-    for number in 0..1 + prng.below(12) {
-        let row = random_row(prng, shape, if number == 0 { 256 } else { number });
+    for _ in 0..1 + prng.below(12) {
+        let row = random_row(prng, shape, if rows.is_empty() { 256 } else { rows.len() });
         let row = match (is_draft, prng.below(4), row) {
             (true, 0, [_, _, left, _]) => [8, 0, left, 0],
             (true, 1, [_, _, left, right]) => [9, 0, left, right],
