@@ -3,7 +3,7 @@
 use crate::questions::{conversion_line, one_line, Conversion};
 use crate::{cases, draft_cases};
 use plain::{records, Answer, Area, Lent};
-use worlds::{Example, Ontology, World};
+use worlds::{Concept, Example, Ontology, World};
 
 /// An answering function: the answer to a file, given the lengths of the areas.
 pub trait Answering: FnMut(&[u8], &Lent) -> Answer {}
@@ -55,11 +55,13 @@ pub fn whole_answer(answer: &mut impl Answering, file: &[u8], lent: &Lent, first
     whole
 }
 
-/// Only files that the meaning of ALCI can read get past the file checks, and every example is judged. `worlds` reads files apart
-/// from `plain`, so this compares the two readers as well.
+/// Only files that the meaning of ALCI can read get past the file checks, their tables begin with a name or the negation of one, and
+/// every example is judged. `worlds` reads files apart from `plain`, so this compares the two readers as well.
 pub fn check_example(file: &[u8], answer: &Answer) {
     let ontology = Ontology::decode(file);
     assert_eq!(ontology.is_none(), matches!(answer, Answer::Refused(_)), "{answer:?} to {file:02x?}");
+    let literal = |row: &Concept| matches!(row, Concept::Name(_) | Concept::NotName(_));
+    assert!(ontology.iter().all(|ontology| literal(&ontology.rows[0])), "accepted: {file:02x?}");
     if let (Answer::Can { elements, links, .. }, Some(ontology)) = (answer, ontology) {
         let [elements, links] = records(elements, links);
         check_records(file, &ontology, &Example::read(&elements, &links).expect("whole records"));
