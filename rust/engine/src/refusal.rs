@@ -5,7 +5,7 @@ use std::fmt;
 /// Why there is no verdict, or no file from a draft.
 ///
 /// Later versions of the engine have more refusals, and may give up one of these. There is no 9: it was "No row has kind 1 or 2",
-/// which no file met (document 02, [3]), and the number is not used again.
+/// and no file got as far as that check to fail it (document 02, [3]). The number is not used again.
 #[derive(Clone, Copy, Debug, PartialEq, Eq, Hash)]
 #[non_exhaustive]
 pub enum Refusal {
