@@ -16,7 +16,7 @@ use Rattle.procedure.specs.Example.{worldOf}
 use Rattle.run.specs.Run as Run
 use Rattle.run.specs.ExampleBytes.{exampleIn}
 use Rattle.run.specs.Promise as Engine
-use Rattle.run.specs.Promise.{SaysShort, SaysCannot, SaysCan}
+use Rattle.run.specs.Promise.{NotShort, SaysCannot, SaysCan}
 use Rattle.drafts.specs.Conversion.{Numbers, draftReading}
 use Rattle.drafts.specs.Promise.{Same, Keeps, Promise}
 
@@ -29,10 +29,10 @@ DraftModel d = Model (d .table) (d .tbox) (d .wanted)
 pub record SpeaksOf (d f : RuleFile) (r : Run.Numbers) (after : Run.Areas) : Type 0 where
   -- unless a record finds no place, "cannot" exactly when no finite world of any size obeys the draft's rules and has a member of its kit
   pub cannot : SaysCannot r → DraftModel d → ⊥
-  pub cannotOnly : (SaysShort r → ⊥) → (DraftModel d → ⊥) → SaysCannot r
+  pub cannotOnly : NotShort r → (DraftModel d → ⊥) → SaysCannot r
   -- "can" or 11 exactly when one does
   pub can : SaysCan r → DraftModel d
-  pub canOnly : (SaysShort r → ⊥) → DraftModel d → SaysCan r
+  pub canOnly : NotShort r → DraftModel d → SaysCan r
   -- with "can" the world read from the bytes of the example areas is such a world, and its element 0 a member
   pub example : r .verdict ≡ 1
       → let W = finite (worldOf (f .table) (exampleIn (after .elements) (after .links) (r .elements) (r .links))) in

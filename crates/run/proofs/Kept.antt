@@ -18,8 +18,9 @@ use Rattle.procedure.specs.Example.{Example, worldOf}
 use Rattle.words.specs.Words.{overwrite}
 use Rattle.words.specs.Sizes.{setSize, linkSize}
 use Rattle.evaluation.specs.Layout.{elementBytes, linkBytes}
-use Rattle.run.specs.Run.{Areas, Lengths, lengths, capacity, fileProblem, Used, Answer, refusedFile, short, cannot, can, tooLong, undefined, fits, answerResult, refusedWith}
-use Rattle.run.specs.Run.{numbers, answer, areasAfter}
+use Rattle.run.specs.Run.{Areas, Lengths, lengths, capacity, lentFor, fileProblem, Used, Answer, refusedFile, short, cannot, can, tooLong, undefined, fits, answerResult}
+use Rattle.run.specs.Run.{refusedWith, numbers, answer, areasAfter}
+use Rattle.run.specs.ShortLaws.{shortRefusal-least, shortRefusal-one}
 use Rattle.run.specs.Claim.{Shows, Lists, Keeps}
 use Rattle.run.specs.ExampleBytes.{exampleIn}
 use Rattle.run.specs.ExampleBytesLaws.{example-back}
@@ -48,7 +49,7 @@ module _ (f : RuleFile) (before : Areas) where
 
   -- a record that finds no place gives no other answer
   abbrev NoPlaceIs : Answer → Type 0
-  NoPlaceIs a = (r : Area) → run (fileProblem f) (capacity l) ≡ noPlace r → a ≡ short r
+  NoPlaceIs a = (r : Area) → run (fileProblem f) (capacity l) ≡ noPlace r → a ≡ short r (lentFor (capacity l) r)
 
   -- the example that is read from the areas is the one that was written there
   read-back : (u : Used) (x : Example) → Backed f l u x
@@ -58,8 +59,9 @@ module _ (f : RuleFile) (before : Areas) where
   right-of : (a : Answer) → Backs f l a → NoPlaceIs a → Right f l (numbers a) (areasAfter a before)
   unfolding numbers areasAfter
   right-of (cannot u) B P = record {
-    short = λ e. absurd (omega (arith, e));
+    short = λ r e. absurd (omega (arith, e, shortRefusal-least r));
     shortOnly = λ r e. ap (λ (a : Answer). numbers a .refusal) (P r e);
+    lent = λ r e. absurd (omega (arith, e, shortRefusal-least r));
     cannot = λ e m. B m;
     cannotOnly = λ d n. refl;
     can = λ s. elim s [ inl e ↦ absurd (omega (arith, e)) | inr e ↦ absurd (omega (arith, e)) ];
@@ -70,8 +72,9 @@ module _ (f : RuleFile) (before : Areas) where
     placed = λ e. absurd (omega (arith, e));
   }
   right-of (can u x) B P = record {
-    short = λ e. absurd (omega (arith, e));
+    short = λ r e. absurd (omega (arith, e, shortRefusal-least r));
     shortOnly = λ r e. ap (λ (a : Answer). numbers a .refusal) (P r e);
+    lent = λ r e. absurd (omega (arith, e, shortRefusal-least r));
     cannot = λ e m. absurd (omega (arith, e));
     cannotOnly = λ d n. absurd (n (model-of f x (B .shows)));
     can = λ s. model-of f x (B .shows);
@@ -82,8 +85,9 @@ module _ (f : RuleFile) (before : Areas) where
     placed = λ e g r p s. subst (Keeps (f .table) p) (read-back u x B) (B .placed g r p s);
   }
   right-of (tooLong x) B P = record {
-    short = λ e. absurd (omega (arith, e));
+    short = λ r e. absurd (omega (arith, e, shortRefusal-least r));
     shortOnly = λ r e. ap (λ (a : Answer). numbers a .refusal) (P r e);
+    lent = λ r e. absurd (omega (arith, e, shortRefusal-least r));
     cannot = λ e m. absurd (omega (arith, e));
     cannotOnly = λ d n. absurd (n (model-of f x (B .0)));
     can = λ s. model-of f x (B .0);
@@ -93,14 +97,15 @@ module _ (f : RuleFile) (before : Areas) where
     lists = λ e. absurd (omega (arith, e));
     placed = λ e. absurd (omega (arith, e));
   }
-  right-of (short a) B P = record {
-    short = λ e. (a, B);
-    shortOnly = λ r e. refl;
+  right-of (short a n) B P = record {
+    short = λ r e. B .0 ∙ ap noPlace (shortRefusal-one a r e);
+    shortOnly = λ r e. ap (λ (a : Answer). numbers a .refusal) (P r e);
+    lent = λ r e. B .1 ∙ ap (lentFor (capacity l)) (shortRefusal-one a r e);
     cannot = λ e m. absurd (omega (arith, e));
-    cannotOnly = λ d n. absurd (d refl);
-    can = λ s. elim s [ inl e ↦ absurd (omega (arith, e)) | inr e ↦ absurd (omega (arith, e)) ];
-    canOnly = λ d m. absurd (d refl);
-    tooLong = λ e. absurd (omega (arith, e));
+    cannotOnly = λ d m. absurd (d a refl);
+    can = λ s. elim s [ inl e ↦ absurd (omega (arith, e)) | inr e ↦ absurd (omega (arith, e, shortRefusal-least a)) ];
+    canOnly = λ d m. absurd (d a refl);
+    tooLong = λ e. absurd (omega (arith, e, shortRefusal-least a));
     example = λ e. absurd (omega (arith, e));
     lists = λ e. absurd (omega (arith, e));
     placed = λ e. absurd (omega (arith, e));
@@ -108,7 +113,7 @@ module _ (f : RuleFile) (before : Areas) where
   right-of (refusedFile n) B P = absurd B
   right-of undefined B P = absurd B
 
-no-place-is : (b : Bytes) (l : Lengths) (f : RuleFile) → reading b ≡ accepted f → (r : Area) → run (fileProblem f) (capacity l) ≡ noPlace r → answer b l ≡ short r
+no-place-is : (b : Bytes) (l : Lengths) (f : RuleFile) → reading b ≡ accepted f → (r : Area) → run (fileProblem f) (capacity l) ≡ noPlace r → answer b l ≡ short r (lentFor (capacity l) r)
 unfolding answerResult
 no-place-is b l f e r q = answer-accepted b l f e ∙ ap (answerResult l (f .table)) q
 

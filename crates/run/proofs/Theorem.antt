@@ -14,7 +14,7 @@ use Rattle.run.specs.Claim.{Claim, SaysCan}
 --   * "can", and refusal 11: the example's world obeys every rule at each element and its element 0 is a member of the kit,
 --     and each element lists a row of the table exactly if it holds there in that world, and nothing past the table;
 --   * "can" also: the example has no more elements and links than the run used nodes and edges;
---   * refusal 10: a record of the procedure found no place, and no claim is made;
+--   * refusal 13, 14 or 15: a node, an edge or an alternative of the procedure found no place, and no claim is made;
 --   * the answers that an accepted file must never get, a refusal by a file check and a definition's fuel running out, claim falsehood.
 pub demand-three : (b : Bytes) (l : Lengths) (f : RuleFile) → reading b ≡ accepted f → Claim f (answer b l)
 demand-three = answer-right

@@ -30,8 +30,8 @@ use Rattle.procedure.proofs.Correct.{no-model, example-there, example-obeys, ex
 use Rattle.procedure.proofs.Model.{ExampleRight}
 use Rattle.words.specs.Sizes.{mostRecords}
 use Rattle.evaluation.specs.LayoutLaws.{LinkFits}
-use Rattle.run.specs.Run.{Lengths, capacity, fileProblem, listing, shown, Used, used, Answer, refusedFile, short, cannot, can, tooLong, undefined, fits, answerCan, answerRoot}
-use Rattle.run.specs.Run.{answerResult, answerReading, answer}
+use Rattle.run.specs.Run.{Lengths, capacity, lentFor, fileProblem, listing, shown, Used, used, Answer, refusedFile, short, cannot, can, tooLong, undefined, fits, answerCan}
+use Rattle.run.specs.Run.{answerRoot, answerResult, answerReading, answer}
 use Rattle.run.specs.Claim.{Shows, Lists, Keeps, Claim, SaysCan}
 use Rattle.run.specs.ListingLaws.{length-listing, world-listing, listing-keeps, listing-lists, listing-lt, shown-some}
 
@@ -51,7 +51,7 @@ abbrev pub Backs : RuleFile → Lengths → Answer → Type 0
 Backs f l (cannot u) = Model (f .table) (f .tbox) (f .wanted) → ⊥
 Backs f l (can u x) = Backed f l u x
 Backs f l (tooLong x) = Shows f x × Lists f x × (fits l x ≡ false)
-Backs f l (short a) = run (fileProblem f) (capacity l) ≡ noPlace a
+Backs f l (short a n) = (run (fileProblem f) (capacity l) ≡ noPlace a) × (n ≡ lentFor (capacity l) a)
 Backs f l (refusedFile n) = ⊥
 Backs f l undefined = ⊥
 
@@ -59,7 +59,7 @@ claimed : (f : RuleFile) (l : Lengths) (a : Answer) → Backs f l a → Claim f 
 claimed f l (cannot u) B = B
 claimed f l (can u x) B = (B .shows, B .lists, B .few-elements, B .few-links)
 claimed f l (tooLong x) B = (B .0, B .1)
-claimed f l (short a) B = tt
+claimed f l (short a n) B = tt
 claimed f l (refusedFile n) B = B
 claimed f l undefined B = B
 
@@ -137,7 +137,7 @@ module _ (f : RuleFile) (W : WellFormed (f .table) (f .tbox) (f .wanted)) (N : N
   result-backed : (r : Result) → runOf ≡ r → Backs f l (answerResult l (f .table) r)
   unfolding answerResult
   result-backed (reached g) e = root-backed g e (nodeAt g 0 .status) refl
-  result-backed (noPlace a) e = e
+  result-backed (noPlace a) e = (e, refl)
   result-backed outOfFuel e = no-fuel (f .table) c (f .tbox) (f .wanted) W N e
 
 -- ---- the answer to a file
@@ -169,7 +169,7 @@ can-model b l q = by-reading (reading b) refl
     model-of f (can u x) C s = record { world = worldOf (f .table) x; obeys = C .0 .obeys; element = 0; member = C .0 .member }
     model-of f (tooLong x) C s = record { world = worldOf (f .table) x; obeys = C .0 .obeys; element = 0; member = C .0 .member }
     model-of f (cannot u) C s = absurd s
-    model-of f (short a) C s = absurd s
+    model-of f (short a n) C s = absurd s
     model-of f (refusedFile n) C s = absurd s
     model-of f undefined C s = absurd s
 

@@ -33,7 +33,7 @@ abbrev pub Claim : RuleFile → Answer → Type 0
 Claim f (cannot u) = Model (f .table) (f .tbox) (f .wanted) → ⊥
 Claim f (can u x) = Shows f x × Lists f x × (length (x .elements) ≤ u .nodes) × (length (x .links) ≤ u .edges)
 Claim f (tooLong x) = Shows f x × Lists f x
-Claim f (short a) = Unit {0}
+Claim f (short a n) = Unit {0}
 Claim f (refusedFile n) = ⊥
 Claim f undefined = ⊥
 
@@ -42,6 +42,6 @@ abbrev pub SaysCan : Answer → Type 0
 SaysCan (can u x) = Unit {0}
 SaysCan (tooLong x) = Unit {0}
 SaysCan (cannot u) = ⊥
-SaysCan (short a) = ⊥
+SaysCan (short a n) = ⊥
 SaysCan (refusedFile n) = ⊥
 SaysCan undefined = ⊥

@@ -1,6 +1,6 @@
--- The starred runs of document 01 (01, Known runs): one table, one theorem, by computation.
+-- The starred runs of document 01 (01, Known runs; 02, [2] and [4]): one table, one theorem, by computation; what they give for a refusal.
 -- Assumes nothing.
-use mathlib.Core.Path.{_≡_, refl}
+use mathlib.Core.Path.{_≡_, refl, ap}
 use mathlib.Core.List.{List, [], _∷_, _++_, map, flatten}
 use Prim.Native.Nat.{ℕ, _*_}
 use lib.ListN.{length}
@@ -22,7 +22,7 @@ use Rattle.procedure.specs.Example as X
 use Rattle.procedure.specs.Example.{firstChild, liveChild, descendBy, descendWithin, descend, position, meet, walkRows, rowsOf, walkWithin, walk, example, worldOf}
 use Rattle.words.specs.Sizes.{nodeSize, edgeSize, alternativeSize}
 use Rattle.evaluation.specs.Evaluation.{testBelow, tested, rowsAt, evaluated}
-use Rattle.run.specs.Run.{Lengths, listing, shown, Used, Answer, refusedFile, short, cannot, can, fits, answerCan, answerRoot, answerResult, answerReading, answer}
+use Rattle.run.specs.Run.{Lengths, listing, shown, Used, Answer, refusedFile, short, cannot, can, fits, answerCan, answerRoot, answerResult, answerReading, answer, numbers}
 
 pub record KnownRun : Type 0 where
   pub file : Bytes
@@ -66,9 +66,9 @@ knownRuns =
     ∷ record { file = written (row 1 0 0 0 ∷ row 6 0 0 0 ∷ []) (1 ∷ []) 0; lent = program; expected = can (counts 4 4 0) (showing (3 ∷ []) (link 0 0 0 ∷ [])) }
     ∷ record { file = written (row 1 0 0 0 ∷ row 2 0 0 0 ∷ row 5 1 0 0 ∷ row 6 0 2 0 ∷ row 3 0 1 3 ∷ []) [] 4; lent = program; expected = cannot (counts 6 5 1) }
     ∷ record { file = eightNodes; lent = program; expected = can (counts 8 7 1) (showing (7 ∷ 2 ∷ []) (link 0 0 1 ∷ [])) }
-    ∷ record { file = eightNodes; lent = lend 7 4096 4096; expected = short nodeArea }
-    ∷ record { file = eightNodes; lent = lend 1024 6 4096; expected = short edgeArea }
-    ∷ record { file = eightNodes; lent = lend 1024 4096 0; expected = short alternativeArea }
+    ∷ record { file = eightNodes; lent = lend 7 4096 4096; expected = short nodeArea 7 }
+    ∷ record { file = eightNodes; lent = lend 1024 6 4096; expected = short edgeArea 6 }
+    ∷ record { file = eightNodes; lent = lend 1024 4096 0; expected = short alternativeArea 0 }
     ∷ record { file = []; lent = program; expected = refusedFile 1 }
     ∷ record { file = written (row 1 0 0 0 ∷ row 6 32 0 0 ∷ []) [] 0; lent = program; expected = refusedFile 5 }
     ∷ []
@@ -81,3 +81,13 @@ unfolding knownRuns written flatten range select any every consAnswer answers fi
     putSuccessors putKit expandState expandDisj expandConj expand loopWithin run X._>>=_ firstChild liveChild descendBy descendWithin descend position meet walkRows rowsOf
     walkWithin walk example worldOf listed testBelow tested rowsAt evaluated listing shown fits answerCan answerRoot answerResult answerReading answer mathlib.Core.List.zip mathlib.Core.List.zipWith
 known-runs = refl
+
+-- a refusal and how many records it says were lent
+abbrev refusalGiven : Answer → ℕ × ℕ
+refusalGiven a = (numbers a .refusal, numbers a .lent)
+
+-- "the three starred runs short of a record give 13, 14 and 15" (02, [4])
+pub known-refusals : map (λ (k : KnownRun). refusalGiven (answer (k .file) (k .lent))) knownRuns
+    ≡ (0, 0) ∷ (0, 0) ∷ (0, 0) ∷ (0, 0) ∷ (0, 0) ∷ (13, 7) ∷ (14, 6) ∷ (15, 0) ∷ (1, 0) ∷ (5, 0) ∷ []
+unfolding knownRuns numbers
+known-refusals = ap (map refusalGiven) known-runs

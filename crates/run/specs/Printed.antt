@@ -1,13 +1,13 @@
--- The answer as the program prints it (01, Known runs: "The program reads one file from standard input .. and prints"). Laws are in PrintedLaws.
+-- The answer as the program prints it (01, Known runs: "The program reads one file from standard input .. and prints"; 02, [4]). Laws are in PrintedLaws.
 --
 -- In order: words and numbers; a line; the lines of an answer; the whole.
 -- Assumes nothing.
-use mathlib.Core.Bool.{true, false}
+use mathlib.Core.Bool.{true, false, _&&_}
 use mathlib.Core.List.{List, [], _∷_, _++_, map, flatten}
 use Prim.Native.Nat.{ℕ, zero, suc, _+_, _/_, _%_}
 use Prim.Native.Char.{code}
 use Prim.Native.String.{String, [] as empty, _∷_ as _then_}
-use lib.Dec.{eqb, ltb}
+use lib.Dec.{eqb, ltb, leb}
 use Rattle.concepts.specs.Lists.{range}
 use Rattle.concepts.specs.RowSet.{RowSet}
 use Rattle.meaning.specs.Given.{RoleLink}
@@ -71,9 +71,16 @@ linkLines links k = flatten (map (λ (i : ℕ). linkLine (linkAt links i)) (rang
 unfoldable pub usedLine : Numbers → Bytes
 usedLine n = line (ascii "USED") (n .nodes ∷ n .edges ∷ n .alternatives ∷ [])
 
--- "one line of `REFUSED` and the number (for 11, both counts too)"
+-- what stands after the number of a refusal: "(for 11, both counts too)"; for 13, 14 and 15 how many records counted as lent, "and the program prints that after the number" (02, [4])
+unfoldable pub refusalCounts : Numbers → List ℕ
+refusalCounts n = elim (eqb (n .refusal) 11) [
+  | true ↦ n .elements ∷ n .links ∷ []
+  | false ↦ elim (leb 13 (n .refusal) && leb (n .refusal) 15) [ true ↦ n .lent ∷ [] | false ↦ [] ]
+]
+
+-- "one line of `REFUSED` and the number"
 unfoldable pub refusedLine : Numbers → Bytes
-refusedLine n = elim (eqb (n .refusal) 11) [ true ↦ line (ascii "REFUSED") (11 ∷ n .elements ∷ n .links ∷ []) | false ↦ line (ascii "REFUSED") (n .refusal ∷ []) ]
+refusedLine n = line (ascii "REFUSED") (n .refusal ∷ refusalCounts n)
 
 -- "CAN: elements, links. USED as above."
 unfoldable pub canLines : Numbers → Bytes → Bytes → Bytes

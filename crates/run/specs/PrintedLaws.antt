@@ -13,17 +13,18 @@ use lib.ListN.{length, length-append}
 use borrow.Author.Tests.{lt-ltb, le-ltb, ltb-true, ltb-false}
 use Rattle.concepts.specs.Lists.{range}
 use Rattle.rulefile.specs.Format.{Bytes}
+use Rattle.procedure.specs.Graph.{nodeArea, edgeArea, alternativeArea}
 use Rattle.words.specs.Words.{leAt, littleEndian}
 use Rattle.evaluation.specs.Layout.{elementAt, linkAt, elementBytes, linkBytes}
-use Rattle.run.specs.Run.{Numbers, refusedWith}
-use Rattle.run.specs.Printed.{ascii, digit, hexadecimal, decimalWithin, decimal, spaced, line, elementLine, linkLine, elementLines, linkLines, usedLine, refusedLine}
+use Rattle.run.specs.Run.{Numbers, verdictWith, refusedWith, shortWith, tooLongWith}
+use Rattle.run.specs.Printed.{ascii, digit, hexadecimal, decimalWithin, decimal, spaced, line, elementLine, linkLine, elementLines, linkLines, usedLine, refusedLine, refusalCounts}
 use Rattle.run.specs.Printed.{canLines, cannotLines, printed}
 
 -- ---- the run that document 01 prints, and what is printed otherwise
 
 -- the numbers of the eight-node run (KnownRuns)
 abbrev eightNodes : Numbers
-eightNodes = record { verdict = 1; refusal = 0; nodes = 8; edges = 7; alternatives = 1; elements = 2; links = 1 }
+eightNodes = verdictWith 1 (record { nodes = 8; edges = 7; alternatives = 1 }) 2 1
 
 -- its two elements and its link, whatever the areas hold after them
 pub printed-eight-nodes : (e l : Bytes)
@@ -32,15 +33,18 @@ pub printed-eight-nodes : (e l : Bytes)
 unfolding printed canLines usedLine linkLines elementLines linkLine elementLine line spaced decimal decimalWithin hexadecimal digit elementBytes linkBytes littleEndian leAt range flatten
 printed-eight-nodes e l = refl
 
--- "Otherwise a line `CANNOT` and the USED line, or one line of `REFUSED` and the number (for 11, both counts too)"
+-- "Otherwise a line `CANNOT` and the USED line, or one line of `REFUSED` and the number (for 11, both counts too)", for 13, 14 and 15 how many were lent
 pub printed-otherwise : (e l : Bytes)
     → map (λ (n : Numbers). printed n e l)
-    (record { verdict = 2; refusal = 0; nodes = 10; edges = 4096; alternatives = 0; elements = 0; links = 0 }
-    ∷ refusedWith 10
-    ∷ record { verdict = 0; refusal = 11; nodes = 0; edges = 0; alternatives = 0; elements = 1025; links = 7 }
+    (verdictWith 2 (record { nodes = 10; edges = 4096; alternatives = 0 }) 0 0
+    ∷ refusedWith 8
+    ∷ tooLongWith 1025 7
+    ∷ shortWith nodeArea 7
+    ∷ shortWith edgeArea 4096
+    ∷ shortWith alternativeArea 0
     ∷ [])
-    ≡ ascii "CANNOT\nUSED 10 4096 0\n" ∷ ascii "REFUSED 10\n" ∷ ascii "REFUSED 11 1025 7\n" ∷ []
-unfolding printed cannotLines refusedLine usedLine line spaced decimal decimalWithin digit
+    ≡ ascii "CANNOT\nUSED 10 4096 0\n" ∷ ascii "REFUSED 8\n" ∷ ascii "REFUSED 11 1025 7\n" ∷ ascii "REFUSED 13 7\n" ∷ ascii "REFUSED 14 4096\n" ∷ ascii "REFUSED 15 0\n" ∷ []
+unfolding printed cannotLines refusedLine refusalCounts usedLine line spaced decimal decimalWithin digit
 printed-otherwise e l = refl
 
 -- ---- a digit

@@ -1,4 +1,4 @@
--- What the engine's call promises, for every file and all five areas (00, demands 1 to 3; 02, [2]).
+-- What the engine's call promises, for every file and all five areas (00, demands 1 to 3; 02, [2] and [4]).
 --
 -- In order: demand 3 for an accepted file, from the numbers of the answer and the bytes of the areas to the meaning of ALCI; the whole promise.
 -- It is kept: proofs/Kept.
@@ -13,15 +13,19 @@ use Rattle.procedure.specs.Graph.{Graph, Area, reached, noPlace}
 use Rattle.procedure.specs.Tableau.{run}
 use Rattle.procedure.specs.Example as Procedure
 use Rattle.words.specs.Sizes.{setSize, linkSize}
-use Rattle.run.specs.Run.{Areas, Lengths, lengths, capacity, fileProblem, Numbers, refusedWith, numbers, answer, areasAfter}
+use Rattle.run.specs.Run.{Areas, Lengths, lengths, capacity, lentFor, fileProblem, Numbers, refusedWith, shortRefusal, numbers, answer, areasAfter}
 use Rattle.run.specs.Claim.{Shows, Lists, Keeps}
 use Rattle.run.specs.ExampleBytes.{exampleIn}
 
 -- ---- demand 3: the file f is accepted, areas of lengths l are lent, r are the numbers of the answer, and the example areas hold `after`
 
--- refusal 10
-abbrev pub SaysShort : Numbers → Type 0
-SaysShort r = r .refusal ≡ 10
+-- refusal 13 for nodes, 14 for edges, 15 for alternatives
+abbrev pub SaysShort : Area → Numbers → Type 0
+SaysShort a r = r .refusal ≡ shortRefusal a
+
+-- none of these
+abbrev pub NotShort : Numbers → Type 0
+NotShort r = (a : Area) → SaysShort a r → ⊥
 
 abbrev pub SaysCannot : Numbers → Type 0
 SaysCannot r = r .verdict ≡ 2
@@ -31,15 +35,17 @@ abbrev pub SaysCan : Numbers → Type 0
 SaysCan r = (r .verdict ≡ 1) ⊎ (r .refusal ≡ 11)
 
 pub record Right (f : RuleFile) (l : Lengths) (r : Numbers) (after : Areas) : Type 0 where
-  -- refusal 10 exactly when a record of the procedure finds no place
-  pub short : SaysShort r → (a : Area) × (run (fileProblem f) (capacity l) ≡ noPlace a)
-  pub shortOnly : (a : Area) → run (fileProblem f) (capacity l) ≡ noPlace a → SaysShort r
+  -- 13 exactly when a node of the procedure finds no place, 14 exactly when an edge does, 15 exactly when an alternative does
+  pub short : (a : Area) → SaysShort a r → run (fileProblem f) (capacity l) ≡ noPlace a
+  pub shortOnly : (a : Area) → run (fileProblem f) (capacity l) ≡ noPlace a → SaysShort a r
+  -- with how many records of that kind counted as lent, whole ones and at most 4,096
+  pub lent : (a : Area) → SaysShort a r → r .lent ≡ lentFor (capacity l) a
   -- else "cannot" exactly when no finite world of any size will do
   pub cannot : SaysCannot r → Model (f .table) (f .tbox) (f .wanted) → ⊥
-  pub cannotOnly : (SaysShort r → ⊥) → (Model (f .table) (f .tbox) (f .wanted) → ⊥) → SaysCannot r
+  pub cannotOnly : NotShort r → (Model (f .table) (f .tbox) (f .wanted) → ⊥) → SaysCannot r
   -- "can" or 11 exactly when one does
   pub can : SaysCan r → Model (f .table) (f .tbox) (f .wanted)
-  pub canOnly : (SaysShort r → ⊥) → Model (f .table) (f .tbox) (f .wanted) → SaysCan r
+  pub canOnly : NotShort r → Model (f .table) (f .tbox) (f .wanted) → SaysCan r
   -- 11 only where the example is larger than its areas
   pub tooLong : r .refusal ≡ 11 → (l .elements < setSize * r .elements) ⊎ (l .links < linkSize * r .links)
   -- with "can" the world read from the bytes of the example areas obeys every rule at each element, and its element 0 is a member of the kit

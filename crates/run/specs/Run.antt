@@ -1,4 +1,4 @@
--- The whole run: from the bytes of a file and the five areas to the answer and the areas afterwards (01, Refusals; Areas; 02, [2]).
+-- The whole run: from the bytes of a file and the five areas to the answer and the areas afterwards (01, Refusals; Areas; 02, [2] and [4]).
 --
 -- In order: what is lent; the example that is shown; the answer; its numbers; the areas afterwards.
 -- Assumes nothing.
@@ -11,7 +11,7 @@ use Rattle.concepts.specs.Concept.{Table}
 use Rattle.rulefile.specs.Format.{Bytes, RuleFile, Reading, refused, accepted, reading}
 use Rattle.procedure.specs.Problem.{Problem, problem}
 use Rattle.procedure.specs.Status.{Status, unset, «open», sat, unsat, toosmall}
-use Rattle.procedure.specs.Graph.{Graph, Capacity, Area, Result, reached, noPlace, outOfFuel, nodeAt}
+use Rattle.procedure.specs.Graph.{Graph, Capacity, Area, nodeArea, edgeArea, alternativeArea, Result, reached, noPlace, outOfFuel, nodeAt}
 use Rattle.procedure.specs.Tableau as Tableau
 use Rattle.procedure.specs.Example.{Example, example, worldOf}
 use Rattle.words.specs.Words.{overwrite}
@@ -57,6 +57,12 @@ capacity l = record {
   alternativeRoom = min mostRecords (l .alternatives / alternativeSize);
 }
 
+-- "how many records of that kind counted as lent" (02, [4])
+abbrev pub lentFor : Capacity → Area → ℕ
+lentFor c nodeArea = c .nodeRoom
+lentFor c edgeArea = c .edgeRoom
+lentFor c alternativeArea = c .alternativeRoom
+
 -- ---- the example that is shown
 
 -- "An element shall list a row exactly if it holds there in the example. .. Links and counts are as they were" (02, [2])
@@ -80,7 +86,7 @@ used g = record { nodes = length (g .nodes); edges = length (g .edges); alternat
 
 pub data Answer : Type 0 where
   refusedFile : ℕ → Answer  -- a file check refuses the file: 1 to 8
-  short : Area → Answer  -- refusal 10: a record has no place in this area
+  short : Area → ℕ → Answer  -- refusal 13, 14 or 15: a record has no place in this area, where so many count as lent
   cannot : Used → Answer
   can : Used → Example → Answer
   tooLong : Example → Answer  -- refusal 11: "can", and an example area is too short
@@ -104,7 +110,7 @@ answerRoot unset l t g = undefined
 
 unfoldable pub answerResult : Lengths → Table → Result → Answer
 answerResult l t (reached g) = answerRoot (nodeAt g 0 .status) l t g
-answerResult l t (noPlace a) = short a
+answerResult l t (noPlace a) = short a (lentFor (capacity l) a)
 answerResult l t outOfFuel = undefined
 
 -- what the run on an accepted file is about
@@ -129,22 +135,42 @@ pub record Numbers : Type 0 where
   pub alternatives : ℕ
   pub elements : ℕ  -- of the example
   pub links : ℕ
+  pub lent : ℕ  -- records that count as lent, of the kind that found no place; 0 otherwise
+
+-- a verdict, with the records used and the example's sizes
+abbrev pub verdictWith : ℕ → Used → (elements links : ℕ) → Numbers
+verdictWith n u elements links =
+    record { verdict = n; refusal = 0; nodes = u .nodes; edges = u .edges; alternatives = u .alternatives; elements = elements; links = links; lent = 0 }
 
 -- "Each gives its number and zeros elsewhere"
 abbrev pub refusedWith : ℕ → Numbers
-refusedWith n = record { verdict = 0; refusal = n; nodes = 0; edges = 0; alternatives = 0; elements = 0; links = 0 }
+refusedWith n = record { verdict = 0; refusal = n; nodes = 0; edges = 0; alternatives = 0; elements = 0; links = 0; lent = 0 }
+
+-- "Refusal 13 is for nodes, 14 for edges, 15 for alternatives" (02, [4])
+abbrev pub shortRefusal : Area → ℕ
+shortRefusal nodeArea = 13
+shortRefusal edgeArea = 14
+shortRefusal alternativeArea = 15
+
+-- "Each gives also how many records of that kind counted as lent" (02, [4])
+abbrev pub shortWith : Area → ℕ → Numbers
+shortWith a n = record { verdict = 0; refusal = shortRefusal a; nodes = 0; edges = 0; alternatives = 0; elements = 0; links = 0; lent = n }
+
+-- "11 also gives the element and link counts needed"
+abbrev pub tooLongWith : (elements links : ℕ) → Numbers
+tooLongWith elements links = record { verdict = 0; refusal = 11; nodes = 0; edges = 0; alternatives = 0; elements = elements; links = links; lent = 0 }
 
 unfoldable pub numbers : Answer → Numbers
 numbers (refusedFile n) = refusedWith n
-numbers (short a) = refusedWith 10
-numbers (cannot u) = record { verdict = 2; refusal = 0; nodes = u .nodes; edges = u .edges; alternatives = u .alternatives; elements = 0; links = 0 }
-numbers (can u x) = record { verdict = 1; refusal = 0; nodes = u .nodes; edges = u .edges; alternatives = u .alternatives; elements = length (x .elements); links = length (x .links) }
-numbers (tooLong x) = record { verdict = 0; refusal = 11; nodes = 0; edges = 0; alternatives = 0; elements = length (x .elements); links = length (x .links) }
+numbers (short a n) = shortWith a n
+numbers (cannot u) = verdictWith 2 u 0 0
+numbers (can u x) = verdictWith 1 u (length (x .elements)) (length (x .links))
+numbers (tooLong x) = tooLongWith (length (x .elements)) (length (x .links))
 numbers undefined = refusedWith 0
 
 -- ---- the areas afterwards
 
--- "After a verdict, 10 or 11 every byte of all three is zero"
+-- "After a verdict, 10 or 11 every byte of all three is zero"; after 13, 14 and 15 "The areas end as after 10" (02, [4])
 abbrev pub zeros : Bytes → Bytes
 zeros area = replicate (length area) 0
 
@@ -163,7 +189,7 @@ exampleWritten x a = record {
 
 unfoldable pub areasAfter : Answer → Areas → Areas
 areasAfter (refusedFile n) a = a
-areasAfter (short r) a = workCleared a
+areasAfter (short r n) a = workCleared a
 areasAfter (cannot u) a = workCleared a
 areasAfter (can u x) a = exampleWritten x (workCleared a)
 areasAfter (tooLong x) a = workCleared a

@@ -22,13 +22,13 @@ use Rattle.procedure.specs.Graph.{Graph, Area, Result, reached, noPlace, outOfF
 use Rattle.procedure.specs.Tableau.{run}
 use Rattle.procedure.specs.Example.{Example}
 use Rattle.words.specs.Sizes.{setSize, linkSize}
-use Rattle.run.specs.Run.{Lengths, capacity, fileProblem, shown, Used, used, Answer, refusedFile, short, cannot, can, tooLong, undefined}
-use Rattle.run.specs.Run.{fits, answerCan, answerRoot, answerResult, answerReading, answer, Numbers, numbers}
+use Rattle.run.specs.Run.{Lengths, capacity, lentFor, fileProblem, shown, Used, used, Answer, refusedFile, short, cannot, can, tooLong, undefined}
+use Rattle.run.specs.Run.{fits, answerCan, answerRoot, answerResult, answerReading, answer, Numbers, shortRefusal, numbers}
 
 -- ---- by cases
 
 module _ (P : Answer → Type 0) (l : Lengths)
-    (of-short : (a : Area) → P (short a)) (of-cannot : (u : Used) → P (cannot u))
+    (of-short : (a : Area) → P (short a (lentFor (capacity l) a))) (of-cannot : (u : Used) → P (cannot u))
     (of-can : (u : Used) (x : Example) → fits l x ≡ true → P (can u x)) (of-long : (x : Example) → fits l x ≡ false → P (tooLong x))
     (of-undefined : P undefined) where
   by-example : (u : Used) (o : Option Example) → P (answerCan l u o)
@@ -88,12 +88,12 @@ answer-room b l =
 
 -- ---- the numbers of refusals
 
--- 1 to 8 by a check of the file, 10 and 11; 0 with a verdict. 9 is not used again (02, [3])
+-- 1 to 8 by a check of the file, 11, and 13, 14 or 15 for a record without a place; 0 with a verdict. 9 is not used again (02, [3]), 10 is no longer given (02, [4])
 abbrev pub RunRefusal : ℕ → Type 0
-RunRefusal n = (n ≤ 8) ⊎ ((n ≡ 10) ⊎ (n ≡ 11))
+RunRefusal n = (n ≤ 8) ⊎ ((n ≡ 11) ⊎ ((a : Area) × (n ≡ shortRefusal a)))
 
 pub answer-refusal : (b : Bytes) (l : Lengths) → RunRefusal (numbers (answer b l) .refusal)
 unfolding numbers
 answer-refusal b l =
-    answer-cases (λ a. RunRefusal (numbers a .refusal)) l (λ a. inr (inl refl)) (λ u. inl (omega arith))
-    (λ u x f. inl (omega arith)) (λ x f. inr (inr refl)) (inl (omega arith)) b (λ n e. inl (refused-number ruleKinds b n e .1))
+    answer-cases (λ a. RunRefusal (numbers a .refusal)) l (λ a. inr (inr (a, refl))) (λ u. inl (omega arith))
+    (λ u x f. inl (omega arith)) (λ x f. inr (inl refl)) (inl (omega arith)) b (λ n e. inl (refused-number ruleKinds b n e .1))
