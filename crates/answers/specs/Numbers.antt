@@ -12,4 +12,5 @@ numbersOf a = record {
   alternatives = a .alternatives;
   elements = a .elements;
   links = a .links;
+  lent = a .lent;
 }

@@ -5,13 +5,13 @@
 use mathlib.Core.Path.{_≡_}
 use mathlib.Core.Bool.{Bool, true, false}
 use mathlib.Core.List.{List}
-use Prim.Native.Nat.{ℕ, _≤_}
+use Prim.Native.Nat.{ℕ, _/_, _≤_, min}
 use lib.ListN.{length}
 use Rattle.procedure.specs.Status.{Status, unset, «open», sat, unsat, toosmall}
-use Rattle.procedure.specs.Graph.{reached, noPlace, nodeAt}
+use Rattle.procedure.specs.Graph.{Capacity, reached, noPlace, nodeAt}
 use Rattle.procedure.specs.Tableau.{run}
 use Rattle.procedure.specs.Example.{Example}
-use Rattle.words.specs.Sizes.{mostRecords}
+use Rattle.words.specs.Sizes.{nodeSize, edgeSize, alternativeSize, mostRecords}
 use Rattle.run.specs.Run.{Areas, lengths, shown, Used, used, Answer, short, cannot, can, tooLong, answerCan, answerResult, areasAfter}
 use Rattle.records.specs.Areas.{Bytes}
 use Rattle.graph.specs.Graphs.{Work, work, graphOf, capacityOf, areaOf, Held}
@@ -26,6 +26,14 @@ use Rattle.conclusion.specs.declared.Decision.the-variants.{Short, Canno
 
 -- ---- a decision
 
+-- how many records of each kind count as lent in areas of these lengths
+abbrev pub roomIn : (nodes edges alternatives : ℕ) → Capacity
+roomIn nodes edges alternatives = record {
+  nodeRoom = min mostRecords (nodes / nodeSize);
+  edgeRoom = min mostRecords (edges / edgeSize);
+  alternativeRoom = min mostRecords (alternatives / alternativeSize);
+}
+
 -- the numbers of records
 abbrev pub usedOf : Counts → Used
 usedOf c = record { nodes = c .nodes; edges = c .edges; alternatives = c .alternatives }
@@ -36,7 +44,7 @@ HasSizes s x = (length (x .elements) ≡ s .elements) × (length (x .links) ≡ 
 
 -- the decision stands for the answer
 abbrev pub Decides : Decision → Answer → Type 0
-Decides (Short p) a = a ≡ short (areaOf p)
+Decides (Short p n) a = a ≡ short (areaOf p) n
 Decides (Cannot c) a = a ≡ cannot (usedOf c)
 Decides (Can c s) a = (x : Example) × (a ≡ can (usedOf c) x) × HasSizes s x
 Decides (TooLong s) a = (x : Example) × (a ≡ tooLong x) × HasSizes s x
@@ -49,7 +57,7 @@ abbrev pub SmallSizes : Sizes → Type 0
 SmallSizes s = (s .elements ≤ mostRecords) × (s .links ≤ mostRecords)
 
 abbrev pub Small : Decision → Type 0
-Small (Short p) = Unit {0}
+Small (Short p n) = n ≤ mostRecords
 Small (Cannot c) = SmallCounts c
 Small (Can c s) = SmallCounts c × SmallSizes s
 Small (TooLong s) = SmallSizes s

@@ -1,24 +1,28 @@
-// What a run decides (01, The procedure; The example; Refusals): the verdict, and with "can" the example in its areas.
+// What a run decides (01, The procedure; The example; Refusals; 02, [4]): the verdict, and with "can" the example in its areas.
 //
-// In order: a verdict; a decision; whether an example fits; whether a status of the root says "can"; the verdict of a run, with no example; the example; the decision.
+// In order: a verdict; a decision; how many records are lent; whether an example fits; whether a status of the root says "can"; the verdict of a run, with no example; the example; the decision.
 ghost use mathlib.Core.Path.{_≡_};
 ghost use mathlib.Core.Bool.{_&&_};
 ghost use Prim.Native.Nat.{_*_};
 ghost use lib.Dec.{leb};
 ghost use Rattle.words.specs.Sizes.{setSize, linkSize};
 ghost use Rattle.records.specs.Codes.{statusOf};
-ghost use Rattle.graph.specs.Graphs.{work};
-ghost use Rattle.run.specs.Run.{areasOf};
+ghost use Rattle.graph.specs.Graphs.{work, areaOf};
+ghost use Rattle.run.specs.Run.{areasOf, lentFor};
 ghost use Rattle.problem.specs.Decoded.{Decoded};
 ghost use Rattle.walk.specs.Contracts.{nodesEdges, WalkAsks};
-ghost use Rattle.conclusion.specs.Contracts.{SmallSizes, goodRoot, VerdictGives, ShowGives, DecideGives};
+ghost use Rattle.conclusion.specs.Contracts.{roomIn, SmallSizes, goodRoot, VerdictGives, ShowGives, DecideGives};
 use evaluation::LINK_BYTES;
 use graph::Area;
 use graph::Counts;
 use graph::Step;
 use marks::Sizes;
+use records::ALTERNATIVE_BYTES;
+use records::EDGE_BYTES;
+use records::NODE_BYTES;
 use records::Status;
 use records::load_node;
+use records::room;
 use rounds::run;
 use rowset::SET_BYTES;
 use walk::walk;
@@ -31,12 +35,23 @@ pub enum Verdict {
     Can(Counts),
 }
 
-// A record found no place in an area; "cannot", with the records used; "can", with these and the example's sizes; "can", and an example area is too short.
+// A record found no place in an area, where so many count as lent; "cannot", with the records used; "can", with these and the example's sizes; "can", and an example area is too short.
 pub enum Decision {
-    Short(Area),
+    Short(Area, usize),
     Cannot(Counts),
     Can(Counts, Sizes),
     TooLong(Sizes),
+}
+
+// How many records of an area's kind count as lent, where the three areas have these lengths.
+fn lent(area: Area, nodes: usize, edges: usize, alternatives: usize) -> usize
+    ensures { λ r. ⌜ r ≡ lentFor (roomIn nodes edges alternatives) (areaOf area) ⌝ }
+{
+    match area {
+        Area::Nodes => room(nodes, NODE_BYTES),
+        Area::Edges => room(edges, EDGE_BYTES),
+        Area::Alternatives => room(alternatives, ALTERNATIVE_BYTES),
+    }
 }
 
 // Whether example areas of these lengths have room.
@@ -119,7 +134,10 @@ pub fn decide(
         r (now (elements .exit)) (now (links .exit)) ⌝ }
 {
     match verdict_of(problem, nodes, edges, alternatives) {
-        Verdict::Short(area) => Decision::Short(area),
+        Verdict::Short(area) => Decision::Short(
+            area,
+            lent(area, nodes.len(), edges.len(), alternatives.len()),
+        ),
         Verdict::Cannot(c) => Decision::Cannot(c),
         Verdict::Can(c) => show(problem, nodes, edges, c, elements, links),
     }

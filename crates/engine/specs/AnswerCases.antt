@@ -27,14 +27,14 @@ use Rattle.engine.specs.Contracts.{decidedNumbers, Answered}
 
 decided-numbers : (d : Decision) (a : Answer) → Decides d a → decidedNumbers d ≡ numbers a
 unfolding numbers
-decided-numbers (Short p) a h = sym (ap numbers h)
+decided-numbers (Short p n) a h = sym (ap numbers h)
 decided-numbers (Cannot c) a h = sym (ap numbers h)
 decided-numbers (Can c s) a (x, h, (p, q)) = sym (ap numbers h ∙ cc (p, q))
 decided-numbers (TooLong s) a (x, h, (p, q)) = sym (ap numbers h ∙ cc (p, q))
 
 -- ---- the work areas after one
 
--- "After a verdict, 10 or 11 every byte of all three is zero"
+-- "After a verdict, 10 or 11 every byte of all three is zero" (01), and after 13, 14 and 15 as after 10 (02, [4])
 record Cleared (a : Answer) (before : Areas) : Type 0 where
   nodes : areasAfter a before .nodes ≡ zeros (before .nodes)
   edges : areasAfter a before .edges ≡ zeros (before .edges)
@@ -42,7 +42,7 @@ record Cleared (a : Answer) (before : Areas) : Type 0 where
 
 cleared : (d : Decision) (a : Answer) (before : Areas) → Decides d a → Cleared a before
 unfolding areasAfter
-cleared (Short p) a before h = subst (λ (k : Answer). Cleared k before) (sym h) (record { nodes = refl; edges = refl; alternatives = refl })
+cleared (Short p n) a before h = subst (λ (k : Answer). Cleared k before) (sym h) (record { nodes = refl; edges = refl; alternatives = refl })
 cleared (Cannot c) a before h = subst (λ (k : Answer). Cleared k before) (sym h) (record { nodes = refl; edges = refl; alternatives = refl })
 cleared (Can c s) a before (x, h, z) = subst (λ (k : Answer). Cleared k before) (sym h) (record { nodes = refl; edges = refl; alternatives = refl })
 cleared (TooLong s) a before (x, h, z) = subst (λ (k : Answer). Cleared k before) (sym h) (record { nodes = refl; edges = refl; alternatives = refl })

@@ -1,20 +1,24 @@
-// The engine (00, demands 1 to 3): a rule file and five lent areas in, the answer out. Through the C convention it is called in `gumbyra`.
+// The engine (00, demands 1 to 3; 02, [4]): a rule file and five lent areas in, the answer out. Through the C convention it is called in `gumbyra`.
 //
 // In order: the answer's numbers; an accepted file; every file; the text of a file.
 ghost use mathlib.Core.Path.{_≡_};
+ghost use Prim.Native.Nat.{_≤_};
 ghost use Rattle.answers.specs.Numbers.{numbersOf};
 ghost use lib.ListN.{length, take};
 ghost use Rattle.rulefile.specs.Format.{textOf};
 ghost use Rattle.decoding.specs.Decoding.{ruleKinds};
 ghost use Rattle.rulefile.specs.Read.{Laid};
-ghost use Rattle.run.specs.Run.{areasOf, refusedWith};
+ghost use Rattle.words.specs.Sizes.{mostRecords};
+ghost use Rattle.run.specs.Run.{areasOf, verdictWith, refusedWith, shortRefusal, shortWith, tooLongWith};
 ghost use Rattle.run.specs.Promise.{Promise};
-ghost use Rattle.conclusion.specs.Contracts.{SmallCounts, SmallSizes, Small};
-ghost use Rattle.engine.specs.Contracts.{verdictWith, tooLongWith, decidedNumbers, Answered};
+ghost use Rattle.graph.specs.Graphs.{areaOf};
+ghost use Rattle.conclusion.specs.Contracts.{usedOf, SmallCounts, SmallSizes, Small};
+ghost use Rattle.engine.specs.Contracts.{decidedNumbers, Answered};
 use answers::Answer;
 use conclusion::Decision;
 use conclusion::decide;
 use decoding::RULE_KINDS;
+use graph::Area;
 use graph::Counts;
 use marks::Sizes;
 use problem::WORDS;
@@ -30,10 +34,14 @@ const CAN: u32 = 1;
 
 const CANNOT: u32 = 2;
 
-// The refusals of a file that is accepted: "a record has no place", "an example area is too short".
-const SHORT: u32 = 10;
-
+// The refusals of a file that is accepted: an example area is too short; "13 is for nodes, 14 for edges, 15 for alternatives" (02, [4]).
 const TOO_LONG: u32 = 11;
+
+const NO_NODE: u32 = 13;
+
+const NO_EDGE: u32 = 14;
+
+const NO_ALTERNATIVE: u32 = 15;
 
 // A refusal: "Each gives its number and zeros elsewhere".
 fn refused(n: u32) -> Answer
@@ -47,13 +55,14 @@ fn refused(n: u32) -> Answer
         alternatives: 0,
         elements: 0,
         links: 0,
+        lent: 0,
     }
 }
 
 // A verdict, with the records used and the example's sizes.
 fn verdict(n: u32, c: Counts, s: Sizes) -> Answer
     requires { ⌜ SmallCounts c × SmallSizes s ⌝ }
-    ensures { λ r. ⌜ numbersOf r ≡ verdictWith n c s ⌝ }
+    ensures { λ r. ⌜ numbersOf r ≡ verdictWith n (usedOf c) (s .elements) (s .links) ⌝ }
 {
     Answer {
         verdict: n,
@@ -63,13 +72,14 @@ fn verdict(n: u32, c: Counts, s: Sizes) -> Answer
         alternatives: c.alternatives as u32,
         elements: s.elements as u32,
         links: s.links as u32,
+        lent: 0,
     }
 }
 
 // Refusal 11, with the example's sizes.
 fn too_long(s: Sizes) -> Answer
     requires { ⌜ SmallSizes s ⌝ }
-    ensures { λ r. ⌜ numbersOf r ≡ tooLongWith s ⌝ }
+    ensures { λ r. ⌜ numbersOf r ≡ tooLongWith (s .elements) (s .links) ⌝ }
 {
     Answer {
         verdict: 0,
@@ -79,6 +89,35 @@ fn too_long(s: Sizes) -> Answer
         alternatives: 0,
         elements: s.elements as u32,
         links: s.links as u32,
+        lent: 0,
+    }
+}
+
+// The refusal for a record that has no place in this area.
+fn no_place(area: Area) -> u32
+    ensures { λ r. ⌜ r ≡ shortRefusal (areaOf area) ⌝ }
+{
+    match area {
+        Area::Nodes => NO_NODE,
+        Area::Edges => NO_EDGE,
+        Area::Alternatives => NO_ALTERNATIVE,
+    }
+}
+
+// That refusal, with how many records of the kind count as lent.
+fn short(area: Area, lent: usize) -> Answer
+    requires { ⌜ lent ≤ mostRecords ⌝ }
+    ensures { λ r. ⌜ numbersOf r ≡ shortWith (areaOf area) lent ⌝ }
+{
+    Answer {
+        verdict: 0,
+        refusal: no_place(area),
+        nodes: 0,
+        edges: 0,
+        alternatives: 0,
+        elements: 0,
+        links: 0,
+        lent: lent as u32,
     }
 }
 
@@ -88,7 +127,7 @@ fn answer_of(d: Decision) -> Answer
     ensures { λ r. ⌜ numbersOf r ≡ decidedNumbers d ⌝ }
 {
     match d {
-        Decision::Short(_) => refused(SHORT),
+        Decision::Short(area, lent) => short(area, lent),
         Decision::Cannot(c) => verdict(
             CANNOT,
             c,

@@ -1,4 +1,4 @@
-// The answer as the program prints it (01, Known runs), written into an area of bytes.
+// The answer as the program prints it (01, Known runs; 02, [4]), written into an area of bytes.
 //
 // In order: a byte; a digit; numbers; words; lines; numbers read from an area; the line of a record, and of all; the lines of an answer; the whole.
 // A function that writes takes the place of its first byte and answers the place after its last one. Where the area ends nothing
@@ -14,12 +14,16 @@ ghost use Rattle.answers.specs.Numbers.{numbersOf};
 ghost use Rattle.printing.specs.Printing.{Countable, Wrote, Prints};
 use answers::Answer;
 
-// The numbers of the two verdicts, and of the refusal of an example that its areas are too short for.
+// The numbers of the two verdicts; of the refusal of an example that its areas are too short for; and of those for a record without a place, from that of nodes to that of alternatives.
 const CAN: u32 = 1;
 
 const CANNOT: u32 = 2;
 
 const TOO_LONG: u32 = 11;
+
+const NO_NODE: u32 = 13;
+
+const NO_ALTERNATIVE: u32 = 15;
 
 // The bytes of an element and of a link.
 const ELEMENT: usize = 8;
@@ -254,7 +258,7 @@ fn cannot(answer: Answer, out: &mut [u8]) -> usize
     used_line(out, used, answer)
 }
 
-// Writes what is printed with a refusal: its number, "for 11, both counts too".
+// Writes what is printed with a refusal: its number, "for 11, both counts too", for 13, 14 and 15 how many records were lent.
 fn refused(answer: Answer, out: &mut [u8]) -> usize
     ensures { λ r. ⌜ Wrote 64 (Printed.refusedLine (numbersOf answer)) (now (out .entry)) 0 (now (out .exit)) r ⌝ }
 {
@@ -267,6 +271,9 @@ fn refused(answer: Answer, out: &mut [u8]) -> usize
             answer.elements,
             answer.links,
         );
+    }
+    if (NO_NODE <= answer.refusal) & (answer.refusal <= NO_ALTERNATIVE) {
+        return line_of_two(out, 0, b"REFUSED", answer.refusal, answer.lent);
     }
     line_of_one(out, 0, b"REFUSED", answer.refusal)
 }

@@ -34,7 +34,7 @@ shortRefusal-one edgeArea alternativeArea e = absurd (omega (arith, e))
 shortRefusal-one alternativeArea nodeArea e = absurd (omega (arith, e))
 shortRefusal-one alternativeArea edgeArea e = absurd (omega (arith, e))
 
-lentFor-most : (l : Lengths) (a : Area) → lentFor (capacity l) a ≤ mostRecords
+pub lentFor-most : (l : Lengths) (a : Area) → lentFor (capacity l) a ≤ mostRecords
 lentFor-most l nodeArea = omega arith
 lentFor-most l edgeArea = omega arith
 lentFor-most l alternativeArea = omega arith

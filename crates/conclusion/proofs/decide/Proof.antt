@@ -21,14 +21,17 @@ decide-spec =
     tie.close (tie.spec
     -- verdict_of(problem, nodes, edges, alternatives)
     (λ c κs. search needs)
-    (λ c. search needs) (λ c. search needs) (λ c. search needs)
+    -- lent(area, nodes.len(), edges.len(), alternatives.len())
+    (λ c. search needs) (λ c κs. search needs)
+    (λ c. search needs) (λ c. search needs)
     -- show(problem, nodes, edges, c, elements, links)
     (λ c κs. let d : tie.After-c2 = search in let v : tie.After-verdict-of = search in let s : tie.Start = search in
     decide-walks (s .pre) (was-can (v .verdict-of .ensures) (d .c2 .given .1)) refl)
     -- the end: Short(area)
     (λ c. search needs) (λ c. search needs) (λ c. search needs)
-    (λ c. let f : tie.After-area = search in let v : tie.After-verdict-of = search in let s : tie.Start = search in
-    decide-short (s .args .elements .now) (s .args .links .now) (was-short (v .verdict-of .ensures) (f .area .given .1)))
+    (λ c. let l : tie.After-lent = search in let f : tie.After-area = search in let v : tie.After-verdict-of = search in let s : tie.Start = search in
+    decide-short (s .args .elements .now) (s .args .links .now) (was-short (v .verdict-of .ensures) (f .area .given .1))
+    (l .lent .ensures) (v .verdict-of .kept .1 .0) (v .verdict-of .kept .1 .1 .0) (v .verdict-of .kept .1 .1 .1 .0))
     -- the end: Cannot(c)
     (λ c. search needs) (λ c. search needs) (λ c. search needs)
     (λ c. let d : tie.After-c = search in let v : tie.After-verdict-of = search in let s : tie.Start = search in
