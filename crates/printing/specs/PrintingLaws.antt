@@ -5,7 +5,7 @@
 use mathlib.Core.Path.{_≡_, refl, sym, ap, ap₂, subst, _∙_}
 use mathlib.Core.Bool.{Bool, true, false}
 use mathlib.Core.Logic.{_≢_}
-use mathlib.Core.List.{[], _∷_, _++_, append-nil, append-assoc}
+use mathlib.Core.List.{List, [], _∷_, _++_, append-nil, append-assoc}
 use Prim.Native.Nat.{ℕ, suc, _+_, _-_, _*_, _/_, _%_, _^_, _≤_, _<_}
 use native.Mathlib.Nat.{mul-suc}
 use native.Mathlib.Omega.{arith}
@@ -18,7 +18,8 @@ use Rattle.words.specs.Words.{overwrite}
 use Rattle.evaluation.specs.Layout.{linkAt}
 use Rattle.run.specs.Run.{Lengths, Numbers}
 use Rattle.run.specs.RunLaws.{Room}
-use Rattle.run.specs.Printed.{ascii, digit, hexadecimal, decimal, spaced, line, elementLine, linkLine, elementLines, linkLines, usedLine, refusedLine, canLines, cannotLines, printed}
+use Rattle.run.specs.Printed.{ascii, digit, hexadecimal, decimal, spaced, line, elementLine, linkLine, elementLines, linkLines, usedLine, refusalCounts, refusedLine}
+use Rattle.run.specs.Printed.{canLines, cannotLines, printed}
 use Rattle.run.specs.PrintedLaws.{decimal-last, decimal-more, length-decimal-word, hexadecimal-more}
 use Rattle.printing.specs.Printing.{Wrote, Pieces, Prints}
 
@@ -232,19 +233,11 @@ pub wrote-cannot : (n : Numbers) {out out₁ out₂ : Bytes} {p₁ p₂ : ℕ} �
 unfolding cannotLines line spaced
 wrote-cannot n head used = wrote-as (wrote-then head used) refl (omega arith)
 
-abbrev refusedBy : Numbers → Bool → Bytes
-refusedBy n b = elim b [ true ↦ line (ascii "REFUSED") (11 ∷ n .elements ∷ n .links ∷ []) | false ↦ line (ascii "REFUSED") (n .refusal ∷ []) ]
-
-pub wrote-too-long : (n : Numbers) {out out′ : Bytes} {next : ℕ} → n .refusal ≡ 11
-    → Wrote 41 (line (ascii "REFUSED") (n .refusal ∷ n .elements ∷ n .links ∷ [])) out 0 out′ next → Wrote 64 (refusedLine n) out 0 out′ next
+-- with whatever counts stand after the number
+pub wrote-refused : (n : Numbers) {counts : List ℕ} {most : ℕ} {out out′ : Bytes} {next : ℕ} → refusalCounts n ≡ counts → most ≤ 64
+    → Wrote most (line (ascii "REFUSED") (n .refusal ∷ counts)) out 0 out′ next → Wrote 64 (refusedLine n) out 0 out′ next
 unfolding refusedLine
-wrote-too-long n e w =
-    wrote-as w (ap (λ (k : ℕ). line (ascii "REFUSED") (k ∷ n .elements ∷ n .links ∷ [])) e ∙ sym (ap (refusedBy n) (eq-eqb (n .refusal) 11 e))) (omega arith)
-
-pub wrote-refused : (n : Numbers) {out out′ : Bytes} {next : ℕ} → (n .refusal ≡ 11 → ⊥)
-    → Wrote 19 (line (ascii "REFUSED") (n .refusal ∷ [])) out 0 out′ next → Wrote 64 (refusedLine n) out 0 out′ next
-unfolding refusedLine
-wrote-refused n e w = wrote-as w (sym (ap (refusedBy n) (ne-eqb (n .refusal) 11 e))) (omega arith)
+wrote-refused n e few w = wrote-as w (ap (λ (k : List ℕ). line (ascii "REFUSED") (n .refusal ∷ k)) (sym e)) (omega (arith, few))
 
 -- ---- which lines are printed
 

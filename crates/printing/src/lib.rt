@@ -258,6 +258,13 @@ fn cannot(answer: Answer, out: &mut [u8]) -> usize
     used_line(out, used, answer)
 }
 
+// Whether a refusal is for a record without a place.
+fn is_short(refusal: u32) -> bool
+    ensures { λ r. ⌜ r ≡ Printed.isShort refusal ⌝ }
+{
+    (NO_NODE <= refusal) & (refusal <= NO_ALTERNATIVE)
+}
+
 // Writes what is printed with a refusal: its number, "for 11, both counts too", for 13, 14 and 15 how many records were lent.
 fn refused(answer: Answer, out: &mut [u8]) -> usize
     ensures { λ r. ⌜ Wrote 64 (Printed.refusedLine (numbersOf answer)) (now (out .entry)) 0 (now (out .exit)) r ⌝ }
@@ -272,7 +279,7 @@ fn refused(answer: Answer, out: &mut [u8]) -> usize
             answer.links,
         );
     }
-    if (NO_NODE <= answer.refusal) & (answer.refusal <= NO_ALTERNATIVE) {
+    if is_short(answer.refusal) {
         return line_of_two(out, 0, b"REFUSED", answer.refusal, answer.lent);
     }
     line_of_one(out, 0, b"REFUSED", answer.refusal)

@@ -1,24 +1,24 @@
 -- Laws of Printed.
 --
--- In order: the run that document 01 prints, and what is printed otherwise; a digit; a number in decimal, digit by digit; how long that is; a number in hexadecimal; one record's line more.
+-- In order: the run that document 01 prints, and what is printed otherwise; what stands after the number of a refusal; a digit; a number in decimal, digit by digit; how long that is; a number in hexadecimal; one record's line more.
 -- Assumes nothing.
-use mathlib.Core.Path.{_≡_, refl, sym, ap, _∙_}
+use mathlib.Core.Path.{_≡_, refl, sym, ap, ap₂, _∙_}
 use mathlib.Core.Bool.{Bool, true, false}
-use mathlib.Core.List.{[], _∷_, _++_, map, flatten, append-nil, append-assoc}
+use mathlib.Core.List.{List, [], _∷_, _++_, map, flatten, append-nil, append-assoc}
 use Prim.Native.Nat.{ℕ, zero, suc, _+_, _-_, _/_, _%_, _^_, _≤_, _<_}
 use native.Mathlib.Nat.{pow-suc}
 use native.Mathlib.Omega.{arith}
 use lib.Dec.{ltb}
 use lib.ListN.{length, length-append}
-use borrow.Author.Tests.{lt-ltb, le-ltb, ltb-true, ltb-false}
+use borrow.Author.Tests.{eq-eqb, ne-eqb, lt-ltb, le-ltb, ltb-true, ltb-false}
 use Rattle.concepts.specs.Lists.{range}
 use Rattle.rulefile.specs.Format.{Bytes}
 use Rattle.procedure.specs.Graph.{nodeArea, edgeArea, alternativeArea}
 use Rattle.words.specs.Words.{leAt, littleEndian}
 use Rattle.evaluation.specs.Layout.{elementAt, linkAt, elementBytes, linkBytes}
 use Rattle.run.specs.Run.{Numbers, verdictWith, refusedWith, shortWith, tooLongWith}
-use Rattle.run.specs.Printed.{ascii, digit, hexadecimal, decimalWithin, decimal, spaced, line, elementLine, linkLine, elementLines, linkLines, usedLine, refusedLine, refusalCounts}
-use Rattle.run.specs.Printed.{canLines, cannotLines, printed}
+use Rattle.run.specs.Printed.{ascii, digit, hexadecimal, decimalWithin, decimal, spaced, line, elementLine, linkLine, elementLines, linkLines, usedLine, isShort}
+use Rattle.run.specs.Printed.{refusalCounts, refusedLine, canLines, cannotLines, printed}
 
 -- ---- the run that document 01 prints, and what is printed otherwise
 
@@ -46,6 +46,24 @@ pub printed-otherwise : (e l : Bytes)
     ≡ ascii "CANNOT\nUSED 10 4096 0\n" ∷ ascii "REFUSED 8\n" ∷ ascii "REFUSED 11 1025 7\n" ∷ ascii "REFUSED 13 7\n" ∷ ascii "REFUSED 14 4096\n" ∷ ascii "REFUSED 15 0\n" ∷ []
 unfolding printed cannotLines refusedLine refusalCounts usedLine line spaced decimal decimalWithin digit
 printed-otherwise e l = refl
+
+-- ---- what stands after the number of a refusal
+
+module _ (n : Numbers) where
+  abbrev countsBy : Bool → Bool → List ℕ
+  countsBy long short = elim long [ true ↦ n .elements ∷ n .links ∷ [] | false ↦ elim short [ true ↦ n .lent ∷ [] | false ↦ [] ] ]
+
+  pub refusalCounts-long : n .refusal ≡ 11 → refusalCounts n ≡ n .elements ∷ n .links ∷ []
+  unfolding refusalCounts
+  refusalCounts-long e = ap (λ (b : Bool). countsBy b (isShort (n .refusal))) (eq-eqb (n .refusal) 11 e)
+
+  pub refusalCounts-short : (n .refusal ≡ 11 → ⊥) → isShort (n .refusal) ≡ true → refusalCounts n ≡ n .lent ∷ []
+  unfolding refusalCounts
+  refusalCounts-short d e = ap₂ countsBy (ne-eqb (n .refusal) 11 d) e
+
+  pub refusalCounts-none : (n .refusal ≡ 11 → ⊥) → isShort (n .refusal) ≡ false → refusalCounts n ≡ []
+  unfolding refusalCounts
+  refusalCounts-none d e = ap₂ countsBy (ne-eqb (n .refusal) 11 d) e
 
 -- ---- a digit
 
