@@ -11,11 +11,11 @@ use lib.ListN.{length}
 use Rattle.concepts.specs.Tests.{impossible}
 use Rattle.concepts.specs.Concept.{Table}
 use Rattle.procedure.specs.Status.{Status, unset, «open», sat, unsat, toosmall, isLive}
-use Rattle.procedure.specs.Graph.{Graph, nodeAt}
+use Rattle.procedure.specs.Graph.{Graph, roomFor, nodeAt}
 use Rattle.procedure.proofs.Can.{goodIf}
 use Rattle.procedure.proofs.Outcome.{finished-at, root-set}
-use Rattle.run.specs.Run.{Areas, areasOf, Lengths, lengths, capacity, lentFor, shown, used, Answer, short, cannot, answerCan, answerRoot, answerResult, areasAfter}
-use Rattle.run.specs.ShortLaws.{lentFor-most}
+use Rattle.run.specs.Run.{Areas, areasOf, Lengths, lengths, capacity, shown, used, Answer, short, cannot, answerCan, answerRoot, answerResult, areasAfter}
+use Rattle.run.specs.ShortLaws.{roomFor-most}
 use Rattle.problem.specs.Decoded.{tableOf, problemOf, Decoded}
 use Rattle.problem.specs.DecodedLaws.{decoded-posed}
 use Rattle.records.specs.Areas.{Bytes}
@@ -51,16 +51,16 @@ answer-cannot «open» l t g h d = impossible cc
 
 -- each area kept its length until it was counted
 pub decide-short : {ws : List ℕ} {n e a : Bytes} (elements links : Bytes) {p : Area} → ShortOf ws (work n e a) p
-    → {m n₁ e₁ a₁ : ℕ} → m ≡ lentFor (roomIn n₁ e₁ a₁) (areaOf p) → n₁ ≡ length n → e₁ ≡ length e → a₁ ≡ length a
+    → {m n₁ e₁ a₁ : ℕ} → m ≡ roomFor (roomIn n₁ e₁ a₁) (areaOf p) → n₁ ≡ length n → e₁ ≡ length e → a₁ ≡ length a
     → DecideGives ws (areasOf n e a elements links) (Short p m) elements links
 unfolding answerResult areasAfter
 decide-short {ws} {n} {e} {a} elements links {p} S {m} hm hn he ha =
     let before : Areas = areasOf n e a elements links in
-    let lent : m ≡ lentFor (capacity (lengths before)) (areaOf p) = hm ∙ (λ i. lentFor (roomIn (hn i) (he i) (ha i)) (areaOf p)) in
+    let lent : m ≡ roomFor (capacity (lengths before)) (areaOf p) = hm ∙ (λ i. roomFor (roomIn (hn i) (he i) (ha i)) (areaOf p)) in
     let k = ap (answerResult (lengths before) (tableOf ws)) (S .ran) ∙ ap (short (areaOf p)) (sym lent) in
     record {
       decides = k;
-      small = rw lent (lentFor-most (lengths before) (areaOf p));
+      small = rw lent (roomFor-most (lengths before) (areaOf p));
       elementsAre = sym (ap (λ (r : Answer). areasAfter r before .elements) k);
       linksAre = sym (ap (λ (r : Answer). areasAfter r before .links) k);
     }

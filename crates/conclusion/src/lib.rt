@@ -8,7 +8,8 @@ ghost use lib.Dec.{leb};
 ghost use Rattle.words.specs.Sizes.{setSize, linkSize};
 ghost use Rattle.records.specs.Codes.{statusOf};
 ghost use Rattle.graph.specs.Graphs.{work, areaOf};
-ghost use Rattle.run.specs.Run.{areasOf, lentFor};
+ghost use Rattle.procedure.specs.Graph.{roomFor};
+ghost use Rattle.run.specs.Run.{areasOf};
 ghost use Rattle.problem.specs.Decoded.{Decoded};
 ghost use Rattle.walk.specs.Contracts.{nodesEdges, WalkAsks};
 ghost use Rattle.conclusion.specs.Contracts.{roomIn, SmallSizes, goodRoot, VerdictGives, ShowGives, DecideGives};
@@ -45,7 +46,7 @@ pub enum Decision {
 
 // How many records of an area's kind count as lent, where the three areas have these lengths.
 fn lent(area: Area, nodes: usize, edges: usize, alternatives: usize) -> usize
-    ensures { λ r. ⌜ r ≡ lentFor (roomIn nodes edges alternatives) (areaOf area) ⌝ }
+    ensures { λ r. ⌜ r ≡ roomFor (roomIn nodes edges alternatives) (areaOf area) ⌝ }
 {
     match area {
         Area::Nodes => room(nodes, NODE_BYTES),

@@ -29,5 +29,6 @@ pub mod Descend
 pub mod Walk
 pub mod Way
 pub mod Model
+pub mod Larger
 pub mod Outcome
 pub mod Correct

@@ -12,13 +12,13 @@ use lib.ListN.{length}
 use Rattle.concepts.specs.Tests.{impossible, from-false}
 use Rattle.meaning.specs.Meaning.{Model}
 use Rattle.rulefile.specs.Format.{Bytes, RuleFile, refused, accepted, reading}
-use Rattle.procedure.specs.Graph.{Area, noPlace}
+use Rattle.procedure.specs.Graph.{Area, roomFor, noPlace}
 use Rattle.procedure.specs.Tableau.{run}
 use Rattle.procedure.specs.Example.{Example, worldOf}
 use Rattle.words.specs.Words.{overwrite}
 use Rattle.words.specs.Sizes.{setSize, linkSize}
 use Rattle.evaluation.specs.Layout.{elementBytes, linkBytes}
-use Rattle.run.specs.Run.{Areas, Lengths, lengths, capacity, lentFor, fileProblem, Used, Answer, refusedFile, short, cannot, can, tooLong, undefined, fits, answerResult}
+use Rattle.run.specs.Run.{Areas, Lengths, lengths, capacity, fileProblem, Used, Answer, refusedFile, short, cannot, can, tooLong, undefined, fits, answerResult}
 use Rattle.run.specs.Run.{refusedWith, numbers, answer, areasAfter}
 use Rattle.run.specs.ShortLaws.{shortRefusal-least, shortRefusal-one}
 use Rattle.run.specs.Claim.{Shows, Lists, Keeps}
@@ -49,7 +49,7 @@ module _ (f : RuleFile) (before : Areas) where
 
   -- a record that finds no place gives no other answer
   abbrev NoPlaceIs : Answer → Type 0
-  NoPlaceIs a = (r : Area) → run (fileProblem f) (capacity l) ≡ noPlace r → a ≡ short r (lentFor (capacity l) r)
+  NoPlaceIs a = (r : Area) → run (fileProblem f) (capacity l) ≡ noPlace r → a ≡ short r (roomFor (capacity l) r)
 
   -- the example that is read from the areas is the one that was written there
   read-back : (u : Used) (x : Example) → Backed f l u x
@@ -100,7 +100,7 @@ module _ (f : RuleFile) (before : Areas) where
   right-of (short a n) B P = record {
     short = λ r e. B .0 ∙ ap noPlace (shortRefusal-one a r e);
     shortOnly = λ r e. ap (λ (a : Answer). numbers a .refusal) (P r e);
-    lent = λ r e. B .1 ∙ ap (lentFor (capacity l)) (shortRefusal-one a r e);
+    lent = λ r e. B .1 ∙ ap (roomFor (capacity l)) (shortRefusal-one a r e);
     cannot = λ e m. absurd (omega (arith, e));
     cannotOnly = λ d m. absurd (d a refl);
     can = λ s. elim s [ inl e ↦ absurd (omega (arith, e)) | inr e ↦ absurd (omega (arith, e, shortRefusal-least a)) ];
@@ -113,7 +113,7 @@ module _ (f : RuleFile) (before : Areas) where
   right-of (refusedFile n) B P = absurd B
   right-of undefined B P = absurd B
 
-no-place-is : (b : Bytes) (l : Lengths) (f : RuleFile) → reading b ≡ accepted f → (r : Area) → run (fileProblem f) (capacity l) ≡ noPlace r → answer b l ≡ short r (lentFor (capacity l) r)
+no-place-is : (b : Bytes) (l : Lengths) (f : RuleFile) → reading b ≡ accepted f → (r : Area) → run (fileProblem f) (capacity l) ≡ noPlace r → answer b l ≡ short r (roomFor (capacity l) r)
 unfolding answerResult
 no-place-is b l f e r q = answer-accepted b l f e ∙ ap (answerResult l (f .table)) q
 

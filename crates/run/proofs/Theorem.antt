@@ -1,13 +1,17 @@
 -- Demand 3 about the definitions: for every accepted file and all lengths of the areas, what the answer claims is true.
 --
+-- In order: what an answer claims; two runs on one file; what to enlarge (02, [4]).
 -- Read beside this: the meaning of ALCI (meaning/specs/Meaning), the file and its checks (rulefile/specs/Format), the answer
 -- (run/specs/Run), and the world that an example describes (worldOf in procedure/specs/Example). No word here is about the graph.
 -- Assumes nothing.
 use mathlib.Core.Path.{_≡_}
 use Rattle.rulefile.specs.Format.{Bytes, RuleFile, accepted, reading}
-use Rattle.run.specs.Run.{Lengths, Used, cannot, answer}
-use Rattle.run.proofs.Verdict.{answer-right, verdicts-agree}
+use Rattle.procedure.specs.Graph.{Area, roomFor}
+use Rattle.run.specs.Run.{Lengths, capacity, Used, cannot, answer, numbers}
 use Rattle.run.specs.Claim.{Claim, SaysCan}
+use Rattle.run.specs.Promise.{SaysShort}
+use Rattle.run.proofs.Verdict.{answer-right, verdicts-agree}
+use Rattle.run.proofs.Enlarged.{Enlarged, answer-stays}
 
 -- What each answer claims of a file is `Claim` (Claim.antt):
 --   * "cannot": no finite world of any size obeys every rule at each element and has a member of the kit;
@@ -22,3 +26,8 @@ demand-three = answer-right
 -- Of two runs on one file with different areas, never does one say "can" or give 11 and the other say "cannot".
 pub one-verdict : (b : Bytes) (l m : Lengths) (u : Used) → SaysCan (answer b l) → answer b m ≡ cannot u → ⊥
 one-verdict = verdicts-agree
+
+-- In larger work areas a file gets the same answer, unless the area that was short holds more records: only that one is worth enlarging (02, [4]: "Our hosting desk must know what to enlarge").
+pub only-the-short-area-helps : (b : Bytes) (l m : Lengths) → Enlarged l m → ((a : Area) → SaysShort a (numbers (answer b l)) → roomFor (capacity l) a ≡ roomFor (capacity m) a)
+    → answer b l ≡ answer b m
+only-the-short-area-helps b l m E as-lent = answer-stays E b as-lent

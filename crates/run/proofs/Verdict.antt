@@ -20,7 +20,7 @@ use Rattle.decoding.specs.Decoding.{ruleKinds}
 use Rattle.rulefile.specs.FormatLaws.{accepted-admitted, accepted-normal}
 use Rattle.procedure.specs.ProblemLaws.{well-posed}
 use Rattle.procedure.specs.Status.{Status, unset, «open», sat, unsat, toosmall}
-use Rattle.procedure.specs.Graph.{Graph, Capacity, Result, reached, noPlace, outOfFuel, nodeAt, nodeCount}
+use Rattle.procedure.specs.Graph.{Graph, Capacity, roomFor, Result, reached, noPlace, outOfFuel, nodeAt, nodeCount}
 use Rattle.procedure.specs.GraphLaws.{Sure}
 use Rattle.procedure.specs.Tableau.{run}
 use Rattle.procedure.specs.Example.{Example, example, worldOf}
@@ -30,7 +30,7 @@ use Rattle.procedure.proofs.Correct.{no-model, example-there, example-obeys, ex
 use Rattle.procedure.proofs.Model.{ExampleRight}
 use Rattle.words.specs.Sizes.{mostRecords}
 use Rattle.evaluation.specs.LayoutLaws.{LinkFits}
-use Rattle.run.specs.Run.{Lengths, capacity, lentFor, fileProblem, listing, shown, Used, used, Answer, refusedFile, short, cannot, can, tooLong, undefined, fits, answerCan}
+use Rattle.run.specs.Run.{Lengths, capacity, fileProblem, listing, shown, Used, used, Answer, refusedFile, short, cannot, can, tooLong, undefined, fits, answerCan}
 use Rattle.run.specs.Run.{answerRoot, answerResult, answerReading, answer}
 use Rattle.run.specs.Claim.{Shows, Lists, Keeps, Claim, SaysCan}
 use Rattle.run.specs.ListingLaws.{length-listing, world-listing, listing-keeps, listing-lists, listing-lt, shown-some}
@@ -51,7 +51,7 @@ abbrev pub Backs : RuleFile → Lengths → Answer → Type 0
 Backs f l (cannot u) = Model (f .table) (f .tbox) (f .wanted) → ⊥
 Backs f l (can u x) = Backed f l u x
 Backs f l (tooLong x) = Shows f x × Lists f x × (fits l x ≡ false)
-Backs f l (short a n) = (run (fileProblem f) (capacity l) ≡ noPlace a) × (n ≡ lentFor (capacity l) a)
+Backs f l (short a n) = (run (fileProblem f) (capacity l) ≡ noPlace a) × (n ≡ roomFor (capacity l) a)
 Backs f l (refusedFile n) = ⊥
 Backs f l undefined = ⊥
 

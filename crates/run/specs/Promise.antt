@@ -9,11 +9,11 @@ use mathlib.Core.Option.{some}
 use Prim.Native.Nat.{ℕ, _*_, _<_}
 use Rattle.meaning.specs.Meaning.{Model}
 use Rattle.rulefile.specs.Format.{Bytes, RuleFile, refused, accepted, reading}
-use Rattle.procedure.specs.Graph.{Graph, Area, reached, noPlace}
+use Rattle.procedure.specs.Graph.{Graph, Area, roomFor, reached, noPlace}
 use Rattle.procedure.specs.Tableau.{run}
 use Rattle.procedure.specs.Example as Procedure
 use Rattle.words.specs.Sizes.{setSize, linkSize}
-use Rattle.run.specs.Run.{Areas, Lengths, lengths, capacity, lentFor, fileProblem, Numbers, refusedWith, shortRefusal, numbers, answer, areasAfter}
+use Rattle.run.specs.Run.{Areas, Lengths, lengths, capacity, fileProblem, Numbers, refusedWith, shortRefusal, numbers, answer, areasAfter}
 use Rattle.run.specs.Claim.{Shows, Lists, Keeps}
 use Rattle.run.specs.ExampleBytes.{exampleIn}
 
@@ -39,7 +39,7 @@ pub record Right (f : RuleFile) (l : Lengths) (r : Numbers) (after : Areas) : Ty
   pub short : (a : Area) → SaysShort a r → run (fileProblem f) (capacity l) ≡ noPlace a
   pub shortOnly : (a : Area) → run (fileProblem f) (capacity l) ≡ noPlace a → SaysShort a r
   -- with how many records of that kind counted as lent, whole ones and at most 4,096
-  pub lent : (a : Area) → SaysShort a r → r .lent ≡ lentFor (capacity l) a
+  pub lent : (a : Area) → SaysShort a r → r .lent ≡ roomFor (capacity l) a
   -- else "cannot" exactly when no finite world of any size will do
   pub cannot : SaysCannot r → Model (f .table) (f .tbox) (f .wanted) → ⊥
   pub cannotOnly : NotShort r → (Model (f .table) (f .tbox) (f .wanted) → ⊥) → SaysCannot r

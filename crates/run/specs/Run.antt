@@ -11,7 +11,7 @@ use Rattle.concepts.specs.Concept.{Table}
 use Rattle.rulefile.specs.Format.{Bytes, RuleFile, Reading, refused, accepted, reading}
 use Rattle.procedure.specs.Problem.{Problem, problem}
 use Rattle.procedure.specs.Status.{Status, unset, «open», sat, unsat, toosmall}
-use Rattle.procedure.specs.Graph.{Graph, Capacity, Area, nodeArea, edgeArea, alternativeArea, Result, reached, noPlace, outOfFuel, nodeAt}
+use Rattle.procedure.specs.Graph.{Graph, Capacity, Area, nodeArea, edgeArea, alternativeArea, roomFor, Result, reached, noPlace, outOfFuel, nodeAt}
 use Rattle.procedure.specs.Tableau as Tableau
 use Rattle.procedure.specs.Example.{Example, example, worldOf}
 use Rattle.words.specs.Words.{overwrite}
@@ -56,12 +56,6 @@ capacity l = record {
   edgeRoom = min mostRecords (l .edges / edgeSize);
   alternativeRoom = min mostRecords (l .alternatives / alternativeSize);
 }
-
--- "how many records of that kind counted as lent" (02, [4])
-abbrev pub lentFor : Capacity → Area → ℕ
-lentFor c nodeArea = c .nodeRoom
-lentFor c edgeArea = c .edgeRoom
-lentFor c alternativeArea = c .alternativeRoom
 
 -- ---- the example that is shown
 
@@ -110,7 +104,7 @@ answerRoot unset l t g = undefined
 
 unfoldable pub answerResult : Lengths → Table → Result → Answer
 answerResult l t (reached g) = answerRoot (nodeAt g 0 .status) l t g
-answerResult l t (noPlace a) = short a (lentFor (capacity l) a)
+answerResult l t (noPlace a) = short a (roomFor (capacity l) a)
 answerResult l t outOfFuel = undefined
 
 -- what the run on an accepted file is about

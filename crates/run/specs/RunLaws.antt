@@ -18,17 +18,17 @@ use Rattle.decoding.specs.Decoding.{ruleKinds}
 use Rattle.rulefile.specs.Format.{Bytes, Reading, refused, accepted, reading}
 use Rattle.rulefile.specs.CheckLaws.{refused-number}
 use Rattle.procedure.specs.Status.{Status, unset, «open», sat, unsat, toosmall}
-use Rattle.procedure.specs.Graph.{Graph, Area, Result, reached, noPlace, outOfFuel, nodeAt}
+use Rattle.procedure.specs.Graph.{Graph, Area, roomFor, Result, reached, noPlace, outOfFuel, nodeAt}
 use Rattle.procedure.specs.Tableau.{run}
 use Rattle.procedure.specs.Example.{Example}
 use Rattle.words.specs.Sizes.{setSize, linkSize}
-use Rattle.run.specs.Run.{Lengths, capacity, lentFor, fileProblem, shown, Used, used, Answer, refusedFile, short, cannot, can, tooLong, undefined}
+use Rattle.run.specs.Run.{Lengths, capacity, fileProblem, shown, Used, used, Answer, refusedFile, short, cannot, can, tooLong, undefined}
 use Rattle.run.specs.Run.{fits, answerCan, answerRoot, answerResult, answerReading, answer, Numbers, shortRefusal, numbers}
 
 -- ---- by cases
 
 module _ (P : Answer → Type 0) (l : Lengths)
-    (of-short : (a : Area) → P (short a (lentFor (capacity l) a))) (of-cannot : (u : Used) → P (cannot u))
+    (of-short : (a : Area) → P (short a (roomFor (capacity l) a))) (of-cannot : (u : Used) → P (cannot u))
     (of-can : (u : Used) (x : Example) → fits l x ≡ true → P (can u x)) (of-long : (x : Example) → fits l x ≡ false → P (tooLong x))
     (of-undefined : P undefined) where
   by-example : (u : Used) (o : Option Example) → P (answerCan l u o)

@@ -8,9 +8,9 @@ use native.Mathlib.Omega.{arith}
 use Rattle.decoding.specs.Decoding.{ruleKinds}
 use Rattle.rulefile.specs.Format.{Bytes}
 use Rattle.rulefile.specs.CheckLaws.{refused-number}
-use Rattle.procedure.specs.Graph.{Area, nodeArea, edgeArea, alternativeArea}
+use Rattle.procedure.specs.Graph.{Area, nodeArea, edgeArea, alternativeArea, roomFor}
 use Rattle.words.specs.Sizes.{mostRecords}
-use Rattle.run.specs.Run.{Areas, Lengths, lengths, capacity, lentFor, Answer, refusedFile, short, cannot, can, tooLong, undefined, answer}
+use Rattle.run.specs.Run.{Areas, Lengths, lengths, capacity, Answer, refusedFile, short, cannot, can, tooLong, undefined, answer}
 use Rattle.run.specs.Run.{Numbers, refusedWith, shortRefusal, shortWith, numbers, workCleared, areasAfter}
 use Rattle.run.specs.RunLaws.{answer-cases}
 use Rattle.run.specs.Promise.{SaysShort, NotShort}
@@ -34,10 +34,10 @@ shortRefusal-one edgeArea alternativeArea e = absurd (omega (arith, e))
 shortRefusal-one alternativeArea nodeArea e = absurd (omega (arith, e))
 shortRefusal-one alternativeArea edgeArea e = absurd (omega (arith, e))
 
-pub lentFor-most : (l : Lengths) (a : Area) → lentFor (capacity l) a ≤ mostRecords
-lentFor-most l nodeArea = omega arith
-lentFor-most l edgeArea = omega arith
-lentFor-most l alternativeArea = omega arith
+pub roomFor-most : (l : Lengths) (a : Area) → roomFor (capacity l) a ≤ mostRecords
+roomFor-most l nodeArea = omega arith
+roomFor-most l edgeArea = omega arith
+roomFor-most l alternativeArea = omega arith
 
 -- ---- every run that ended with 10, and no other
 
@@ -52,10 +52,10 @@ formerNumbers undefined = numbers undefined
 
 module _ (b : Bytes) (l : Lengths) where
   -- "Every run that ended with 10 now ends with one of these": the number of that kind of record, how many were lent, zeros elsewhere
-  pub ten-is-split : formerNumbers (answer b l) .refusal ≡ 10 → (a : Area) × (numbers (answer b l) ≡ shortWith a (lentFor (capacity l) a))
+  pub ten-is-split : formerNumbers (answer b l) .refusal ≡ 10 → (a : Area) × (numbers (answer b l) ≡ shortWith a (roomFor (capacity l) a))
   unfolding formerNumbers numbers
   ten-is-split =
-      answer-cases (λ k. formerNumbers k .refusal ≡ 10 → (a : Area) × (numbers k ≡ shortWith a (lentFor (capacity l) a))) l (λ a e. (a, refl)) (λ u e. absurd (omega (arith, e)))
+      answer-cases (λ k. formerNumbers k .refusal ≡ 10 → (a : Area) × (numbers k ≡ shortWith a (roomFor (capacity l) a))) l (λ a e. (a, refl)) (λ u e. absurd (omega (arith, e)))
       (λ u x f e. absurd (omega (arith, e))) (λ x f e. absurd (omega (arith, e))) (λ e. absurd (omega (arith, e))) b
       (λ n q e. absurd (omega (arith, e, refused-number ruleKinds b n q .1)))
 
@@ -81,7 +81,7 @@ module _ (b : Bytes) (l : Lengths) where
   pub lent-most : numbers (answer b l) .lent ≤ mostRecords
   unfolding numbers
   lent-most =
-      answer-cases (λ k. numbers k .lent ≤ mostRecords) l (λ a. lentFor-most l a) (λ u. omega arith) (λ u x f. omega arith) (λ x f. omega arith) (omega arith) b (λ n q. omega arith)
+      answer-cases (λ k. numbers k .lent ≤ mostRecords) l (λ a. roomFor-most l a) (λ u. omega arith) (λ u x f. omega arith) (λ x f. omega arith) (omega arith) b (λ n q. omega arith)
 
   -- no other answer gives such a number
   pub lent-otherwise : NotShort (numbers (answer b l)) → numbers (answer b l) .lent ≡ 0

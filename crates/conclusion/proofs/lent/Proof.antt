@@ -3,7 +3,7 @@
 use mathlib.Core.Path.{sym, ap, _∙_}
 use Prim.Native.Nat.{ℕ}
 use borrow.Author.Needs.{needs}
-use Rattle.run.specs.Run.{lentFor}
+use Rattle.procedure.specs.Graph.{roomFor}
 use Rattle.graph.specs.Graphs.{areaOf}
 use Rattle.graph.specs.declared.Area.{Area}
 use Rattle.conclusion.specs.Contracts.{roomIn}
@@ -11,7 +11,7 @@ use Rattle.conclusion.proofs.lent.Statement.{statement}
 use Rattle.conclusion.proofs.lent.Tie as tie
 
 abbrev lentIn : tie.Start → Area → ℕ
-lentIn s p = lentFor (roomIn (s .args .nodes) (s .args .edges) (s .args .alternatives)) (areaOf p)
+lentIn s p = roomFor (roomIn (s .args .nodes) (s .args .edges) (s .args .alternatives)) (areaOf p)
 
 pub lent-spec : {M : Type 1} → statement M
 lent-spec =
