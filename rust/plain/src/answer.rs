@@ -83,8 +83,8 @@ pub struct Used {
 pub enum Answer {
     /// A file check refuses the file: 1 to 8.
     Refused(u8),
-    /// Refusal 10: the procedure's next record has no place in its area. `plain` tells which, the engine does not.
-    Short(Option<Area>),
+    /// Refusal 13, 14 or 15: the procedure's next record has no place in this area, of which so many records count as lent.
+    Short { area: Area, lent: usize },
     /// Refusal 11: the verdict is "can" and an example area is too short for so many.
     TooLong { elements: usize, links: usize },
     /// The wanted row cannot hold anywhere.
@@ -112,7 +112,7 @@ fn answer_listing(file: &[u8], lent: &Lent, list: impl FnOnce(Example, &[Concept
     };
     match run(&file, lent.capacity()) {
         Ok(graph) => verdict(&file.concepts, &graph, lent, list),
-        Err(area) => Answer::Short(Some(area)),
+        Err(area) => Answer::Short { area, lent: lent.capacity().of(area) },
     }
 }
 
@@ -146,7 +146,7 @@ pub fn records(elements: &[RowSet], links: &[RoleLink]) -> [Vec<u8>; 2] {
 pub fn print(answer: &Answer) -> String {
     match answer {
         Answer::Refused(number) => format!("REFUSED {number}\n"),
-        Answer::Short(_) => "REFUSED 10\n".to_string(),
+        Answer::Short { area, lent } => format!("REFUSED {} {lent}\n", area.refusal()),
         Answer::TooLong { elements, links } => format!("REFUSED 11 {elements} {links}\n"),
         Answer::Cannot { used } => format!("CANNOT\n{}", print_used(used)),
         Answer::Can { used, elements, links } => print_can(used, elements, links),
