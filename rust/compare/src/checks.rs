@@ -2,7 +2,7 @@
 
 use crate::questions::{conversion_line, one_line, Conversion};
 use crate::{cases, draft_cases};
-use plain::{records, Answer, Area, Lent};
+use plain::{records, Answer, Lent};
 use worlds::{Concept, Example, Ontology, World};
 
 /// An answering function: the answer to a file, given the lengths of the areas.
@@ -76,10 +76,4 @@ pub fn check_records(file: &[u8], ontology: &Ontology, example: &Example) -> Wor
     let wrong = example.wrong_bit(&world.truth(ontology));
     assert_eq!(wrong, None, "an element lists what does not hold there, or not what does: {file:02x?}");
     world
-}
-
-/// The answer is refusal 10, and the area that it tells, if it tells one, is this one.
-pub fn check_short(answer: &Answer, area: Area, file: &[u8]) {
-    let short = matches!(answer, Answer::Short(told) if told.is_none_or(|told| told == area));
-    assert!(short, "{answer:?}, but {area:?} are short: {file:02x?}");
 }

@@ -58,7 +58,7 @@ fn check(draft: &[u8], file: &[u8], answer: &Answer, counts: &mut Counts) {
     counts.world_found += usize::from(found.is_some());
     match answer {
         Answer::Refused(_) | Answer::TooLong { .. } => panic!("{answer:?} to what became of {draft:02x?}"),
-        Answer::Short(_) => counts.short += 1,
+        Answer::Short { .. } => counts.short += 1,
         Answer::Cannot { .. } => {
             assert!(found.is_none(), "cannot, but there is a world: {draft:02x?}");
             counts.cannot += 1;

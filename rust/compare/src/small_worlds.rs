@@ -79,7 +79,7 @@ fn check(file: &[u8], answer: &Answer, counts: &mut Counts) {
     check_example(file, answer);
     match answer {
         Answer::Refused(_) | Answer::TooLong { .. } => panic!("{answer:?} to {file:02x?}"),
-        Answer::Short(_) => counts.short += 1,
+        Answer::Short { .. } => counts.short += 1,
         Answer::Cannot { .. } => {
             assert!(found.is_none(), "cannot, but there is a world: {file:02x?}");
             counts.cannot += 1;

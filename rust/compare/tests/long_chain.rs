@@ -71,7 +71,7 @@ fn large_examples_of_64_rows() {
 #[test]
 fn ladders() {
     check_elements(answer_on_small_stack(ladder(RUNGS, false)), 2);
-    assert!(matches!(answer_on_small_stack(ladder(RUNGS_AGAIN, true)), Answer::Short(_)));
+    assert!(matches!(answer_on_small_stack(ladder(RUNGS_AGAIN, true)), Answer::Short { .. }));
 }
 
 fn graph_of(file: &[u8]) -> Graph {

@@ -3,9 +3,7 @@
 
 use crate::converter::Converter;
 use crate::lending::Lending;
-use compare::{conversion_line, one_line, Convert, Fit, Prng};
-use gumbyra::{ALTERNATIVE_BYTES, EDGE_BYTES, NODE_BYTES};
-use plain::Lent;
+use compare::{conversion_line, one_line, with_broken_records, Convert, Fit, Prng};
 
 /// Why a question has no answer.
 enum Trouble {
@@ -64,17 +62,6 @@ impl Desk {
         let Convert { draft, area } = Convert::parse(rest).ok_or(Trouble::Unknown(CONVERT))?;
         let conversion = self.converter.watch(&draft, area).map_err(Trouble::Broken)?;
         Ok(conversion_line(&conversion))
-    }
-}
-
-/// The same areas, each work area with some bytes more, less than one record.
-fn with_broken_records(whole: Lent, prng: &mut Prng) -> Lent {
-    let mut more = |record: usize| 1 + prng.below(record - 1);
-    Lent {
-        nodes: whole.nodes + more(NODE_BYTES),
-        edges: whole.edges + more(EDGE_BYTES),
-        alternatives: whole.alternatives + more(ALTERNATIVE_BYTES),
-        ..whole
     }
 }
 
@@ -147,18 +134,6 @@ mod tests {
         let other_converts =
             [b"convert".as_slice(), b"convert ", b"convert 0 1", b"convert -", b"convert - 1 1", b"convert - 1\r"];
         assert!(other_converts.iter().all(|line| answer(fit, line) == format!("UNKNOWN {CONVERT}")));
-    }
-
-    #[test]
-    fn every_work_area_has_a_broken_record() {
-        let whole = Lent::records(1, 2, 3, 4, 5);
-        let mut prng = Prng::new(1);
-        for _ in 0..1000 {
-            let lent = with_broken_records(whole, &mut prng);
-            assert_eq!(lent.capacity(), whole.capacity());
-            assert!(lent.nodes > whole.nodes && lent.edges > whole.edges && lent.alternatives > whole.alternatives);
-            assert_eq!((lent.elements, lent.links), (whole.elements, whole.links));
-        }
     }
 
     /// A name and its opposite, wanted, in an area with some bytes more.
