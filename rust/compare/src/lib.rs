@@ -1,7 +1,7 @@
 //! What the tests share: the questions of tests/vectors and the words they are in, rule files written row by row, random and
-//! damaged rule files and drafts, long chains, large examples; and checks of an answering function against the vectors, against
-//! itself in other areas and against the meaning of ALCI, every bit of its examples too, and of a converting function against the
-//! vectors and the meaning of drafts; of both, what a table can begin with.
+//! damaged rule files and drafts, long chains, large examples, orders of records; and checks of an answering function against the
+//! vectors, against itself in other areas, against orders by hand and against the meaning of ALCI, every bit of its examples too, and
+//! of a converting function against the vectors and the meaning of drafts; of both, what a table can begin with.
 
 pub mod areas;
 pub mod cases;

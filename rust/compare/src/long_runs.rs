@@ -22,23 +22,30 @@ pub fn check_long_runs(mut answer: impl Answering) {
     (0..records.len()).for_each(|placed| check_stop(&mut answer, &file, &records, placed, &mut prng));
 }
 
-/// Runs of thousands of records in areas of random lengths that are short for them, and in areas just enough.
+/// Areas of random lengths that are short for a run that uses these records: one of them, by turns, has fewer, and in every other
+/// round the others may have fewer too.
+fn short_areas(used: Used, round: usize, prng: &mut Prng) -> Lent {
+    let all = [used.nodes, used.edges, used.alternatives];
+    let turns: Vec<usize> = (0..3).filter(|&area| all[area] > 0).collect();
+    let turn = turns[round / 2 % turns.len()];
+    let mut lent = all.map(|records| if round % 2 == 0 { records } else { prng.below(records + 1) });
+    lent[turn] = prng.below(all[turn]);
+    with_broken_records(Lent::records(lent[0], lent[1], lent[2], 16, 6), prng)
+}
+
+/// Runs of thousands of records in areas that are short for them, and in areas just enough.
 pub fn check_longest_runs(mut answer: impl Answering) {
     let mut prng = Prng::new(2);
     let mut times = [0; 3];
-    for run in [signals(9), crowd(8, 8)] {
-        let Used { nodes, edges, alternatives } = count(&run.records);
-        println!("records: {}, {:?}", run.records.len(), count(&run.records));
-        for round in 0..90 {
-            // The area of the turn is short; of the others there is about as much as that leaves a use for, or more.
-            let part = |all: usize, prng: &mut Prng| (all * (1 + prng.below(20))).div_ceil(20);
-            let mut lent = [nodes, edges, alternatives].map(|all| part(all + 1, &mut prng));
-            lent[round % 3] = prng.below([nodes, edges, alternatives][round % 3].max(1));
-            let lent = with_broken_records(Lent::records(lent[0], lent[1], lent[2], 16, 6), &mut prng);
-            let (area, _) = check_areas(&mut answer, &run.file, &run.records, &lent);
+    for LongRun { file, records } in [signals(9), crowd(8, 8)] {
+        let used = count(&records);
+        println!("records: {}, {used:?}", records.len());
+        for round in 0..120 {
+            let lent = short_areas(used, round, &mut prng);
+            let (area, _) = check_areas(&mut answer, &file, &records, &lent);
             times[area as usize] += 1;
         }
-        check_whole(&mut answer, &run.file, &run.records);
+        check_whole(&mut answer, &file, &records);
     }
     println!("refusals 13, 14, 15: {times:?}");
     assert!(times.iter().all(|&times| times >= 20), "{times:?}");
@@ -56,7 +63,7 @@ fn more_than_count(prng: &mut Prng) -> Lent {
 pub fn check_most_records(mut answer: impl Answering) {
     let mut prng = Prng::new(3);
     let mut check = |LongRun { file, records }: &LongRun, lent: &Lent| check_areas(&mut answer, file, records, lent);
-    let (nodes, edges, alternatives) = (branches(21), signals(10), crowd(9, 7));
+    let (nodes, edges, alternatives) = (branches(13), signals(10), crowd(9, 7));
     let most = Lent::most();
     for lent in [most, more_than_count(&mut prng), Lent { alternatives: 0, elements: 0, links: 0, ..most }] {
         assert_eq!(check(&nodes, &lent), (Area::Nodes, MOST_RECORDS));

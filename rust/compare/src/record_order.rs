@@ -2,8 +2,8 @@
 
 use crate::checks::Answering;
 use crate::files::{encode, Row};
-use crate::orders::{check_order, order};
 use crate::one_line;
+use crate::orders::{check_order, order};
 
 /// What is tried; rows, rules and wanted row; the records in their order; what is printed.
 struct Run {

@@ -75,6 +75,7 @@ mod tests {
     const CAN: &[u8] = b"fit 010000000000010000464954 9 9 9 99 99";
     const CANNOT: &[u8] = b"fit 0100000002000000030000010000030002464954 9 9 9 99 99";
     const REFUSED: &[u8] = b"fit - 9 9 9 99 99";
+    const SHORT: &[u8] = b"fit 010000000000010000464954 2 9 9 99 99";
 
     fn answer(engine: Engine, question: &[u8]) -> String {
         Desk::new(Lending::to(engine), Converter::new()).answer(question)
@@ -85,6 +86,7 @@ mod tests {
         assert_eq!(answer(fit, CAN), "CAN 1 0;USED 3 2 0;E 0 0000000000000001");
         assert_eq!(answer(fit, CANNOT), "CANNOT;USED 3 2 0");
         assert_eq!(answer(fit, REFUSED), "REFUSED 1");
+        assert_eq!(answer(fit, SHORT), "REFUSED 13 2");
     }
 
     /// Touches the last byte of a work area and of an example area.
@@ -101,6 +103,7 @@ mod tests {
         assert_eq!(answer(touching, CAN), "BROKEN elements: bytes past the result changed");
         assert_eq!(answer(touching, CANNOT), "BROKEN elements: the area changed");
         assert_eq!(answer(touching, REFUSED), "BROKEN edges: the area changed");
+        assert_eq!(answer(touching, SHORT), "BROKEN elements: the area changed");
     }
 
     /// Leaves the last eight bytes of a work area as they were.
@@ -113,7 +116,22 @@ mod tests {
     fn a_byte_left_over_is_told() {
         assert_eq!(answer(leaving, CAN), "BROKEN nodes: a byte is not zero");
         assert_eq!(answer(leaving, CANNOT), "BROKEN nodes: a byte is not zero");
+        assert_eq!(answer(leaving, SHORT), "BROKEN nodes: a byte is not zero");
         assert_eq!(answer(leaving, REFUSED), "REFUSED 1");
+    }
+
+    /// Tells one record more than counted as lent.
+    fn miscounting<'a>(file: &[u8], areas: Areas<'a>) -> Result<Verdict<'a>, Refusal> {
+        fit(file, areas).map_err(|refusal| match refusal {
+            Refusal::NodesShort { lent } => Refusal::NodesShort { lent: lent + 1 },
+            other => other,
+        })
+    }
+
+    #[test]
+    fn a_wrong_count_is_told() {
+        assert_eq!(answer(miscounting, SHORT), "BROKEN nodes: 3 records are told, 2 counted as lent");
+        assert_eq!(answer(miscounting, REFUSED), "REFUSED 1");
     }
 
     fn failing<'a>(_: &[u8], _: Areas<'a>) -> Result<Verdict<'a>, Refusal> {
