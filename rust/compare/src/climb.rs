@@ -80,9 +80,9 @@ fn check_climb(answer: &mut impl Answering, file: &[u8], example: Lent, counts: 
 /// Shapes of random files, how many of them, and the most records of a kind in a run that is climbed: a climb's time goes with their
 /// square.
 const SHAPES: [(Shape, usize); 3] = [
-    (Shape { names: 1, roles: 1, compound: 8, rules: 2, text: 4 }, 2500),
-    (Shape { names: 2, roles: 1, compound: 14, rules: 4, text: 8 }, 2500),
-    (Shape { names: 3, roles: 2, compound: 24, rules: 5, text: 8 }, 2500),
+    (Shape { names: 1, roles: 1, compound: 8, rules: 2, text: 4 }, 1500),
+    (Shape { names: 2, roles: 1, compound: 14, rules: 4, text: 8 }, 1500),
+    (Shape { names: 3, roles: 2, compound: 24, rules: 5, text: 8 }, 1500),
 ];
 const MOST_STEPS: usize = 300;
 
@@ -102,8 +102,8 @@ pub fn check_random_climbs(mut answer: impl Answering) {
     }
     println!("{counts:?}");
     let Counts { short: [nodes, edges, alternatives], longest, can, cannot, too_long, .. } = counts;
-    assert!(nodes > 50_000 && edges > 50_000 && alternatives > 2000, "{counts:?}");
-    assert!(longest > 400 && can > 1000 && cannot > 1000 && too_long > 1000, "{counts:?}");
+    assert!(nodes > 40_000 && edges > 40_000 && alternatives > 1000, "{counts:?}");
+    assert!(longest > 400 && can > 500 && cannot > 500 && too_long > 500, "{counts:?}");
 }
 
 /// Climbs of 500 to 6,000 records: alternatives, ladders, lines and a wide example.

@@ -23,6 +23,7 @@ pub mod questions;
 pub mod random;
 pub mod record_order;
 pub mod row_zero;
+pub mod samples;
 pub mod small_drafts;
 pub mod small_worlds;
 pub mod wide;

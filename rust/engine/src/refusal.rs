@@ -186,9 +186,9 @@ mod tests {
         let (_, list) = readme.split_once("| number | sentence |\n|---|---|\n").expect("the list of messages");
         let listed: Vec<&str> = list.lines().take_while(|line| line.starts_with('|')).collect();
         let others = [Refusal::ExampleTooLong { elements: 0, links: 0 }, Refusal::ResultTooLong];
-        let lines =
-            CHECKS.iter().chain(&others).chain(&short(0)).map(|r| format!("| {} | {} |", r.number(), r.sentence()));
-        assert_eq!(listed, lines.collect::<Vec<_>>());
+        let all = [CHECKS.as_slice(), &others, &short(0)].concat();
+        let lines: Vec<String> = all.iter().map(|r| format!("| {} | {} |", r.number(), r.sentence())).collect();
+        assert_eq!(listed, lines);
     }
 
     #[test]

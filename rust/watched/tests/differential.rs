@@ -100,15 +100,17 @@ fn bytes_at_random() {
 }
 
 #[test]
-fn large_files_in_the_largest_areas() {
+fn large_files_in_large_areas() {
     let shape = Shape { names: 6, roles: 3, compound: 52, rules: 12, text: 8 };
     let mut prng = Prng::new(13);
     let (mut lending, mut kinds) = (Lending::new(), Kinds::default());
-    for _ in 0..300 {
+    for round in 0..600 {
         let file = random_file(&mut prng, shape);
-        // Up to 4,196 records and a broken one: every byte ends as promised, also past the last record that counts.
-        let mut records = |bytes: usize| bytes * (4000 + prng.below(196)) + prng.below(bytes);
-        let (nodes, edges, alternatives) = (records(NODE_BYTES), records(EDGE_BYTES), records(ALTERNATIVE_BYTES));
+        // Up to 4,196 records and a broken one: every byte ends as promised, also past the last record that counts. Such runs use more
+        // edges than nodes, so in every other round there are fewer nodes.
+        let mut records = |bytes: usize, least: usize| bytes * (least + prng.below(196)) + prng.below(bytes);
+        let nodes = records(NODE_BYTES, [4000, 1000][round % 2]);
+        let (edges, alternatives) = (records(EDGE_BYTES, 4000), records(ALTERNATIVE_BYTES, 4000));
         let lent = Lent { nodes, edges, alternatives, ..Lent::most() };
         check(&mut lending, &file, &lent, &mut kinds);
     }
