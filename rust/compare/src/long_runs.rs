@@ -28,7 +28,10 @@ fn short_areas(used: Used, round: usize, prng: &mut Prng) -> Lent {
     let all = [used.nodes, used.edges, used.alternatives];
     let turns: Vec<usize> = (0..3).filter(|&area| all[area] > 0).collect();
     let turn = turns[round / 2 % turns.len()];
-    let mut lent = all.map(|records| if round % 2 == 0 { records } else { prng.below(records + 1) });
+    let mut lent = all.map(|records| match round % 2 {
+        0 => records,
+        _ => prng.below(records + 1),
+    });
     lent[turn] = prng.below(all[turn]);
     with_broken_records(Lent::records(lent[0], lent[1], lent[2], 16, 6), prng)
 }
@@ -51,9 +54,9 @@ pub fn check_longest_runs(mut answer: impl Answering) {
     assert!(times.iter().all(|&times| times >= 20), "{times:?}");
 }
 
-/// More records than count, and one broken.
-fn more_than_count(prng: &mut Prng) -> Lent {
-    with_broken_records(Lent::records(5000, 5000, 5000, 16, 6), prng)
+/// Some more records than count, or more than a number of two bytes can tell; and one broken.
+fn more_than_count(records: usize, prng: &mut Prng) -> Lent {
+    with_broken_records(Lent::records(records, records, records, 16, 6), prng)
 }
 
 /// Runs that need more than 4,096 records: 4,096 is told, however many are lent, and no other area helps.
@@ -64,12 +67,13 @@ pub fn check_most_records(mut answer: impl Answering) {
     let mut prng = Prng::new(3);
     let mut check = |LongRun { file, records }: &LongRun, lent: &Lent| check_areas(&mut answer, file, records, lent);
     let (nodes, edges, alternatives) = (branches(13), signals(10), crowd(9, 7));
-    let most = Lent::most();
-    for lent in [most, more_than_count(&mut prng), Lent { alternatives: 0, elements: 0, links: 0, ..most }] {
+    let (most, more) = (Lent::most(), more_than_count(5000, &mut prng));
+    let (many, none) =
+        (more_than_count(65_536 + 7, &mut prng), Lent { alternatives: 0, elements: 0, links: 0, ..most });
+    for lent in [most, more, many, none] {
         assert_eq!(check(&nodes, &lent), (Area::Nodes, MOST_RECORDS));
         assert_eq!(check(&edges, &lent), (Area::Edges, MOST_RECORDS));
     }
-    let more = more_than_count(&mut prng);
     // 4,095 edges are enough for 4,096 nodes of a tree, and 3,073 nodes for 4,096 edges of the signals.
     assert_eq!(check(&nodes, &Lent { edges: 16 * 4095, ..more }), (Area::Nodes, MOST_RECORDS));
     assert_eq!(check(&nodes, &Lent { edges: 16 * 4094, ..more }), (Area::Edges, 4094));
