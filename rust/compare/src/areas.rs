@@ -92,7 +92,7 @@ fn with_area_of(all: Lent, area: Area, of: &Lent) -> Lent {
 }
 
 /// The same areas, one of them with one record more.
-pub fn one_more(lent: Lent, area: Area) -> Lent {
+fn one_more(lent: Lent, area: Area) -> Lent {
     match area {
         Area::Nodes => Lent { nodes: lent.nodes + NODE, ..lent },
         Area::Edges => Lent { edges: lent.edges + EDGE, ..lent },

@@ -28,6 +28,9 @@ pub fn on_stack<T: Send + 'static>(bytes: usize, run: impl FnOnce() -> T + Send 
 pub fn check_cases(mut answer: impl Answering) {
     let cases = cases();
     assert!(cases.len() > 1000, "the vectors are there");
+    let times = |start: &str| cases.iter().filter(|case| case.expected.starts_with(start)).count();
+    let short = ["REFUSED 13 ", "REFUSED 14 ", "REFUSED 15 "].map(times);
+    assert!(short.iter().all(|&times| times >= 20), "few cases are short of a record: {short:?}");
     for case in cases {
         let first = answer(&case.file, &case.lent);
         assert_eq!(one_line(&first), case.expected, "{}", case.question);

@@ -1,4 +1,4 @@
-//! Short runs with the order of their records, by hand from document 01's text.
+//! Short runs with the order of their records, by hand from document 01's text; the last was found by a search.
 
 use crate::checks::Answering;
 use crate::files::{encode, Row};
@@ -64,8 +64,7 @@ const RUNS: [Run; 5] = [
         verdict: "CANNOT;USED 7 7 1",
     },
     Run {
-        what: "the same with an alternative among the records after the root is settled (NAE NE NE), and a put within a put (NE NEE E); \
-               found by a search",
+        what: "the same with an alternative among the records after the root is settled (NAE NE NE), and a put within a put (NE NEE E)",
         rows: &[
             [1, 0, 1, 0],
             [2, 0, 1, 0],

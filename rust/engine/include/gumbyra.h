@@ -31,7 +31,8 @@ enum { GUMBYRA_REFUSED = 0, GUMBYRA_CAN = 1, GUMBYRA_CANNOT = 2 };
 
 typedef struct {
     uint32_t verdict;                    /* GUMBYRA_CAN, GUMBYRA_CANNOT or GUMBYRA_REFUSED */
-    uint32_t refusal;                    /* 0 with a verdict; else 1 to 8: the file; 11: an example area is short; 13 to 15: a work area */
+    uint32_t refusal;                    /* 0 with a verdict; else 1 to 8: the file; 11: an example area is short; 13, 14, 15: a
+                                            work area is */
     uint32_t nodes, edges, alternatives; /* records used; zero with a refusal */
     uint32_t elements, links;            /* the example's, with GUMBYRA_CAN or refusal 11; else zero */
     uint32_t lent;                       /* with 13, 14, 15: how many records of that kind counted as lent; else zero */

@@ -68,9 +68,6 @@ pub enum Area {
 }
 
 impl Area {
-    /// The areas in their order.
-    pub const ALL: [Area; 3] = [Area::Nodes, Area::Edges, Area::Alternatives];
-
     /// The refusal of a run whose next record has no place in this area (document 02, [4]).
     pub fn refusal(self) -> u8 {
         match self {
