@@ -74,7 +74,7 @@ pub fn check_most_records(mut answer: impl Answering) {
         assert_eq!(check(&nodes, &lent), (Area::Nodes, MOST_RECORDS));
         assert_eq!(check(&edges, &lent), (Area::Edges, MOST_RECORDS));
     }
-    // 4,095 edges are enough for 4,096 nodes of a tree, and 3,073 nodes for 4,096 edges of the signals.
+    // 4,095 edges are enough for 4,096 nodes of a tree, and 3,074 nodes for 4,096 edges of the signals.
     assert_eq!(check(&nodes, &Lent { edges: 16 * 4095, ..more }), (Area::Nodes, MOST_RECORDS));
     assert_eq!(check(&nodes, &Lent { edges: 16 * 4094, ..more }), (Area::Edges, 4094));
     assert_eq!(check(&edges, &Lent { nodes: 64 * 3074, ..more }), (Area::Edges, MOST_RECORDS));
