@@ -5,14 +5,14 @@
     tests/refusals.py --check    exit status 1 if the two files are not what it would write
 
 A file goes into stdin as its length, 2 bytes, low byte first, and its bytes. Its line in stdout is WORD LENGTH SUM. WORD is the number of
-the file check that refuses it, 1 to 8, or `ok`: a verdict, 10 or 11 comes after the file was accepted. LENGTH is the length of its text and
+the file check that refuses it, 1 to 8, or `ok`: a verdict, 11, 13, 14 or 15 comes after the file was accepted. LENGTH is the length of its text and
 SUM the sum of the text's bytes modulo 65,536; of a refused file the empty part is handed back, so both are 0.
 """
 import pathlib
 import sys
 
 ROOT = pathlib.Path(__file__).resolve().parent.parent
-VECTORS = ROOT / "tests" / "vectors" / "level-03.txt"
+VECTORS = ROOT / "tests" / "vectors" / "level-04.txt"
 CRATE = ROOT / "crates" / "refusals"
 LAST_FILE_CHECK = 8
 TRAILER = 8

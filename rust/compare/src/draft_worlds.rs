@@ -1,7 +1,8 @@
 //! Random small drafts: a converting function and an answering function, one after the other, against the meaning of drafts.
 //!
-//! What a search through all worlds of up to three elements finds must be "can" or refusal 11, unless 10 comes; and the world of
-//! every example obeys every rule of the draft, with element 0 a member of its kit. After refusal 11 the example is asked for again.
+//! What a search through all worlds of up to three elements finds must be "can" or refusal 11, unless 13, 14 or 15 comes; and the
+//! world of every example obeys every rule of the draft, with element 0 a member of its kit. After refusal 11 the example is asked for
+//! again.
 
 use crate::checks::check_records;
 use crate::{random_draft, whole_answer, Answering, Converting, Prng, Shape};
@@ -58,7 +59,7 @@ fn check(draft: &[u8], file: &[u8], answer: &Answer, counts: &mut Counts) {
     counts.world_found += usize::from(found.is_some());
     match answer {
         Answer::Refused(_) | Answer::TooLong { .. } => panic!("{answer:?} to what became of {draft:02x?}"),
-        Answer::Short(_) => counts.short += 1,
+        Answer::Short { .. } => counts.short += 1,
         Answer::Cannot { .. } => {
             assert!(found.is_none(), "cannot, but there is a world: {draft:02x?}");
             counts.cannot += 1;

@@ -1,12 +1,13 @@
 //! What the tests share: the questions of tests/vectors and the words they are in, rule files written row by row, random and
-//! damaged rule files and drafts, long chains, large examples; and checks of an answering function against the vectors, against
-//! itself in other areas and against the meaning of ALCI, every bit of its examples too, and of a converting function against the
-//! vectors and the meaning of drafts; of both, what a table can begin with.
+//! damaged rule files and drafts, long chains, large examples, orders of records; and checks of an answering function against the
+//! vectors, against itself in other areas, against orders by hand and against the meaning of ALCI, every bit of its examples too, and
+//! of a converting function against the vectors and the meaning of drafts; of both, what a table can begin with.
 
 pub mod areas;
 pub mod cases;
 pub mod chains;
 pub mod checks;
+pub mod climb;
 pub mod conversions;
 pub mod draft_counts;
 pub mod draft_worlds;
@@ -14,11 +15,15 @@ pub mod drafts;
 pub mod files;
 pub mod listing_counts;
 pub mod listings;
+pub mod long_orders;
+pub mod long_runs;
 pub mod needs;
+pub mod orders;
 pub mod questions;
 pub mod random;
 pub mod record_order;
 pub mod row_zero;
+pub mod samples;
 pub mod small_drafts;
 pub mod small_worlds;
 pub mod wide;
@@ -29,4 +34,4 @@ pub use draft_counts::DraftCounts;
 pub use drafts::{random_area, random_draft};
 pub use files::encode;
 pub use questions::{conversion_line, one_line, Conversion, Convert, Fit};
-pub use random::{damage, random_bytes, random_file, random_lent, Prng, Shape};
+pub use random::{damage, random_bytes, random_file, random_lent, with_broken_records, Prng, Shape};

@@ -1,6 +1,7 @@
 //! Random rule files from fixed seeds, damage to them, and areas of random lengths.
 
 use crate::files::{encode, Row};
+use plain::answer::{ALTERNATIVE, EDGE, NODE};
 use plain::{Lent, Used};
 
 /// SplitMix64: small, and the same numbers on every machine.
@@ -154,4 +155,32 @@ pub fn random_lent(prng: &mut Prng) -> Lent {
     let [nodes, edges, alternatives, elements, links] =
         [nodes, edges, alternatives, elements, links].map(|length| prng.below(length));
     Lent { nodes, edges, alternatives, elements, links }
+}
+
+/// The same areas, each work area with some bytes more, less than one record.
+pub fn with_broken_records(whole: Lent, prng: &mut Prng) -> Lent {
+    let mut more = |record: usize| 1 + prng.below(record - 1);
+    Lent {
+        nodes: whole.nodes + more(NODE),
+        edges: whole.edges + more(EDGE),
+        alternatives: whole.alternatives + more(ALTERNATIVE),
+        ..whole
+    }
+}
+
+#[cfg(test)]
+mod tests {
+    use super::*;
+
+    #[test]
+    fn every_work_area_has_a_broken_record() {
+        let whole = Lent::records(1, 2, 3, 4, 5);
+        let mut prng = Prng::new(1);
+        for _ in 0..1000 {
+            let lent = with_broken_records(whole, &mut prng);
+            assert_eq!(lent.capacity(), whole.capacity());
+            assert!(lent.nodes > whole.nodes && lent.edges > whole.edges && lent.alternatives > whole.alternatives);
+            assert_eq!((lent.elements, lent.links), (whole.elements, whole.links));
+        }
+    }
 }

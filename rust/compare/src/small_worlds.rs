@@ -1,6 +1,6 @@
 //! Random small files: an answering function against the meaning of ALCI.
 //!
-//! What a search through all worlds of up to three elements finds must be "can" or refusal 11, unless 10 comes; and the
+//! What a search through all worlds of up to three elements finds must be "can" or refusal 11, unless 13, 14 or 15 comes; and the
 //! world of every example obeys every rule, with element 0 a member, and each element lists just the rows that hold there.
 //! Refusal 11 comes only where the example is larger than the areas, and the example is then asked for in areas that hold it.
 
@@ -79,7 +79,7 @@ fn check(file: &[u8], answer: &Answer, counts: &mut Counts) {
     check_example(file, answer);
     match answer {
         Answer::Refused(_) | Answer::TooLong { .. } => panic!("{answer:?} to {file:02x?}"),
-        Answer::Short(_) => counts.short += 1,
+        Answer::Short { .. } => counts.short += 1,
         Answer::Cannot { .. } => {
             assert!(found.is_none(), "cannot, but there is a world: {file:02x?}");
             counts.cannot += 1;

@@ -15,7 +15,7 @@ const TRAILER: usize = 8;
 
 /// Each element has two successors along role 0, one of them with a new signal, and so many others along roles 1 to 15, at most 45. The
 /// set of a state tells at which of so many places there is a signal: two to the power of `places` elements.
-fn line(places: usize, others: u8) -> Vec<u8> {
+pub fn line(places: usize, others: u8) -> Vec<u8> {
     let mut table = Table::default();
     let (name, end) = (table.name(0), table.name(1));
     let start = (1..places).fold(end, |row, _| table.all(0, row));

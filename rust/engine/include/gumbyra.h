@@ -1,5 +1,5 @@
 /* The fit engine: two calls on a rule file, and one that makes a rule file of a draft. Link with libgumbyra.a, which is for
-   x86-64 Linux only. examples/eight_nodes.c and examples/draft.c are whole programs.
+   x86-64 Linux only. examples/eight_nodes.c, examples/enlarge.c and examples/draft.c are whole programs.
 
    In all calls a pointer may not be null, even with length 0. Nothing is kept after a call, and there is no state: threads may
    call at the same time, with areas of their own. For a call of this build a stack of 1 MiB suffices. */
@@ -13,7 +13,7 @@
 extern "C" {
 #endif
 
-/* Bytes of a record. Whole records count, and at most 4,096 nodes, edges and alternatives. */
+/* Bytes of a record. Whole records count, and at most GUMBYRA_MOST_RECORDS nodes, edges and alternatives each. */
 enum {
     GUMBYRA_NODE = 64,
     GUMBYRA_EDGE = 16,
@@ -22,6 +22,8 @@ enum {
     GUMBYRA_LINK = 6     /* from, role code, to, 2 bytes each, low byte first */
 };
 
+enum { GUMBYRA_MOST_RECORDS = 4096 };
+
 /* The most bytes of a rule file: an area of so many suffices for gumbyra_convert. */
 enum { GUMBYRA_LONGEST_FILE = 4096 };
 
@@ -29,15 +31,21 @@ enum { GUMBYRA_REFUSED = 0, GUMBYRA_CAN = 1, GUMBYRA_CANNOT = 2 };
 
 typedef struct {
     uint32_t verdict;                    /* GUMBYRA_CAN, GUMBYRA_CANNOT or GUMBYRA_REFUSED */
-    uint32_t refusal;                    /* 0 with a verdict; else 1 to 8: the file; 10: a work area is short; 11: an example area is */
+    uint32_t refusal;                    /* 0 with a verdict; else 1 to 8: the file; 11: an example area is short; 13, 14, 15: a
+                                            work area is */
     uint32_t nodes, edges, alternatives; /* records used; zero with a refusal */
     uint32_t elements, links;            /* the example's, with GUMBYRA_CAN or refusal 11; else zero */
+    uint32_t lent;                       /* with 13, 14, 15: how many records of that kind counted as lent; else zero */
 } gumbyra_answer;
 
+/* The refusals of a run that had no place for a record: by the first such record. The run gets further if that area alone is larger,
+   but lent is GUMBYRA_MOST_RECORDS at most, and then no larger area helps. */
+enum { GUMBYRA_NODES_SHORT = 13, GUMBYRA_EDGES_SHORT = 14, GUMBYRA_ALTERNATIVES_SHORT = 15 };
+
 /* Decides a rule file. The areas may be of any length and hold anything; no two may overlap, nor one the file. After a verdict,
-   10 or 11 every byte of nodes, edges and alternatives is zero, after 1 to 8 they are as they were. elements and links change
-   with GUMBYRA_CAN only, in the first GUMBYRA_ELEMENT * answer.elements and GUMBYRA_LINK * answer.links bytes. An element lists a
-   row of the file exactly if the row holds there in the example, whether a rule or the kit needs the row or not. */
+   11, 13, 14 or 15 every byte of nodes, edges and alternatives is zero, after 1 to 8 they are as they were. elements and links
+   change with GUMBYRA_CAN only, in the first GUMBYRA_ELEMENT * answer.elements and GUMBYRA_LINK * answer.links bytes. An element
+   lists a row of the file exactly if the row holds there in the example, whether a rule or the kit needs the row or not. */
 gumbyra_answer gumbyra_fit(const uint8_t *file, size_t file_len,
                            uint8_t *nodes, size_t nodes_len,
                            uint8_t *edges, size_t edges_len,

@@ -13,6 +13,7 @@ pub struct Answer {
     pub alternatives: u32,
     pub elements: u32,
     pub links: u32,
+    pub lent: u32,
 }
 
 /// The numbers of a conversion.

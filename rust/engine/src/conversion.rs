@@ -37,8 +37,11 @@ mod tests {
     #[test]
     fn other_numbers_are_no_answer() {
         let area = [7; LONGEST_FILE + 1];
-        for (refusal, length) in [(0, 0), (1, 1), (9, 0), (10, 0), (11, 0), (12, 12), (13, 0), (0, 4097), (0, u32::MAX)] {
+        for (refusal, length) in [(0, 0), (1, 1), (9, 0), (12, 12), (0, 4097), (0, u32::MAX)] {
             assert_eq!(of_numbers(refusal, length, &area), None, "{refusal} {length}");
+        }
+        for refusal in [10, 11, 13, 14, 15, 16] {
+            assert_eq!(of_numbers(refusal, 0, &area), None, "{refusal}: of a run, or none");
         }
         assert_eq!(of_numbers(0, 12, &area[..11]), None, "longer than the area");
     }

@@ -1,11 +1,13 @@
-//! Refusals: their numbers and their sentences (document 01, "Refusals, in checking order"; document 02, [1]).
+//! Refusals: their numbers and their sentences (document 01, "Refusals, in checking order"; document 02, [1] and [4]).
 
+use crate::space::MOST_RECORDS;
 use std::fmt;
 
 /// Why there is no verdict, or no file from a draft.
 ///
 /// Later versions of the engine have more refusals, and may give up one of these. There is no 9: it was "No row has kind 1 or 2",
-/// and no file got as far as that check to fail it (document 02, [3]). The number is not used again.
+/// and no file got as far as that check to fail it (document 02, [3]). The number is not used again. There is no 10 either: it was
+/// for a record of any kind without a place, where there are 13, 14 and 15 now (document 02, [4]).
 #[derive(Clone, Copy, Debug, PartialEq, Eq, Hash)]
 #[non_exhaustive]
 pub enum Refusal {
@@ -25,12 +27,18 @@ pub enum Refusal {
     Repeat,
     /// 8: a rule or the wanted row.
     NoSuchRow,
-    /// 10: a work area is short. The file may get a verdict in larger areas.
-    NoPlace,
     /// 11: the kit can exist, but the example areas don't hold so many records.
     ExampleTooLong { elements: usize, links: usize },
     /// 12: what the draft becomes is too long for a rule file or for the area.
     ResultTooLong,
+    /// 13: the work area for nodes is short; so many records counted as lent. In a larger one the run gets further, unless that is
+    /// [`MOST_RECORDS`] already. This and the next two come from the first record that the procedure could not place, so no
+    /// other area has to be larger for that; [`Sizes::enlarged`](crate::Sizes::enlarged) is for a caller who asks again.
+    NodesShort { lent: usize },
+    /// 14: the work area for edges is short.
+    EdgesShort { lent: usize },
+    /// 15: the work area for alternatives is short.
+    AlternativesShort { lent: usize },
 }
 
 /// The refusals by a check of the file or the draft.
@@ -46,12 +54,15 @@ const CHECKS: [Refusal; 8] = [
 ];
 
 impl Refusal {
-    /// The refusal of a run with this number and these counts of elements and links; `None` if the engine never gives these.
-    pub(crate) fn of_run(number: u32, counts: [usize; 2]) -> Option<Refusal> {
-        match (number, counts) {
-            (10, [0, 0]) => Some(Refusal::NoPlace),
-            (11, [elements, links]) => Some(Refusal::ExampleTooLong { elements, links }),
-            (_, [0, 0]) => Refusal::of_check(number),
+    /// The refusal of a run with this number, these counts of elements and links and so many records lent; `None` if the engine
+    /// never gives these.
+    pub(crate) fn of_run(number: u32, counts: [usize; 2], lent: usize) -> Option<Refusal> {
+        match (number, counts, lent) {
+            (11, [elements, links], 0) => Some(Refusal::ExampleTooLong { elements, links }),
+            (13, [0, 0], 0..=MOST_RECORDS) => Some(Refusal::NodesShort { lent }),
+            (14, [0, 0], 0..=MOST_RECORDS) => Some(Refusal::EdgesShort { lent }),
+            (15, [0, 0], 0..=MOST_RECORDS) => Some(Refusal::AlternativesShort { lent }),
+            (_, [0, 0], 0) => Refusal::of_check(number),
             _ => None,
         }
     }
@@ -93,22 +104,27 @@ impl Refusal {
             Refusal::Argument => (6, "A row names an argument row that isn't lower than itself."),
             Refusal::Repeat => (7, "Two rows have the same four bytes."),
             Refusal::NoSuchRow => (8, "A rule or the wanted row isn't below the number of rows."),
-            Refusal::NoPlace => (10, "The procedure's next record has no place in its area."),
             Refusal::ExampleTooLong { .. } => (11, "The verdict is \"can\" and an example area is too short."),
             Refusal::ResultTooLong => {
                 (12, "The result needs more than 64 rows, more than 4,096 bytes or more than the area.")
             }
+            Refusal::NodesShort { .. } => (13, "The procedure's next node has no place in its area."),
+            Refusal::EdgesShort { .. } => (14, "The procedure's next edge has no place in its area."),
+            Refusal::AlternativesShort { .. } => (15, "The procedure's next alternative has no place in its area."),
         }
     }
 }
 
-/// The number and the sentence, and the counts of 11.
+/// The number and the sentence, the counts of 11 and the count of 13, 14 and 15.
 impl fmt::Display for Refusal {
     fn fmt(&self, f: &mut fmt::Formatter) -> fmt::Result {
         let (number, sentence) = self.entry();
         write!(f, "refusal {number}: {sentence}")?;
         match self {
             Refusal::ExampleTooLong { elements, links } => write!(f, " Elements needed: {elements}, links: {links}."),
+            Refusal::NodesShort { lent } => write!(f, " Nodes lent: {lent}."),
+            Refusal::EdgesShort { lent } => write!(f, " Edges lent: {lent}."),
+            Refusal::AlternativesShort { lent } => write!(f, " Alternatives lent: {lent}."),
             _ => Ok(()),
         }
     }
@@ -125,22 +141,41 @@ mod tests {
         let numbers: Vec<u8> = CHECKS.iter().map(Refusal::number).collect();
         assert_eq!(numbers, [1, 2, 3, 4, 5, 6, 7, 8]);
         for check in CHECKS {
-            assert_eq!(Refusal::of_run(check.number().into(), [0, 0]), Some(check));
+            assert_eq!(Refusal::of_run(check.number().into(), [0, 0], 0), Some(check));
             assert_eq!(Refusal::of_conversion(check.number().into()), Some(check));
         }
         let too_long = Refusal::ExampleTooLong { elements: 2, links: 1 };
-        assert_eq!(Refusal::of_run(10, [0, 0]), Some(Refusal::NoPlace));
-        assert_eq!(Refusal::of_run(11, [2, 1]), Some(too_long));
+        assert_eq!(Refusal::of_run(11, [2, 1], 0), Some(too_long));
         assert_eq!(Refusal::of_conversion(12), Some(Refusal::ResultTooLong));
-        assert_eq!([Refusal::NoPlace, too_long, Refusal::ResultTooLong].map(|r| r.number()), [10, 11, 12]);
+        assert_eq!([too_long, Refusal::ResultTooLong].map(|r| r.number()), [11, 12]);
+        for lent in [0, 7, MOST_RECORDS] {
+            for (number, short) in (13..).zip(short(lent)) {
+                assert_eq!(Refusal::of_run(number, [0, 0], lent), Some(short));
+                assert_eq!(u32::from(short.number()), number);
+            }
+        }
+    }
+
+    /// Refusals 13, 14 and 15.
+    fn short(lent: usize) -> [Refusal; 3] {
+        [Refusal::NodesShort { lent }, Refusal::EdgesShort { lent }, Refusal::AlternativesShort { lent }]
     }
 
     #[test]
     fn other_numbers_have_none() {
-        assert!([(0, [0, 0]), (9, [0, 0]), (12, [0, 0]), (13, [0, 0]), (10, [0, 1]), (1, [1, 0])]
-            .into_iter()
-            .all(|(number, counts)| Refusal::of_run(number, counts).is_none()));
-        assert!([0, 9, 10, 11, 13].into_iter().all(|number| Refusal::of_conversion(number).is_none()));
+        for number in [0, 9, 10, 12, 16] {
+            assert_eq!(Refusal::of_run(number, [0, 0], 0), None, "{number}");
+            assert_eq!(Refusal::of_run(number, [0, 0], 7), None, "{number}");
+        }
+        for (number, counts, lent) in [(1, [1, 0], 0), (1, [0, 0], 1), (10, [0, 1], 0), (11, [2, 1], 1)] {
+            assert_eq!(Refusal::of_run(number, counts, lent), None, "{number} {counts:?} {lent}");
+        }
+        for number in 13..=15 {
+            for (counts, lent) in [([1, 0], 7), ([0, 1], 7), ([0, 0], MOST_RECORDS + 1), ([0, 0], u32::MAX as usize)] {
+                assert_eq!(Refusal::of_run(number, counts, lent), None, "{number} {counts:?} {lent}");
+            }
+        }
+        assert!([0, 9, 10, 11, 13, 14, 15].into_iter().all(|number| Refusal::of_conversion(number).is_none()));
     }
 
     /// For translators: samples/README.md has each number with its sentence, and no other.
@@ -150,9 +185,10 @@ mod tests {
         let readme = std::fs::read_to_string(path).expect("samples/README.md");
         let (_, list) = readme.split_once("| number | sentence |\n|---|---|\n").expect("the list of messages");
         let listed: Vec<&str> = list.lines().take_while(|line| line.starts_with('|')).collect();
-        let others = [Refusal::NoPlace, Refusal::ExampleTooLong { elements: 0, links: 0 }, Refusal::ResultTooLong];
-        let lines = CHECKS.iter().chain(&others).map(|r| format!("| {} | {} |", r.number(), r.sentence()));
-        assert_eq!(listed, lines.collect::<Vec<_>>());
+        let others = [Refusal::ExampleTooLong { elements: 0, links: 0 }, Refusal::ResultTooLong];
+        let all = [CHECKS.as_slice(), &others, &short(0)].concat();
+        let lines: Vec<String> = all.iter().map(|r| format!("| {} | {} |", r.number(), r.sentence())).collect();
+        assert_eq!(listed, lines);
     }
 
     #[test]
@@ -161,5 +197,11 @@ mod tests {
         let too_long = Refusal::ExampleTooLong { elements: 2, links: 1 };
         assert!(too_long.to_string().starts_with("refusal 11: The verdict is \"can\" and"));
         assert!(too_long.to_string().ends_with("too short. Elements needed: 2, links: 1."));
+        let [nodes, edges, alternatives] = short(7).map(|refusal| refusal.to_string());
+        assert_eq!(nodes, "refusal 13: The procedure's next node has no place in its area. Nodes lent: 7.");
+        assert!(
+            edges.starts_with("refusal 14: ") && edges.ends_with("next edge has no place in its area. Edges lent: 7.")
+        );
+        assert!(alternatives.ends_with("next alternative has no place in its area. Alternatives lent: 7."));
     }
 }

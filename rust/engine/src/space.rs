@@ -13,8 +13,8 @@ pub const MOST_RECORDS: usize = 4096;
 
 /// Five lent areas. What they hold before has no say in the outcome, and they may be of any length.
 ///
-/// After a verdict and after refusals 10 and 11 every byte of the three work areas is zero; after any other refusal they are as
-/// they were. The two example areas change with "can" only, and only in the bytes that the example fills.
+/// After a verdict and after refusals 11, 13, 14 and 15 every byte of the three work areas is zero; after any other refusal they are
+/// as they were. The two example areas change with "can" only, and only in the bytes that the example fills.
 pub struct Areas<'a> {
     /// Work area: nodes, [`NODE_BYTES`] each.
     pub nodes: &'a mut [u8],
@@ -41,6 +41,57 @@ pub struct Sizes {
 impl Sizes {
     /// What document 01's printing program lends.
     pub const USUAL: Sizes = Sizes { nodes: 1024, edges: 4096, alternatives: 4096, elements: 1024, links: 8192 };
+
+    /// What to ask again with after a refusal in these sizes: only what was short is larger. A work area has twice the records, a
+    /// first one if there was none and [`MOST_RECORDS`] at most; example areas have room for the example. `None` if no larger area
+    /// helps: the refusal is not for a lack of room, or so many records are lent already.
+    ///
+    /// ```
+    /// use gumbyra::{Refusal, Sizes, Space, Verdict};
+    /// # let file = [1, 0, 0, 0, 5, 1, 0, 0, 6, 0, 1, 0, 0, 0, 3, 0, 2, b'F', b'I', b'T'];
+    ///
+    /// // A hosting desk lends little, and enlarges what was short.
+    /// let mut sizes = Sizes { nodes: 3, edges: 2, alternatives: 0, elements: 1, links: 1 };
+    /// let mut refusals = Vec::new();
+    /// let used = loop {
+    ///     match Space::with(sizes).fit(&file) {
+    ///         Ok(Verdict::Can { used, .. } | Verdict::Cannot { used }) => break used,
+    ///         Err(refusal) => {
+    ///             refusals.push(refusal);
+    ///             sizes = sizes.enlarged(refusal).expect("a verdict in 4,096 records of each kind");
+    ///         }
+    ///     }
+    /// };
+    /// assert_eq!((used.nodes, used.edges, used.alternatives), (8, 7, 1));
+    /// assert_eq!(sizes, Sizes { nodes: 12, edges: 8, alternatives: 1, elements: 2, links: 1 });
+    /// assert_eq!(
+    ///     refusals,
+    ///     [
+    ///         Refusal::NodesShort { lent: 3 },
+    ///         Refusal::AlternativesShort { lent: 0 },
+    ///         Refusal::EdgesShort { lent: 2 },
+    ///         Refusal::EdgesShort { lent: 4 },
+    ///         Refusal::NodesShort { lent: 6 },
+    ///         Refusal::ExampleTooLong { elements: 2, links: 1 },
+    ///     ]
+    /// );
+    ///
+    /// // More than 4,096 records don't count, and a file that is refused stays so.
+    /// assert_eq!(sizes.enlarged(Refusal::NodesShort { lent: 4096 }), None);
+    /// assert_eq!(sizes.enlarged(Refusal::Mark), None);
+    /// ```
+    pub fn enlarged(self, refusal: Refusal) -> Option<Sizes> {
+        let more = |lent: usize| (lent < MOST_RECORDS).then_some((2 * lent).clamp(1, MOST_RECORDS));
+        Some(match refusal {
+            Refusal::NodesShort { lent } => Sizes { nodes: more(lent)?, ..self },
+            Refusal::EdgesShort { lent } => Sizes { edges: more(lent)?, ..self },
+            Refusal::AlternativesShort { lent } => Sizes { alternatives: more(lent)?, ..self },
+            Refusal::ExampleTooLong { elements, links } => {
+                Sizes { elements: self.elements.max(elements), links: self.links.max(links), ..self }
+            }
+            _ => return None,
+        })
+    }
 }
 
 /// Five areas of its own, for any number of runs one after the other.

@@ -26,16 +26,17 @@ const CANNOT: u32 = 2;
 const REFUSED: u32 = 0;
 
 /// The outcome that an answer tells, with the areas of elements and links as they are after the call. `None` if it is no answer
-/// of the engine: each refusal gives its number and zeros elsewhere, but 11 also the counts needed.
+/// of the engine: each refusal gives its number and zeros elsewhere, but 11 also the counts needed, and 13, 14 and 15 how many
+/// records were lent.
 pub(crate) fn outcome<'a>(answer: &Answer, areas: [&'a [u8]; 2]) -> Option<Result<Verdict<'a>, Refusal>> {
-    let &Answer { verdict, refusal, nodes, edges, alternatives, elements, links } = answer;
+    let &Answer { verdict, refusal, nodes, edges, alternatives, elements, links, lent } = answer;
     let [nodes, edges, alternatives] = [nodes, edges, alternatives].map(|count| count as usize);
     let used = Used { nodes, edges, alternatives };
     let counts = [elements, links].map(|count| count as usize);
-    match (verdict, refusal, [nodes, edges, alternatives], counts) {
-        (CAN, 0, _, _) => Some(Ok(Verdict::Can { used, example: Example::read(areas, counts)? })),
-        (CANNOT, 0, _, [0, 0]) => Some(Ok(Verdict::Cannot { used })),
-        (REFUSED, _, [0, 0, 0], _) => Some(Err(Refusal::of_run(refusal, counts)?)),
+    match (verdict, refusal, [nodes, edges, alternatives], counts, lent) {
+        (CAN, 0, _, _, 0) => Some(Ok(Verdict::Can { used, example: Example::read(areas, counts)? })),
+        (CANNOT, 0, _, [0, 0], 0) => Some(Ok(Verdict::Cannot { used })),
+        (REFUSED, _, [0, 0, 0], _, _) => Some(Err(Refusal::of_run(refusal, counts, lent as usize)?)),
         _ => None,
     }
 }
@@ -48,40 +49,59 @@ mod tests {
     const ELEMENTS: [u8; 2 * ELEMENT_BYTES + 1] = [1; 2 * ELEMENT_BYTES + 1];
     const LINKS: [u8; LINK_BYTES] = [0, 1, 2, 0, 1, 0];
 
-    fn of_numbers(numbers: [u32; 7]) -> Option<Result<Verdict<'static>, Refusal>> {
-        let [verdict, refusal, nodes, edges, alternatives, elements, links] = numbers;
-        let answer = Answer { verdict, refusal, nodes, edges, alternatives, elements, links };
+    fn of_numbers(numbers: [u32; 8]) -> Option<Result<Verdict<'static>, Refusal>> {
+        let [verdict, refusal, nodes, edges, alternatives, elements, links, lent] = numbers;
+        let answer = Answer { verdict, refusal, nodes, edges, alternatives, elements, links, lent };
         outcome(&answer, [&ELEMENTS, &LINKS])
     }
 
     #[test]
     fn every_answer_has_its_outcome() {
         let used = Used { nodes: 8, edges: 7, alternatives: 1 };
-        let Some(Ok(Verdict::Can { used: of_can, example })) = of_numbers([1, 0, 8, 7, 1, 2, 1]) else { panic!("can") };
+        let Some(Ok(Verdict::Can { used: of_can, example })) = of_numbers([1, 0, 8, 7, 1, 2, 1, 0]) else {
+            panic!("can")
+        };
         assert_eq!((of_can, example.elements().len()), (used, 2));
         assert_eq!(example.links().collect::<Vec<_>>(), [Link { from: 256, role: 2, to: 1 }]);
-        assert_eq!(of_numbers([2, 0, 8, 7, 1, 0, 0]), Some(Ok(Verdict::Cannot { used })));
-        assert_eq!(of_numbers([0, 8, 0, 0, 0, 0, 0]), Some(Err(Refusal::NoSuchRow)));
-        assert_eq!(of_numbers([0, 10, 0, 0, 0, 0, 0]), Some(Err(Refusal::NoPlace)));
+        assert_eq!(of_numbers([2, 0, 8, 7, 1, 0, 0, 0]), Some(Ok(Verdict::Cannot { used })));
+        assert_eq!(of_numbers([0, 8, 0, 0, 0, 0, 0, 0]), Some(Err(Refusal::NoSuchRow)));
         let too_long = Refusal::ExampleTooLong { elements: 2, links: 1 };
-        assert_eq!(of_numbers([0, 11, 0, 0, 0, 2, 1]), Some(Err(too_long)));
+        assert_eq!(of_numbers([0, 11, 0, 0, 0, 2, 1, 0]), Some(Err(too_long)));
+        assert_eq!(of_numbers([0, 13, 0, 0, 0, 0, 0, 7]), Some(Err(Refusal::NodesShort { lent: 7 })));
+        assert_eq!(of_numbers([0, 14, 0, 0, 0, 0, 0, 4096]), Some(Err(Refusal::EdgesShort { lent: 4096 })));
+        assert_eq!(of_numbers([0, 15, 0, 0, 0, 0, 0, 0]), Some(Err(Refusal::AlternativesShort { lent: 0 })));
     }
 
     #[test]
     fn other_numbers_are_no_answer() {
         let no_answers = [
-            [0, 0, 0, 0, 0, 0, 0],
-            [3, 0, 8, 7, 1, 0, 0],
-            [1, 1, 8, 7, 1, 2, 1],
-            [1, 0, 8, 7, 1, 3, 1],
-            [1, 0, 8, 7, 1, 2, 2],
-            [2, 0, 8, 7, 1, 2, 0],
-            [0, 1, 1, 0, 0, 0, 0],
-            [0, 9, 0, 0, 0, 0, 0],
-            [0, 10, 0, 0, 0, 0, 1],
-            [0, 11, 0, 1, 0, 2, 1],
-            [0, 12, 0, 0, 0, 0, 0],
+            [0, 0, 0, 0, 0, 0, 0, 0],
+            [3, 0, 8, 7, 1, 0, 0, 0],
+            [1, 1, 8, 7, 1, 2, 1, 0],
+            [1, 0, 8, 7, 1, 3, 1, 0],
+            [1, 0, 8, 7, 1, 2, 2, 0],
+            [1, 0, 8, 7, 1, 2, 1, 8],
+            [2, 0, 8, 7, 1, 2, 0, 0],
+            [2, 0, 8, 7, 1, 0, 0, 8],
+            [0, 0, 0, 0, 0, 0, 0, 7],
+            [0, 1, 1, 0, 0, 0, 0, 0],
+            [0, 8, 0, 0, 0, 0, 0, 7],
+            [0, 9, 0, 0, 0, 0, 0, 0],
+            [0, 10, 0, 0, 0, 0, 0, 0],
+            [0, 10, 0, 0, 0, 0, 0, 7],
+            [0, 11, 0, 1, 0, 2, 1, 0],
+            [0, 11, 0, 0, 0, 2, 1, 7],
+            [0, 12, 0, 0, 0, 0, 0, 0],
+            [0, 13, 7, 0, 0, 0, 0, 7],
+            [0, 13, 0, 0, 0, 1, 0, 7],
+            [0, 14, 0, 0, 0, 0, 1, 7],
+            [0, 15, 0, 0, 0, 0, 0, 4097],
+            [1, 13, 0, 0, 0, 0, 0, 7],
+            [2, 14, 0, 0, 0, 0, 0, 7],
+            [0, 16, 0, 0, 0, 0, 0, 7],
         ];
-        assert!(no_answers.into_iter().all(|numbers| of_numbers(numbers).is_none()));
+        for numbers in no_answers {
+            assert_eq!(of_numbers(numbers), None, "{numbers:?}");
+        }
     }
 }

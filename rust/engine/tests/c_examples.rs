@@ -10,6 +10,15 @@ verdict 1, refusal 0, used 8 7 1
 2 elements, with rows 07 and 02; 1 link, to 1
 ";
 
+/// By the order of the run's records (N node, E edge, A alternative): N NNEE NAE NNEE NNEE.
+const ENLARGE: &str = "\
+refusal 15, lent 0: now 1 alternatives
+refusal 13, lent 4: now 8 nodes
+refusal 14, lent 3: now 6 edges
+refusal 14, lent 6: now 12 edges
+verdict 1, refusal 0, used 8 7 1
+";
+
 /// The rule becomes either not name 0 (row 0) or name 1 (row 1); its opposite both name 0 (row 3) and not name 1 (row 4).
 const DRAFT: &str = "\
 refusal 0, length 37
@@ -44,6 +53,11 @@ fn output(example: &str) -> String {
 #[test]
 fn the_c_example_decides_the_eight_node_run() {
     assert_eq!(output("eight_nodes"), EIGHT_NODES);
+}
+
+#[test]
+fn the_c_example_enlarges_what_was_short() {
+    assert_eq!(output("enlarge"), ENLARGE);
 }
 
 #[test]

@@ -10,12 +10,14 @@ use crate::status::Status;
 use crate::tableau::{run, ROOT};
 use std::fmt::Write;
 
-const NODE: usize = 64;
-const EDGE: usize = 16;
-const ALTERNATIVE: usize = 16;
+/// Bytes of a record, of each kind.
+pub const NODE: usize = 64;
+pub const EDGE: usize = 16;
+pub const ALTERNATIVE: usize = 16;
 const ELEMENT: usize = RowSet::BYTES;
 const LINK: usize = 6;
-const MOST_RECORDS: usize = 4096;
+/// Whole records count, and at most so many of each in the three work areas.
+pub const MOST_RECORDS: usize = 4096;
 
 /// The lengths of the five lent areas, in bytes. What the areas hold has no say in the answer.
 #[derive(Clone, Copy, Debug, PartialEq, Eq)]
@@ -83,8 +85,8 @@ pub struct Used {
 pub enum Answer {
     /// A file check refuses the file: 1 to 8.
     Refused(u8),
-    /// Refusal 10: the procedure's next record has no place in its area. `plain` tells which, the engine does not.
-    Short(Option<Area>),
+    /// Refusal 13, 14 or 15: the procedure's next record has no place in this area, of which so many records count as lent.
+    Short { area: Area, lent: usize },
     /// Refusal 11: the verdict is "can" and an example area is too short for so many.
     TooLong { elements: usize, links: usize },
     /// The wanted row cannot hold anywhere.
@@ -112,7 +114,7 @@ fn answer_listing(file: &[u8], lent: &Lent, list: impl FnOnce(Example, &[Concept
     };
     match run(&file, lent.capacity()) {
         Ok(graph) => verdict(&file.concepts, &graph, lent, list),
-        Err(area) => Answer::Short(Some(area)),
+        Err(area) => Answer::Short { area, lent: lent.capacity().of(area) },
     }
 }
 
@@ -146,7 +148,7 @@ pub fn records(elements: &[RowSet], links: &[RoleLink]) -> [Vec<u8>; 2] {
 pub fn print(answer: &Answer) -> String {
     match answer {
         Answer::Refused(number) => format!("REFUSED {number}\n"),
-        Answer::Short(_) => "REFUSED 10\n".to_string(),
+        Answer::Short { area, lent } => format!("REFUSED {} {lent}\n", area.refusal()),
         Answer::TooLong { elements, links } => format!("REFUSED 11 {elements} {links}\n"),
         Answer::Cannot { used } => format!("CANNOT\n{}", print_used(used)),
         Answer::Can { used, elements, links } => print_can(used, elements, links),

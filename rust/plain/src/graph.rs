@@ -67,12 +67,34 @@ pub enum Area {
     Alternatives,
 }
 
+impl Area {
+    /// The refusal of a run whose next record has no place in this area (document 02, [4]).
+    pub fn refusal(self) -> u8 {
+        match self {
+            Area::Nodes => 13,
+            Area::Edges => 14,
+            Area::Alternatives => 15,
+        }
+    }
+}
+
 /// How many records each work area holds.
 #[derive(Clone, Copy, Debug, PartialEq, Eq)]
 pub struct Capacity {
     pub nodes: usize,
     pub edges: usize,
     pub alternatives: usize,
+}
+
+impl Capacity {
+    /// How many records this area holds.
+    pub fn of(&self, area: Area) -> usize {
+        match area {
+            Area::Nodes => self.nodes,
+            Area::Edges => self.edges,
+            Area::Alternatives => self.alternatives,
+        }
+    }
 }
 
 /// The records in order of arrival.

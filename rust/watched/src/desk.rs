@@ -3,9 +3,7 @@
 
 use crate::converter::Converter;
 use crate::lending::Lending;
-use compare::{conversion_line, one_line, Convert, Fit, Prng};
-use gumbyra::{ALTERNATIVE_BYTES, EDGE_BYTES, NODE_BYTES};
-use plain::Lent;
+use compare::{conversion_line, one_line, with_broken_records, Convert, Fit, Prng};
 
 /// Why a question has no answer.
 enum Trouble {
@@ -67,17 +65,6 @@ impl Desk {
     }
 }
 
-/// The same areas, each work area with some bytes more, less than one record.
-fn with_broken_records(whole: Lent, prng: &mut Prng) -> Lent {
-    let mut more = |record: usize| 1 + prng.below(record - 1);
-    Lent {
-        nodes: whole.nodes + more(NODE_BYTES),
-        edges: whole.edges + more(EDGE_BYTES),
-        alternatives: whole.alternatives + more(ALTERNATIVE_BYTES),
-        ..whole
-    }
-}
-
 #[cfg(test)]
 mod tests {
     use super::*;
@@ -88,6 +75,7 @@ mod tests {
     const CAN: &[u8] = b"fit 010000000000010000464954 9 9 9 99 99";
     const CANNOT: &[u8] = b"fit 0100000002000000030000010000030002464954 9 9 9 99 99";
     const REFUSED: &[u8] = b"fit - 9 9 9 99 99";
+    const SHORT: &[u8] = b"fit 010000000000010000464954 2 9 9 99 99";
 
     fn answer(engine: Engine, question: &[u8]) -> String {
         Desk::new(Lending::to(engine), Converter::new()).answer(question)
@@ -98,6 +86,7 @@ mod tests {
         assert_eq!(answer(fit, CAN), "CAN 1 0;USED 3 2 0;E 0 0000000000000001");
         assert_eq!(answer(fit, CANNOT), "CANNOT;USED 3 2 0");
         assert_eq!(answer(fit, REFUSED), "REFUSED 1");
+        assert_eq!(answer(fit, SHORT), "REFUSED 13 2");
     }
 
     /// Touches the last byte of a work area and of an example area.
@@ -114,6 +103,7 @@ mod tests {
         assert_eq!(answer(touching, CAN), "BROKEN elements: bytes past the result changed");
         assert_eq!(answer(touching, CANNOT), "BROKEN elements: the area changed");
         assert_eq!(answer(touching, REFUSED), "BROKEN edges: the area changed");
+        assert_eq!(answer(touching, SHORT), "BROKEN elements: the area changed");
     }
 
     /// Leaves the last eight bytes of a work area as they were.
@@ -126,7 +116,22 @@ mod tests {
     fn a_byte_left_over_is_told() {
         assert_eq!(answer(leaving, CAN), "BROKEN nodes: a byte is not zero");
         assert_eq!(answer(leaving, CANNOT), "BROKEN nodes: a byte is not zero");
+        assert_eq!(answer(leaving, SHORT), "BROKEN nodes: a byte is not zero");
         assert_eq!(answer(leaving, REFUSED), "REFUSED 1");
+    }
+
+    /// Tells one record more than counted as lent.
+    fn miscounting<'a>(file: &[u8], areas: Areas<'a>) -> Result<Verdict<'a>, Refusal> {
+        fit(file, areas).map_err(|refusal| match refusal {
+            Refusal::NodesShort { lent } => Refusal::NodesShort { lent: lent + 1 },
+            other => other,
+        })
+    }
+
+    #[test]
+    fn a_wrong_count_is_told() {
+        assert_eq!(answer(miscounting, SHORT), "BROKEN nodes: 3 records are told, 2 counted as lent");
+        assert_eq!(answer(miscounting, REFUSED), "REFUSED 1");
     }
 
     fn failing<'a>(_: &[u8], _: Areas<'a>) -> Result<Verdict<'a>, Refusal> {
@@ -147,18 +152,6 @@ mod tests {
         let other_converts =
             [b"convert".as_slice(), b"convert ", b"convert 0 1", b"convert -", b"convert - 1 1", b"convert - 1\r"];
         assert!(other_converts.iter().all(|line| answer(fit, line) == format!("UNKNOWN {CONVERT}")));
-    }
-
-    #[test]
-    fn every_work_area_has_a_broken_record() {
-        let whole = Lent::records(1, 2, 3, 4, 5);
-        let mut prng = Prng::new(1);
-        for _ in 0..1000 {
-            let lent = with_broken_records(whole, &mut prng);
-            assert_eq!(lent.capacity(), whole.capacity());
-            assert!(lent.nodes > whole.nodes && lent.edges > whole.edges && lent.alternatives > whole.alternatives);
-            assert_eq!((lent.elements, lent.links), (whole.elements, whole.links));
-        }
     }
 
     /// A name and its opposite, wanted, in an area with some bytes more.

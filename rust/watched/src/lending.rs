@@ -17,6 +17,8 @@ pub type Engine = for<'a> fn(&[u8], Areas<'a>) -> Result<Verdict<'a>, Refusal>;
 pub struct Lending {
     engine: Engine,
     areas: [Area; 5],
+    /// The lengths of the last run.
+    lent: Lent,
 }
 
 impl Lending {
@@ -27,13 +29,14 @@ impl Lending {
 
     /// Areas for what stands in for the engine.
     pub fn to(engine: Engine) -> Lending {
-        Lending { engine, areas: [1, 2, 3, 4, 5].map(Area::new) }
+        Lending { engine, areas: [1, 2, 3, 4, 5].map(Area::new), lent: Lent::records(0, 0, 0, 0, 0) }
     }
 
     /// Runs the engine in areas of these lengths, full of noise. The same file in the same lengths meets the same noise. An
     /// error tells why there is no answer.
     pub fn run(&mut self, file: &[u8], lent: &Lent) -> Result<Answer, String> {
         let mut prng = Prng::of_bytes(file);
+        self.lent = *lent;
         let Lent { nodes, edges, alternatives, elements, links } = *lent;
         let mut lengths = [nodes, edges, alternatives, elements, links].into_iter();
         let [nodes, edges, alternatives, elements, links] =
@@ -46,7 +49,16 @@ impl Lending {
     /// The promise that is broken if this was the answer to the last run.
     pub fn broken(&self, answer: &Answer) -> Option<String> {
         let mut areas = NAMES.iter().zip(&self.areas).zip(fates(answer));
-        areas.find_map(|((name, area), fate)| Some(format!("{name}: {}", area.broken(&fate)?)))
+        let broken = areas.find_map(|((name, area), fate)| Some(format!("{name}: {}", area.broken(&fate)?)));
+        broken.or_else(|| self.miscounted(answer))
+    }
+
+    /// Refusals 13, 14 and 15 give how many records of the short area counted as lent.
+    fn miscounted(&self, answer: &Answer) -> Option<String> {
+        let Answer::Short { area, lent: told } = *answer else { return None };
+        let counted = self.lent.capacity().of(area);
+        (told != counted)
+            .then(|| format!("{}: {told} records are told, {counted} counted as lent", NAMES[area as usize]))
     }
 
     /// Runs the engine and looks after every promise. An error tells which is broken.
@@ -70,10 +82,13 @@ impl Default for Lending {
     }
 }
 
-/// A refusal in the words of `plain`. Refusal 10 does not tell which area is short.
+/// A refusal in the words of `plain`.
 fn refused(refusal: Refusal) -> Answer {
+    let short = |area, lent| Answer::Short { area, lent };
     match refusal {
-        Refusal::NoPlace => Answer::Short(None),
+        Refusal::NodesShort { lent } => short(plain::Area::Nodes, lent),
+        Refusal::EdgesShort { lent } => short(plain::Area::Edges, lent),
+        Refusal::AlternativesShort { lent } => short(plain::Area::Alternatives, lent),
         Refusal::ExampleTooLong { elements, links } => Answer::TooLong { elements, links },
         of_the_file => Answer::Refused(of_the_file.number()),
     }
@@ -103,12 +118,12 @@ pub(crate) fn reason(panic: Box<dyn Any + Send>) -> String {
     text.unwrap_or("the call has no answer").replace('\n', " ")
 }
 
-/// After a verdict, 10 or 11 every byte of the work areas is zero. The example areas change only with "can", and only in the
+/// After a verdict, 11, 13, 14 or 15 every byte of the work areas is zero. The example areas change only with "can", and only in the
 /// bytes that the example fills. After refusals 1 to 8 all areas are as they were.
 fn fates(answer: &Answer) -> [Fate; 5] {
     match answer {
         Answer::Refused(_) => [Fate::Kept, Fate::Kept, Fate::Kept, Fate::Kept, Fate::Kept],
-        Answer::Short(_) | Answer::TooLong { .. } | Answer::Cannot { .. } => {
+        Answer::Short { .. } | Answer::TooLong { .. } | Answer::Cannot { .. } => {
             [Fate::Zero, Fate::Zero, Fate::Zero, Fate::Kept, Fate::Kept]
         }
         Answer::Can { elements, links, .. } => {

@@ -1,8 +1,16 @@
-//! The engine in different areas, and stopped before each record of a run.
+//! The engine in different areas, in areas just enough, and lent one record more after each refusal.
 
 use compare::areas::{check_different_areas, check_just_enough};
-use compare::record_order::check_record_order;
+use compare::climb::{check_long_climbs, check_random_climbs};
+use plain::{Answer, Lent};
 use watched::Lending;
+
+/// The engine's answer, which must be the plain program's.
+fn agreed(lending: &mut Lending, file: &[u8], lent: &Lent) -> Answer {
+    let answer = lending.answer(file, lent);
+    assert_eq!(answer, plain::answer(file, lent), "{file:02x?} in {lent:?}");
+    answer
+}
 
 #[test]
 fn different_areas_never_contradict() {
@@ -17,7 +25,13 @@ fn areas_just_enough_or_one_byte_short() {
 }
 
 #[test]
-fn the_first_record_without_a_place_decides() {
+fn climbs_of_random_files() {
     let mut lending = Lending::new();
-    check_record_order(|file, lent| lending.answer(file, lent));
+    check_random_climbs(|file, lent| agreed(&mut lending, file, lent));
+}
+
+#[test]
+fn climbs_of_long_runs() {
+    let mut lending = Lending::new();
+    check_long_climbs(|file, lent| agreed(&mut lending, file, lent));
 }

@@ -10,10 +10,10 @@ use watched::Lending;
 /// The engine and the plain program agree on a file. The plain one runs where it has room.
 fn check(file: Vec<u8>, verdict: &str) {
     let lent = Lent::most();
-    let expected = print(&plain::answer(&file, &lent));
-    assert!(expected.starts_with(verdict), "{expected}");
+    let expected = plain::answer(&file, &lent);
+    assert!(print(&expected).starts_with(verdict), "{expected:?}");
     let answer = on_stack(STACK, move || Lending::new().answer(&file, &lent));
-    assert_eq!(print(&answer), expected);
+    assert_eq!(answer, expected);
 }
 
 #[test]
@@ -42,5 +42,5 @@ fn large_examples_of_64_rows() {
 #[test]
 fn puts_nest_deep() {
     check(ladder(RUNGS, false), "CAN ");
-    check(ladder(RUNGS_AGAIN, true), "REFUSED 10\n");
+    check(ladder(RUNGS_AGAIN, true), "REFUSED 14 4096\n");
 }

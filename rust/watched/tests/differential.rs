@@ -3,32 +3,45 @@
 
 use compare::{cases, check_example, damage, random_bytes, random_file, random_lent, Prng, Shape};
 use gumbyra::{ALTERNATIVE_BYTES, EDGE_BYTES, NODE_BYTES};
-use plain::{print, Answer, Lent};
+use plain::{Answer, Lent};
+use std::ops::RangeInclusive;
 use watched::Lending;
 
-/// How often each kind of answer came: refusals 1 to 11 by their number, then "cannot", "can".
-type Kinds = [usize; 14];
+/// How often each kind of answer came: refusals by their number, then "cannot", "can".
+type Kinds = [usize; CAN + 1];
+const CANNOT: usize = 16;
+const CAN: usize = 17;
+/// The file checks, and the kinds of answer to a file that passes them.
+const CHECKS: RangeInclusive<usize> = 1..=8;
+const RUNS: [usize; 6] = [11, 13, 14, 15, CANNOT, CAN];
 
 fn kind(answer: &Answer) -> usize {
     match answer {
         Answer::Refused(number) => usize::from(*number),
-        Answer::Short(_) => 10,
         Answer::TooLong { .. } => 11,
-        Answer::Cannot { .. } => 12,
-        Answer::Can { .. } => 13,
+        Answer::Short { area, .. } => usize::from(area.refusal()),
+        Answer::Cannot { .. } => CANNOT,
+        Answer::Can { .. } => CAN,
     }
 }
 
-/// Printing tells answers apart, but for the area that is short. The areas must be as the plain program's answer says, and that answer
-/// as the meaning of ALCI says.
+/// The answer must be the plain program's, the areas as that says, and that answer as the meaning of ALCI says.
 fn check(lending: &mut Lending, file: &[u8], lent: &Lent, kinds: &mut Kinds) {
     let expected = plain::answer(file, lent);
     check_example(file, &expected);
     let answer = lending.run(file, lent).unwrap_or_else(|broken| panic!("{broken}: {file:02x?} in {lent:?}"));
-    assert_eq!(print(&answer), print(&expected), "{file:02x?} in {lent:?}");
+    assert_eq!(answer, expected, "{file:02x?} in {lent:?}");
     let broken = lending.broken(&expected);
     assert_eq!(broken, None, "{file:02x?} in {lent:?}");
     kinds[kind(&expected)] += 1;
+}
+
+/// Each of these kinds came at least so often, and those of no answer never: 9, 10, and 12, which is a conversion's.
+fn assert_often(what: &str, kinds: &Kinds, of: impl Iterator<Item = usize>, least: usize) {
+    let times: Vec<(usize, usize)> = of.map(|kind| (kind, kinds[kind])).collect();
+    println!("{what}: how often each refusal came, then cannot ({CANNOT}) and can ({CAN}): {times:?}");
+    assert!(times.iter().all(|&(_, times)| times >= least), "{kinds:?}");
+    assert!([0, 9, 10, 12].iter().all(|&none| kinds[none] == 0), "{kinds:?}");
 }
 
 /// Mostly short areas that decide the answer, now and then the printing program's.
@@ -54,8 +67,7 @@ fn valid_files() {
         let lent = lent(&mut prng);
         check(&mut lending, &file, &lent, &mut kinds);
     }
-    println!("valid files: refusals 10 and 11, cannot, can: {:?}", &kinds[10..]);
-    assert!(kinds[10..].iter().all(|&times| times >= 1000), "{kinds:?}");
+    assert_often("valid files", &kinds, RUNS.into_iter(), 1000);
 }
 
 #[test]
@@ -73,9 +85,7 @@ fn damaged_files() {
         let lent = lent(&mut prng);
         check(&mut lending, &file, &lent, &mut kinds);
     }
-    println!("damaged files: refusals 1 to 11, cannot, can: {:?}", &kinds[1..]);
-    // There is no refusal 9 (document 02, [3]).
-    assert!((1..14).all(|kind| if kind == 9 { kinds[kind] == 0 } else { kinds[kind] >= 100 }), "{kinds:?}");
+    assert_often("damaged files", &kinds, CHECKS.chain(RUNS), 100);
 }
 
 #[test]
@@ -86,23 +96,23 @@ fn bytes_at_random() {
         let (file, lent) = (random_bytes(&mut prng), lent(&mut prng));
         check(&mut lending, &file, &lent, &mut kinds);
     }
-    println!("random bytes: refusals 1 to 11, cannot, can: {:?}", &kinds[1..]);
-    assert!(kinds[1..9].iter().all(|&times| times >= 20), "{kinds:?}");
+    assert_often("random bytes", &kinds, CHECKS, 20);
 }
 
 #[test]
-fn large_files_in_the_largest_areas() {
+fn large_files_in_large_areas() {
     let shape = Shape { names: 6, roles: 3, compound: 52, rules: 12, text: 8 };
     let mut prng = Prng::new(13);
     let (mut lending, mut kinds) = (Lending::new(), Kinds::default());
-    for _ in 0..300 {
+    for round in 0..600 {
         let file = random_file(&mut prng, shape);
-        // Up to 4,196 records and a broken one: every byte ends as promised, also past the last record that counts.
-        let mut records = |bytes: usize| bytes * (4000 + prng.below(196)) + prng.below(bytes);
-        let (nodes, edges, alternatives) = (records(NODE_BYTES), records(EDGE_BYTES), records(ALTERNATIVE_BYTES));
+        // Up to 4,196 records and a broken one: every byte ends as promised, also past the last record that counts. Such runs use more
+        // edges than nodes, so in every other round there are fewer nodes.
+        let mut records = |bytes: usize, least: usize| bytes * (least + prng.below(196)) + prng.below(bytes);
+        let nodes = records(NODE_BYTES, [4000, 1000][round % 2]);
+        let (edges, alternatives) = (records(EDGE_BYTES, 4000), records(ALTERNATIVE_BYTES, 4000));
         let lent = Lent { nodes, edges, alternatives, ..Lent::most() };
         check(&mut lending, &file, &lent, &mut kinds);
     }
-    println!("large files: refusals 10 and 11, cannot, can: {:?}", &kinds[10..]);
-    assert!([10, 12, 13].iter().all(|&kind| kinds[kind] >= 10), "{kinds:?}");
+    assert_often("large files", &kinds, [13, 14, CANNOT, CAN].into_iter(), 10);
 }

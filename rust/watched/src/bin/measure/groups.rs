@@ -19,7 +19,7 @@ impl Subject {
         let (used, elements, links) = match answer(&file, lent) {
             Answer::Cannot { used } => (used, 0, 0),
             Answer::Can { used, elements, links } => (used, elements.len(), links.len()),
-            Answer::Refused(_) | Answer::Short(_) | Answer::TooLong { .. } => return None,
+            Answer::Refused(_) | Answer::Short { .. } | Answer::TooLong { .. } => return None,
         };
         Some(Subject { file, used, enough: Lent::just(used, elements, links) })
     }
