@@ -3,7 +3,7 @@
 -- In order: their numbers; "Every run that ended with 10 now ends with one of these, and no other run does"; what is given with them.
 -- Assumes nothing.
 use mathlib.Core.Path.{_≡_, refl}
-use Prim.Native.Nat.{ℕ, _≤_}
+use Prim.Native.Nat.{_≤_}
 use native.Mathlib.Omega.{arith}
 use Rattle.decoding.specs.Decoding.{ruleKinds}
 use Rattle.rulefile.specs.Format.{Bytes}
