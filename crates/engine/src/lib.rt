@@ -15,6 +15,12 @@ ghost use Rattle.graph.specs.Graphs.{areaOf};
 ghost use Rattle.conclusion.specs.Contracts.{usedOf, SmallCounts, SmallSizes, Small};
 ghost use Rattle.engine.specs.Contracts.{decidedNumbers, Answered};
 use answers::Answer;
+use answers::CAN;
+use answers::CANNOT;
+use answers::NO_ALTERNATIVE;
+use answers::NO_EDGE;
+use answers::NO_NODE;
+use answers::TOO_LONG;
 use conclusion::Decision;
 use conclusion::decide;
 use decoding::RULE_KINDS;
@@ -28,20 +34,6 @@ use rulefile::Layout;
 use rulefile::Outcome;
 use rulefile::read;
 use rulefile::text;
-
-// The numbers of a verdict.
-const CAN: u32 = 1;
-
-const CANNOT: u32 = 2;
-
-// The refusals of a file that is accepted: an example area is too short; "13 is for nodes, 14 for edges, 15 for alternatives" (02, [4]).
-const TOO_LONG: u32 = 11;
-
-const NO_NODE: u32 = 13;
-
-const NO_EDGE: u32 = 14;
-
-const NO_ALTERNATIVE: u32 = 15;
 
 // A refusal: "Each gives its number and zeros elsewhere".
 fn refused(n: u32) -> Answer

@@ -13,17 +13,11 @@ ghost use Rattle.run.specs.Printed as Printed;
 ghost use Rattle.answers.specs.Numbers.{numbersOf};
 ghost use Rattle.printing.specs.Printing.{Countable, Wrote, Prints};
 use answers::Answer;
-
-// The numbers of the two verdicts; of the refusal of an example that its areas are too short for; and of those for a record without a place, from that of nodes to that of alternatives.
-const CAN: u32 = 1;
-
-const CANNOT: u32 = 2;
-
-const TOO_LONG: u32 = 11;
-
-const NO_NODE: u32 = 13;
-
-const NO_ALTERNATIVE: u32 = 15;
+use answers::CAN;
+use answers::CANNOT;
+use answers::NO_ALTERNATIVE;
+use answers::NO_NODE;
+use answers::TOO_LONG;
 
 // The bytes of an element and of a link.
 const ELEMENT: usize = 8;

@@ -113,7 +113,8 @@ module _ (f : RuleFile) (before : Areas) where
   right-of (refusedFile n) B P = absurd B
   right-of undefined B P = absurd B
 
-no-place-is : (b : Bytes) (l : Lengths) (f : RuleFile) → reading b ≡ accepted f → (r : Area) → run (fileProblem f) (capacity l) ≡ noPlace r → answer b l ≡ short r (roomFor (capacity l) r)
+no-place-is : (b : Bytes) (l : Lengths) (f : RuleFile) → reading b ≡ accepted f → (r : Area) → run (fileProblem f) (capacity l) ≡ noPlace r
+    → answer b l ≡ short r (roomFor (capacity l) r)
 unfolding answerResult
 no-place-is b l f e r q = answer-accepted b l f e ∙ ap (answerResult l (f .table)) q
 
