@@ -1,17 +1,30 @@
 -- Role codes and their inverses. Code 2k is role k, code 2k + 1 its inverse (01, The rule file).
+--
+-- In order: the inverse; a code turned round by cases; laws of the inverse; that each case is what the sum gave, and that turning twice gives the code again.
 -- Assumes nothing.
-use mathlib.Core.Path.{_≡_, refl, ap, _∙_}
-use mathlib.Core.Bool.{true, false}
+use mathlib.Core.Path.{_≡_, refl, sym, ap, subst, _∙_}
+use mathlib.Core.Bool.{true, false, _&&_}
+use mathlib.Core.List.{List, [], _∷_}
 use Prim.Native.Nat.{ℕ, zero, suc, _+_, _-_, _%_, _≤_, _<_}
 use native.Mathlib.Omega.{arith}
-use lib.Dec.{eqb}
+use native.Mathlib.Decide.{decLt}
+use lib.Dec.{T, eqb, ltb, eqb→eq, ltb→lt}
+use lib.ListN.{getD}
 use borrow.Author.Tests.{eq-eqb, ne-eqb}
+use Rattle.concepts.specs.Tests.{and-both}
+use Rattle.concepts.specs.Lists.{range, every}
+use Rattle.concepts.specs.ListLaws.{every-mem, mem-range}
 
 -- 01: "add one to an even code, take one from an odd code"
 unfoldable pub inverse : ℕ → ℕ
 inverse ρ = elim (eqb (ρ % 2) 0) [ true ↦ ρ + 1 | false ↦ ρ - 1 ]
 
--- ---- laws
+-- a code turned round by cases (02, [5]): a role's code as the sum turns it; any other, as that of the root's put, stays as it is
+pub record Turned (ρ σ : ℕ) : Type 0 where
+  pub role : ρ < 32 → σ ≡ inverse ρ
+  pub other : 32 ≤ ρ → σ ≡ ρ
+
+-- ---- laws of the inverse
 
 pub inverse-even : (ρ : ℕ) → ρ % 2 ≡ 0 → inverse ρ ≡ ρ + 1
 unfolding inverse
@@ -47,3 +60,42 @@ inverse-high ρ l = go (ρ % 2) refl (omega arith)
     go zero e h = rw (inverse-even ρ e) (omega arith)
     go (suc zero) e h = rw (inverse-odd ρ e) (omega arith)
     go (suc (suc b)) e h = absurd (omega arith)
+
+-- a role turned round is a role
+pub inverse-low : (ρ : ℕ) → ρ < 32 → inverse ρ < 32
+inverse-low ρ l = go (ρ % 2) refl (omega arith)
+  where
+    go : (b : ℕ) → ρ % 2 ≡ b → b < 2 → inverse ρ < 32
+    go zero e h = rw (inverse-even ρ e) (omega arith)
+    go (suc zero) e h = rw (inverse-odd ρ e) (omega arith)
+    go (suc (suc b)) e h = absurd (omega arith)
+
+-- ---- the cases
+
+-- "each of the 32 codes beside its opposite": at place k stands the opposite of code k
+abbrev pub opposites : List ℕ
+opposites = 1 ∷ 0 ∷ 3 ∷ 2 ∷ 5 ∷ 4 ∷ 7 ∷ 6 ∷ 9 ∷ 8 ∷ 11 ∷ 10 ∷ 13 ∷ 12 ∷ 15 ∷ 14 ∷ 17 ∷ 16 ∷ 19 ∷ 18 ∷ 21 ∷ 20 ∷ 23 ∷ 22 ∷ 25 ∷ 24 ∷ 27 ∷ 26 ∷ 29 ∷ 28 ∷ 31 ∷ 30 ∷ []
+
+-- "each case is what the sum gave": one computation over the whole table
+pub each-case-is-the-sum : (ρ : ℕ) → ρ < 32 → getD opposites ρ 32 ≡ inverse ρ
+unfolding inverse range every
+each-case-is-the-sum ρ h = eqb→eq (getD opposites ρ 32) (inverse ρ) (every-mem (λ κ. eqb (getD opposites κ 32) (inverse κ)) (range 0 32) ρ tt (mem-range 0 32 ρ (omega arith) (omega arith)))
+
+pub turned-case : {ρ κ σ : ℕ} → ρ ≡ κ → T (ltb κ 32 && eqb (getD opposites κ 32) σ) → Turned ρ σ
+turned-case {ρ} {κ} {σ} e t =
+    let (h, o) = and-both (ltb κ 32) (eqb (getD opposites κ 32) σ) t in
+    let low : κ < 32 = ltb→lt κ 32 h in
+    record {
+      role = λ _. sym (eqb→eq (getD opposites κ 32) σ o) ∙ each-case-is-the-sum κ low ∙ ap inverse (sym e);
+      other = λ l. absurd (omega arith);
+    }
+
+pub turned-other : {ρ : ℕ} → 32 ≤ ρ → Turned ρ ρ
+turned-other h = record { role = λ l. absurd (omega arith); other = λ _. refl }
+
+-- "turning twice gives the code again", whatever the code
+pub turning-twice-gives-the-code-again : {ρ σ τ : ℕ} → Turned ρ σ → Turned σ τ → τ ≡ ρ
+turning-twice-gives-the-code-again {ρ} {σ} A B = elim (decLt ρ 32) [
+  | yes h ↦ let e = A .role h in B .role (subst (λ (κ : ℕ). κ < 32) (sym e) (inverse-low ρ h)) ∙ ap inverse e ∙ inverse-inverse ρ
+  | no h ↦ let e = A .other (omega arith) in B .other (subst (λ (κ : ℕ). 32 ≤ κ) (sym e) (omega arith)) ∙ e
+]

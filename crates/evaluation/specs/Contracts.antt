@@ -64,10 +64,11 @@ pub record FollowAsks (elements : Bytes) (d e k left : ℕ) : Type 0 where
 pub record FollowGives (before : Bytes) (d e k left : ℕ) (all : Bool) (after : Bytes) : Type 0 where
   pub holds : (base : Bytes) (m : ℕ) (f : ℕ → RowSet) → d < m → e < m → Holding base m f before → Holding base m (updated f d (stepped all k left f d e)) after
 
-pub record AlongAsks (elements : Bytes) (count : ℕ) (links : Bytes) (n k left : ℕ) : Type 0 where
+pub record AlongAsks (elements : Bytes) (count : ℕ) (links : Bytes) (n k ρ left : ℕ) : Type 0 where
   pub room : setSize * count ≤ length elements
   pub linked : LinksAsk count links n
   pub row : k < width
+  pub role : ρ < 32
   pub argument : left < k
 
 pub record AlongGives (before : Bytes) (count : ℕ) (links : Bytes) (n k ρ left : ℕ) (all : Bool) (after : Bytes) : Type 0 where

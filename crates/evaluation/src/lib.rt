@@ -154,7 +154,7 @@ fn along(
     left: usize,
     all: bool,
 )
-    requires { ⌜ AlongAsks (now elements) size (now links) count k left ⌝ }
+    requires { ⌜ AlongAsks (now elements) size (now links) count k role left ⌝ }
     ensures { λ _. ⌜ AlongGives (now (elements .entry)) size (now (links .entry)) count k role left all (now (elements .exit)) ⌝ }
 {
     fill(elements, size, k, all);

@@ -200,14 +200,45 @@ pub fn role_at(problem: &[u64], k: usize) -> u8
     (problem[ROWS + k] / 256 % 256) as u8
 }
 
-// The inverse of a role: one more than an even code, one less than an odd code.
+// A role turned round: each of the 32 codes beside its opposite. Any other code is no role's, as that of the root's put, and stays as it is.
 pub fn inverse(role: u8) -> u8
-    ensures { λ r. ⌜ r ≡ Role.inverse role ⌝ }
+    ensures { λ r. ⌜ Role.Turned role r ⌝ }
 {
-    if role % 2 == 0 {
-        return role + 1;
+    match role {
+        0 => 1,
+        1 => 0,
+        2 => 3,
+        3 => 2,
+        4 => 5,
+        5 => 4,
+        6 => 7,
+        7 => 6,
+        8 => 9,
+        9 => 8,
+        10 => 11,
+        11 => 10,
+        12 => 13,
+        13 => 12,
+        14 => 15,
+        15 => 14,
+        16 => 17,
+        17 => 16,
+        18 => 19,
+        19 => 18,
+        20 => 21,
+        21 => 20,
+        22 => 23,
+        23 => 22,
+        24 => 25,
+        25 => 24,
+        26 => 27,
+        27 => 26,
+        28 => 29,
+        29 => 28,
+        30 => 31,
+        31 => 30,
+        _ => role,
     }
-    role - 1
 }
 
 // The name or the left argument of row k.

@@ -8,13 +8,15 @@ use mathlib.Core.List.{List}
 use Prim.Native.Nat.{ℕ, zero, suc, _+_, _*_, _≤_, _<_}
 use native.Mathlib.Nat.{not-suc-le-zero}
 use native.Mathlib.Omega.{arith}
+use native.Mathlib.Decide.{decLt}
 use lib.Dec.{eqb, eqb→eq}
 use Rattle.concepts.specs.Tests.{from-true, from-false}
-use Rattle.concepts.specs.Role.{inverse}
+use Rattle.concepts.specs.Role.{inverse, inverse-high, Turned}
 use Rattle.concepts.specs.RowSet.{RowSet, empty}
 use Rattle.procedure.specs.Status.{unset, unsat}
 use Rattle.procedure.specs.Problem.{Problem}
 use Rattle.procedure.specs.SetTests.{clash, unfinished, lacking}
+use Rattle.procedure.specs.SetTestLaws.{lacking-no-role}
 use Rattle.procedure.specs.Graph.{unlinked, Node, Graph, Capacity, Result, _>>=_, addEdge, nodeAt, nodeCount}
 use Rattle.procedure.specs.GraphLaws.{Sure, Child}
 use Rattle.procedure.specs.Tableau.{below, linkSpecial, judge}
@@ -115,12 +117,21 @@ module _ {ws : List ℕ} {n e a : Bytes} {c : Counts} {m p ρ : ℕ} {s : RowSet
       pub put-finished : d ≡ false → Finished
       put-finished u = record { clean = sym hb ∙ q; finished = sym hd ∙ u }
 
+  -- what is lacking along a code that is turned round by cases: along one that is no role's nothing is, turned round or not
+  turned-lacks : {ι : ℕ} → Turned ρ ι → (q : RowSet) → lacking (P .table) s ι q ≡ lacking (P .table) s (inverse ρ) q
+  turned-lacks {ι} H q = elim (decLt ρ 32) [
+    | yes h ↦ ap (λ (i : ℕ). lacking (P .table) s i q) (H .role h)
+    | no h ↦
+        let none : (σ : ℕ) → 32 ≤ σ → lacking (P .table) s σ q ≡ 0 = λ σ. lacking-no-role (P .table) s σ q (λ k τ l _ u. A .fit .fit .wellPosed .univRole k τ l u) in
+        none ι (subst (λ (σ : ℕ). 32 ≤ σ) (sym (H .other (omega arith))) (omega arith)) ∙ sym (none (inverse ρ) (inverse-high ρ (omega arith)))
+  ]
+
   -- with the state above as it was loaded
-  pub put-weighed : Finished → (v : D.Node) → nodeOf v ≡ nodeIn n p → {ι : ℕ} → ι ≡ inverse ρ → {l : RowSet} → l ≡ lacking (P .table) s ι (valueOf (v .rows))
+  pub put-weighed : Finished → (v : D.Node) → nodeOf v ≡ nodeIn n p → {ι : ℕ} → Turned ρ ι → {l : RowSet} → l ≡ lacking (P .table) s ι (valueOf (v .rows))
       → {b : Bool} → b ≡ eqb l empty → Weighed l b
   put-weighed F v hv hι hl hb = record {
     finished = F;
-    is = hl ∙ ap (λ (i : ℕ). lacking (P .table) s i (valueOf (v .rows))) hι ∙ ap (λ (u : Node). lacking (P .table) s (inverse ρ) (u .rows)) (hv ∙ sym (graph-node w c p above-there));
+    is = hl ∙ turned-lacks hι (valueOf (v .rows)) ∙ ap (λ (u : Node). lacking (P .table) s (inverse ρ) (u .rows)) (hv ∙ sym (graph-node w c p above-there));
     test = hb;
   }
 

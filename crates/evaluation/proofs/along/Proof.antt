@@ -34,7 +34,7 @@ again c =
     let r = c .before in
     let l = at-loop r in
     let s = begun r in
-    let turned = l .before .inverse .ensures in (
+    let turned = l .before .inverse .ensures .role (s .pre .role) in (
       omega arith,
       elim (c .if1 .came) [
         | inl (if1, arg, follow, rest, known, e) ↦ followed-onward (s .pre .linked) (s .pre .argument) (l .loop .inv .1) (omega arith) (read r) (if1 .taken) (follow .kept .0) (follow .ensures) e

@@ -2,6 +2,7 @@
 -- Assumes nothing.
 use borrow.Author.Needs.{needs}
 use native.Mathlib.Omega.{arith}
+use Rattle.problem.specs.DecodedLaws.{role-lt}
 use Rattle.evaluation.specs.RowCases.{row-local, row-argument, row-along, row-literal}
 use Rattle.evaluation.proofs.evaluate_row.Statement.{statement}
 use Rattle.evaluation.proofs.evaluate_row.Tie as tie
@@ -21,11 +22,12 @@ evaluate-row-spec =
     row-local (s .pre .0 .decoded) (s .pre .1) (k .kind-at .ensures) (l .left-at .ensures .0) (i .if1 .taken) (r .right-at .ensures .0) (g .local .ensures))
     -- along(elements, size, links, count, k, problem::role_at(problem, k), left, kind == UNIV)
     (λ c κs. let s : tie.Start = search in (s .pre .0 .decoded, s .pre .1))
-    (λ c κs. let s : tie.Start = search in let k : tie.After-kind-at = search in let l : tie.After-left-at = search in let i : tie.Then2 = search in
+    (λ c κs. let s : tie.Start = search in let k : tie.After-kind-at = search in let l : tie.After-left-at = search in let r : tie.After-role-at = search in let i : tie.Then2 = search in
     record {
       room = s .pre .0 .room;
       linked = s .pre .0 .linked;
       row = omega (arith, s .pre .0 .decoded .few);
+      role = omega (arith, r .role-at .ensures, role-lt (s .pre .0 .decoded) (s .args .k) (s .pre .1));
       argument = row-argument (s .pre .0 .decoded) (s .pre .1) (k .kind-at .ensures) (l .left-at .ensures .0) (i .if2 .taken);
     })
     (λ c. search needs)
