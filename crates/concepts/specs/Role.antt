@@ -3,7 +3,7 @@
 -- In order: the inverse; a code turned round by cases; laws of the inverse; that each case is what the sum gave, and that turning twice gives the code again.
 -- Assumes nothing.
 use mathlib.Core.Path.{_≡_, refl, sym, ap, subst, _∙_}
-use mathlib.Core.Bool.{true, false, _&&_}
+use mathlib.Core.Bool.{Bool, true, false, _&&_}
 use mathlib.Core.List.{List, [], _∷_}
 use Prim.Native.Nat.{ℕ, zero, suc, _+_, _-_, _%_, _≤_, _<_}
 use native.Mathlib.Omega.{arith}
@@ -81,7 +81,12 @@ pub each-case-is-the-sum : (ρ : ℕ) → ρ < 32 → getD opposites ρ 32 ≡ i
 unfolding inverse range every
 each-case-is-the-sum ρ h = eqb→eq (getD opposites ρ 32) (inverse ρ) (every-mem (λ κ. eqb (getD opposites κ 32) (inverse κ)) (range 0 32) ρ tt (mem-range 0 32 ρ (omega arith) (omega arith)))
 
-pub turned-case : {ρ κ σ : ℕ} → ρ ≡ κ → T (ltb κ 32 && eqb (getD opposites κ 32) σ) → Turned ρ σ
+-- code κ stands in the table, beside σ
+abbrev pub beside : ℕ → ℕ → Bool
+beside κ σ = ltb κ 32 && eqb (getD opposites κ 32) σ
+
+-- a case of the code: code κ gives σ
+pub turned-case : {ρ κ σ : ℕ} → ρ ≡ κ → T (beside κ σ) → Turned ρ σ
 turned-case {ρ} {κ} {σ} e t =
     let (h, o) = and-both (ltb κ 32) (eqb (getD opposites κ 32) σ) t in
     let low : κ < 32 = ltb→lt κ 32 h in
@@ -90,6 +95,7 @@ turned-case {ρ} {κ} {σ} e t =
       other = λ l. absurd (omega arith);
     }
 
+-- its last case: a code that is none of the 32
 pub turned-other : {ρ : ℕ} → 32 ≤ ρ → Turned ρ ρ
 turned-other h = record { role = λ l. absurd (omega arith); other = λ _. refl }
 

@@ -200,7 +200,24 @@ pub fn role_at(problem: &[u64], k: usize) -> u8
     (problem[ROWS + k] / 256 % 256) as u8
 }
 
-// A role turned round: each of the 32 codes beside its opposite. Any other code is no role's, as that of the root's put, and stays as it is.
+// The name or the left argument of row k.
+pub fn left_at(problem: &[u64], k: usize) -> usize
+    requires { ⌜ Decoded (now problem) × (k < countOf (now problem)) ⌝ }
+    ensures { λ r. ⌜ (r ≡ leftOf (conceptAt (tableOf (now (problem .entry))) k)) × (r < width) ⌝ }
+{
+    (problem[ROWS + k] / 65536 % 256) as usize
+}
+
+// The right argument of row k.
+pub fn right_at(problem: &[u64], k: usize) -> usize
+    requires { ⌜ Decoded (now problem) × (k < countOf (now problem)) ⌝ }
+    ensures { λ r. ⌜ (r ≡ rightOf (conceptAt (tableOf (now (problem .entry))) k)) × (r < width) ⌝ }
+{
+    (problem[ROWS + k] / 16777216 % 256) as usize
+}
+
+// A role turned round, "each of the 32 codes beside its opposite" (02, [5]): role k has the code 2k, its inverse 2k + 1 (001, definition 4).
+// Any other code is no role's, as that of the root's put, and stays as it is.
 pub fn inverse(role: u8) -> u8
     ensures { λ r. ⌜ Role.Turned role r ⌝ }
 {
@@ -239,22 +256,6 @@ pub fn inverse(role: u8) -> u8
         31 => 30,
         _ => role,
     }
-}
-
-// The name or the left argument of row k.
-pub fn left_at(problem: &[u64], k: usize) -> usize
-    requires { ⌜ Decoded (now problem) × (k < countOf (now problem)) ⌝ }
-    ensures { λ r. ⌜ (r ≡ leftOf (conceptAt (tableOf (now (problem .entry))) k)) × (r < width) ⌝ }
-{
-    (problem[ROWS + k] / 65536 % 256) as usize
-}
-
-// The right argument of row k.
-pub fn right_at(problem: &[u64], k: usize) -> usize
-    requires { ⌜ Decoded (now problem) × (k < countOf (now problem)) ⌝ }
-    ensures { λ r. ⌜ (r ≡ rightOf (conceptAt (tableOf (now (problem .entry))) k)) × (r < width) ⌝ }
-{
-    (problem[ROWS + k] / 16777216 % 256) as usize
 }
 
 // The rules.

@@ -1,7 +1,8 @@
 //! What the tests share: the questions of tests/vectors and the words they are in, rule files written row by row, random and
 //! damaged rule files and drafts, long chains, large examples, orders of records; and checks of an answering function against the
 //! vectors, against itself in other areas, against orders by hand and against the meaning of ALCI, every bit of its examples too, and
-//! of a converting function against the vectors and the meaning of drafts; of both, what a table can begin with.
+//! of a converting function against the vectors and the meaning of drafts; of both, what a table can begin with; and every pair of
+//! role codes.
 
 pub mod areas;
 pub mod cases;
@@ -22,6 +23,7 @@ pub mod orders;
 pub mod questions;
 pub mod random;
 pub mod record_order;
+pub mod role_codes;
 pub mod row_zero;
 pub mod samples;
 pub mod small_drafts;
