@@ -3,15 +3,16 @@
 -- In order: one way followed; the loop over the links.
 -- Assumes nothing.
 use mathlib.Core.Path.{_≡_, refl, sym, ap, ap₂, _∙_, subst}
-use mathlib.Core.Bool.{Bool, true, false, not, cond, Bool·beq}
+use mathlib.Core.Bool.{Bool, true, false, not, _||_, cond, Bool·beq}
 use mathlib.Core.List.{List, [], _∷_, _++_}
+use mathlib.Core.Logic.{inl, inr}
 use Prim.Native.Nat.{ℕ, _+_, _*_, _≤_, _<_}
 use native.Mathlib.Decide.{ℕ-discrete}
 use native.Mathlib.Omega.{arith}
-use lib.Dec.{eqb}
+use lib.Dec.{eqb, eqb→eq}
 use lib.ListN.{length}
-use borrow.Author.Tests.{eq-eqb, ne-eqb}
-use Rattle.concepts.specs.Tests.{impossible}
+use borrow.Author.Tests.{eq-eqb, ne-eqb, eqb-false}
+use Rattle.concepts.specs.Tests.{impossible, or-cases, or-neither, from-true}
 use Rattle.concepts.specs.Lists.{range, any}
 use Rattle.concepts.specs.ListLaws.{range-more}
 use Rattle.concepts.specs.Role.{inverse}
@@ -79,6 +80,13 @@ module _ {before : Bytes} (d : ℕ) {e k left : ℕ} {all there : Bool} (A : The
       by-place f c step (no n) = rw (ne-eqb c d n)
 
 -- ---- the loop over the links
+
+-- the code's test, whether a code is one of two
+pub the-other : {a b c : ℕ} → (eqb a b || eqb a c) ≡ true → (a ≡ b → ⊥) → a ≡ c
+the-other {a} {b} {c} h n = elim (or-cases (eqb a b) (eqb a c) (from-true _ h)) [ inl p ↦ absurd (n (eqb→eq a b p)) | inr p ↦ eqb→eq a c p ]
+
+pub neither : {a b c : ℕ} → (eqb a b || eqb a c) ≡ false → (a ≡ b → ⊥) × (a ≡ c → ⊥)
+neither {a} {b} {c} h = let (p, q) = or-neither (eqb a b) (eqb a c) h in (eqb-false a b p, eqb-false a c q)
 
 -- link i was read
 pub record LinkRead (links : Bytes) (i code from to : ℕ) : Type 0 where

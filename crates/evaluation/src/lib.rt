@@ -164,12 +164,12 @@ fn along(
     while i < count {
         let at = LINK_BYTES * i;
         let code = get2(links, at + 2);
-        let from = get2(links, at) as usize;
-        let to = get2(links, at + 4) as usize;
-        if code == onward {
-            follow(elements, from, to, k, left, all);
-        } else {
-            if code == backward {
+        if (code == onward) | (code == backward) {
+            let from = get2(links, at) as usize;
+            let to = get2(links, at + 4) as usize;
+            if code == onward {
+                follow(elements, from, to, k, left, all);
+            } else {
                 follow(elements, to, from, k, left, all);
             }
         }
