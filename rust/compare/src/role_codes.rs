@@ -21,31 +21,34 @@ fn rows(rows: &[u8]) -> RowSet {
     rows.iter().fold(RowSet::EMPTY, |set, &row| set.with(usize::from(row)))
 }
 
-/// Checks each of the 1,024 pairs of codes. The kit is "some c (all d A)": what it is fitted to asks the kit for A exactly if d is c
-/// turned round. The example is one link from the kit, along c.
+/// Checks each of the 1,024 pairs of codes.
 pub fn check_pairs(mut answer: impl Answering) {
-    let mut asked = 0;
     for c in 0..CODES {
         for d in 0..CODES {
-            let mut table = Table::default();
-            let name = table.name(0);
-            let all = table.all(d, name);
-            let some = table.some(c, all);
-            let (used, kit) = match opposed(c, d) {
-                // The eight-node run of document 01: an alternative with A, and the kit has A. "All d A" holds there as nothing
-                // leads along d from it.
-                true => (Used { nodes: 8, edges: 7, alternatives: 1 }, rows(&[name, all, some])),
-                // Nothing is asked. "All d A" fails at the kit if d is c, which leads to an element without A.
-                false if c == d => (Used { nodes: 5, edges: 4, alternatives: 0 }, rows(&[some])),
-                false => (Used { nodes: 5, edges: 4, alternatives: 0 }, rows(&[all, some])),
-            };
-            let expected = Answer::Can { used, elements: vec![kit, rows(&[all])], links: vec![(0, u16::from(c), 1)] };
-            assert_eq!(answer(&encode(b"", &table.rows, &[], some), &Lent::by_program()), expected, "codes {c} and {d}");
+            check_asked_name(&mut answer, c, d);
             check_refused_name(&mut answer, c, d);
-            asked += usize::from(opposed(c, d));
         }
     }
-    assert_eq!(asked, usize::from(CODES));
+}
+
+/// The kit is "some c (all d A)": what it is fitted to asks the kit for A exactly if d is c turned round. The example is one link
+/// from the kit, along c.
+fn check_asked_name(answer: &mut impl Answering, c: u8, d: u8) {
+    let mut table = Table::default();
+    let name = table.name(0);
+    let all = table.all(d, name);
+    let some = table.some(c, all);
+    let (used, kit) = match opposed(c, d) {
+        // The eight-node run of document 01: an alternative with A, and the kit has A. "All d A" holds there, since nothing leads
+        // along d from it.
+        true => (Used { nodes: 8, edges: 7, alternatives: 1 }, rows(&[name, all, some])),
+        // Nothing is asked. "All d A" fails at the kit if d is c, which leads to an element without A.
+        false if c == d => (Used { nodes: 5, edges: 4, alternatives: 0 }, rows(&[some])),
+        false => (Used { nodes: 5, edges: 4, alternatives: 0 }, rows(&[all, some])),
+    };
+    let expected = Answer::Can { used, elements: vec![kit, rows(&[all])], links: vec![(0, u16::from(c), 1)] };
+    let file = encode(b"", &table.rows, &[], some);
+    assert_eq!(answer(&file, &Lent::by_program()), expected, "codes {c} and {d}");
 }
 
 /// "Some c (all d A)" and not A: it cannot be exactly if d is c turned round.
@@ -107,7 +110,7 @@ pub fn check_random(mut answer: impl Answering) {
     }
     println!("how often along each code the state above was asked for more: {asked:?}");
     println!("how often a link of each code is followed backwards by a row: {backward:?}");
-    assert!(asked.iter().chain(&backward).all(|&times| times >= 100), "{asked:?} {backward:?}");
+    assert!(asked.iter().chain(&backward).all(|&times| times >= 300), "{asked:?} {backward:?}");
 }
 
 /// The roles of the special nodes that lapsed at once, since the state above lacks what they ask of it.
