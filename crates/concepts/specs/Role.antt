@@ -5,9 +5,10 @@
 use mathlib.Core.Path.{_≡_, refl, sym, ap, subst, _∙_}
 use mathlib.Core.Bool.{Bool, true, false, _&&_}
 use mathlib.Core.List.{List, [], _∷_}
-use Prim.Native.Nat.{ℕ, zero, suc, _+_, _-_, _%_, _≤_, _<_}
+use mathlib.Core.Logic.{_⊎_, inl, inr}
+use Prim.Native.Nat.{ℕ, _+_, _-_, _%_, _≤_, _<_}
 use native.Mathlib.Omega.{arith}
-use native.Mathlib.Decide.{decLt}
+use native.Mathlib.Decide.{decLt, ℕ-discrete}
 use lib.Dec.{T, eqb, ltb, eqb→eq, ltb→lt}
 use lib.ListN.{getD}
 use borrow.Author.Tests.{eq-eqb, ne-eqb}
@@ -34,41 +35,31 @@ pub inverse-odd : (ρ : ℕ) → ρ % 2 ≡ 1 → inverse ρ ≡ ρ - 1
 unfolding inverse
 inverse-odd ρ h = rw (ne-eqb (ρ % 2) 0 (λ e. omega arith), inverse)
 
+-- a code is even or odd
+pub inverse-cases : (ρ : ℕ) → ((ρ % 2 ≡ 0) × (inverse ρ ≡ ρ + 1)) ⊎ ((ρ % 2 ≡ 1) × (inverse ρ ≡ ρ - 1))
+inverse-cases ρ = elim (ℕ-discrete (ρ % 2) 0) [
+  | yes e ↦ inl (e, inverse-even ρ e)
+  | no d ↦ let o : ρ % 2 ≡ 1 = omega (arith, d) in inr (o, inverse-odd ρ o)
+]
+
 -- turning a role twice gives it again
 pub inverse-inverse : (ρ : ℕ) → inverse (inverse ρ) ≡ ρ
-inverse-inverse ρ = go (ρ % 2) refl (omega arith)
-  where
-    go : (b : ℕ) → ρ % 2 ≡ b → b < 2 → inverse (inverse ρ) ≡ ρ
-    go zero e h = ap inverse (inverse-even ρ e) ∙ inverse-odd (ρ + 1) (omega arith) ∙ omega arith
-    go (suc zero) e h = ap inverse (inverse-odd ρ e) ∙ inverse-even (ρ - 1) (omega arith) ∙ omega arith
-    go (suc (suc b)) e h = absurd (omega arith)
+inverse-inverse ρ = elim (inverse-cases ρ) [
+  | inl (p, e) ↦ ap inverse e ∙ inverse-odd (ρ + 1) (omega arith) ∙ omega arith
+  | inr (p, e) ↦ ap inverse e ∙ inverse-even (ρ - 1) (omega arith) ∙ omega arith
+]
 
 -- no role is its own inverse
 pub inverse-other : (ρ : ℕ) → inverse ρ ≡ ρ → ⊥
-inverse-other ρ same = go (ρ % 2) refl (omega arith)
-  where
-    go : (b : ℕ) → ρ % 2 ≡ b → b < 2 → ⊥
-    go zero e h = absurd (omega (arith, inverse-even ρ e))
-    go (suc zero) e h = absurd (omega (arith, inverse-odd ρ e))
-    go (suc (suc b)) e h = absurd (omega arith)
+inverse-other ρ same = elim (inverse-cases ρ) [ inl (p, e) ↦ absurd (omega arith) | inr (p, e) ↦ absurd (omega arith) ]
 
 -- codes from 32 on, which no row has, stay among themselves
 pub inverse-high : (ρ : ℕ) → 32 ≤ ρ → 32 ≤ inverse ρ
-inverse-high ρ l = go (ρ % 2) refl (omega arith)
-  where
-    go : (b : ℕ) → ρ % 2 ≡ b → b < 2 → 32 ≤ inverse ρ
-    go zero e h = rw (inverse-even ρ e) (omega arith)
-    go (suc zero) e h = rw (inverse-odd ρ e) (omega arith)
-    go (suc (suc b)) e h = absurd (omega arith)
+inverse-high ρ l = elim (inverse-cases ρ) [ inl (p, e) ↦ omega arith | inr (p, e) ↦ omega arith ]
 
--- a role turned round is a role
+-- and so do the role codes
 pub inverse-low : (ρ : ℕ) → ρ < 32 → inverse ρ < 32
-inverse-low ρ l = go (ρ % 2) refl (omega arith)
-  where
-    go : (b : ℕ) → ρ % 2 ≡ b → b < 2 → inverse ρ < 32
-    go zero e h = rw (inverse-even ρ e) (omega arith)
-    go (suc zero) e h = rw (inverse-odd ρ e) (omega arith)
-    go (suc (suc b)) e h = absurd (omega arith)
+inverse-low ρ l = elim (inverse-cases ρ) [ inl (p, e) ↦ omega arith | inr (p, e) ↦ omega arith ]
 
 -- ---- the cases
 
