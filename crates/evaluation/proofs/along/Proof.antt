@@ -48,7 +48,8 @@ again c =
             (record { code-is = r .get2 .ensures; from-is = from .ensures; to-is = to .ensures }) (the-other (if1 .taken) (if2 .left) ∙ turned) (follow .kept .0) (follow .ensures) e
         | inr (inr (if1, e)) ↦
             let (on, back) = neither (if1 .left) in
-            followed-other (s .pre .linked) (s .pre .argument) (l .loop .inv .1) (omega arith) (record { code-is = r .get2 .ensures; from-is = refl; to-is = refl }) on (λ h. back (h ∙ sym turned)) e
+            followed-other (s .pre .linked) (s .pre .argument) (l .loop .inv .1) (omega arith)
+            (record { code-is = r .get2 .ensures; from-is = refl; to-is = refl }) on (λ h. back (h ∙ sym turned)) e
       ],
     )
 
