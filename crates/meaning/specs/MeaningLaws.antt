@@ -7,7 +7,7 @@ use Prim.Native.Nat.{ℕ, zero, suc, _<_}
 use native.Mathlib.Nat.{not-suc-le-zero}
 use native.Mathlib.Omega.{arith}
 use lib.Dec.{T}
-use Rattle.concepts.specs.Concept.{Concept, atomic, negated, conj, disj, univ, exist, neg, impl, Table, conceptAt, arguments, Ordered}
+use Rattle.concepts.specs.Concept.{Concept, atomic, negated, conj, disj, univ, exist, inclusion, neg, impl, Table, conceptAt, arguments, Ordered}
 use Rattle.meaning.specs.Meaning.{Interpretation, leads, Means, HoldsBelow, Holds}
 
 -- a concept means the same where its arguments mean the same
@@ -18,6 +18,7 @@ means-same I H G (conj l r) p d = λ i. p l d (List·Memᴰ·head refl) i × p r
 means-same I H G (disj l r) p d = λ i. p l d (List·Memᴰ·head refl) i ⊎ p r d (List·Memᴰ·tail (List·Memᴰ·head refl)) i
 means-same I H G (univ ρ l) p d = λ i. (e : ℕ) → I .Element e → T (leads I ρ d e) → p l e (List·Memᴰ·head refl) i
 means-same I H G (exist ρ l) p d = λ i. (e : ℕ) × I .Element e × T (leads I ρ d e) × p l e (List·Memᴰ·head refl) i
+means-same I H G (inclusion ρ σ) p d = refl
 means-same I H G (neg l) p d = λ i. p l d (List·Memᴰ·head refl) i → ⊥
 means-same I H G (impl l r) p d = λ i. p l d (List·Memᴰ·head refl) i → p r d (List·Memᴰ·tail (List·Memᴰ·head refl)) i
 

@@ -30,10 +30,10 @@ pub record Usable (g : Graph) (good : Status → Bool) (y : ℕ) : Type 0 where
   pub isGood : T (good (nodeAt g y .status))
 
 -- the way down from x lands on y
-pub record Lands (t : Table) (g : Graph) (good : Status → Bool) (x y : ℕ) : Type 0 where
+pub record Lands (P : Problem) (g : Graph) (good : Status → Bool) (x y : ℕ) : Type 0 where
   pub usable : Usable g good y
   pub more : Subset (nodeAt g x .rows) (nodeAt g y .rows)
-  pub back : Along t (nodeAt g y .rows) (inverse (nodeAt g x .prl)) (nodeAt g (nodeAt g x .pst) .rows)
+  pub back : Along P (nodeAt g y .rows) (inverse (nodeAt g x .prl)) (nodeAt g (nodeAt g x .pst) .rows)
 
 module _ (P : Problem) (g : Graph) (good : Status → Bool) (F : Finished P g good) where
   -- a walk goes from x to a good child, if x has any
@@ -45,9 +45,9 @@ module _ (P : Problem) (g : Graph) (good : Status → Bool) (F : Finished P g go
 
   -- from x the way down lands, with this much left of the bound
   abbrev Descends : ℕ → ℕ → Type 0
-  Descends f x = (y : ℕ) × (descendWithin f g x ≡ some y) × Lands (P .table) g good x y
+  Descends f x = (y : ℕ) × (descendWithin f g x ≡ some y) × Lands P g good x y
 
-  descend-linked : (x y : ℕ) → x < nodeCount g → T (good (nodeAt g x .status)) → nodeAt g x .link ≡ toState y → Lands (P .table) g good x y
+  descend-linked : (x y : ℕ) → x < nodeCount g → T (good (nodeAt g x .status)) → nodeAt g x .link ≡ toState y → Lands P g good x y
   descend-linked x y h q e =
       let (there, nonRoot, state, same) = F .linked x y h e in
       record {
@@ -58,7 +58,7 @@ module _ (P : Problem) (g : Graph) (good : Status → Bool) (F : Finished P g go
 
   descend-child : (f x : ℕ) → x < nodeCount g → nodeAt g x .isState ≡ false → T (good (nodeAt g x .status)) → ((y : ℕ) → nodeAt g x .link ≢ toState y)
       → ((c : ℕ) → c < nodeCount g → nodeAt g c .isState ≡ false → T (good (nodeAt g c .status)) → x < c → Descends f c)
-      → (y : ℕ) × ((liveChild g x >>= (λ c. descendWithin f g c)) ≡ some y) × Lands (P .table) g good x y
+      → (y : ℕ) × ((liveChild g x >>= (λ c. descendWithin f g c)) ≡ some y) × Lands P g good x y
   unfolding _>>=_
   descend-child f x h s q n rec =
       let (c, m, p) = F .next x h s n q in
@@ -74,13 +74,13 @@ module _ (P : Problem) (g : Graph) (good : Status → Bool) (F : Finished P g go
   descend-within (suc f) x h s q l = go (λ c hc sc qc up. descend-within f c hc sc qc (omega arith)) (nodeAt g x .link) refl
     where
       go : ((c : ℕ) → c < nodeCount g → nodeAt g c .isState ≡ false → T (good (nodeAt g c .status)) → x < c → Descends f c)
-          → (k : Link) → nodeAt g x .link ≡ k → (y : ℕ) × (descendBy (λ c. descendWithin f g c) k g x ≡ some y) × Lands (P .table) g good x y
+          → (k : Link) → nodeAt g x .link ≡ k → (y : ℕ) × (descendBy (λ c. descendWithin f g c) k g x ≡ some y) × Lands P g good x y
       go rec (toState y) e = (y, refl, descend-linked x y h q e)
       go rec unlinked e = descend-child f x h s q (λ y p. impossible cc) rec
       go rec lapsed e = descend-child f x h s q (λ y p. impossible cc) rec
 
   pub descend-lands : (x : ℕ) → x < nodeCount g → nodeAt g x .isState ≡ false → T (good (nodeAt g x .status))
-      → (y : ℕ) × (descend g x ≡ some y) × Lands (P .table) g good x y
+      → (y : ℕ) × (descend g x ≡ some y) × Lands P g good x y
   unfolding descend
   descend-lands x h s q = descend-within (suc (nodeCount g)) x h s q (omega arith)
 

@@ -128,28 +128,28 @@ module _ (S : Setting) where
           → Answers (S .problem) k x (e .0) (e .1) (nodeCount h)
       unfolding successor
       successor-answers h e k A P =
-          let boxed = fromList (box (S .problem .table) (n .rows) (e .0)) in
+          let boxed = fromList (box (S .problem) (n .rows) (e .0)) in
           let left = insert (e .1) boxed in
           let same : nodeAt k x .rows ≡ n .rows = P .grows .node x (grows-there (A .grows) x hx) .rows ∙ A .grows .node x hx .rows in
           record {
             under = fresh-under k (nodeCount h) x (e .0) (c (n .rows) e) (P .fresh);
             argument = rw (P .fresh .rows) (union-left left (S .problem .rules) (e .1) (insert-self (e .1) boxed));
-            along = λ r l hr q m. rw (P .fresh .rows) (union-left left (S .problem .rules) l (insert-more (e .1) boxed l
-                (mem-fromList l (box (S .problem .table) (n .rows) (e .0)) (mem-box (S .problem .table) (n .rows) (e .0) l r hr (rw same at m) q))));
+            along = λ r σ l hr q i m. rw (P .fresh .rows) (union-left left (S .problem .rules) l (insert-more (e .1) boxed l
+                (mem-fromList l (box (S .problem) (n .rows) (e .0)) (mem-box (S .problem) (n .rows) (e .0) σ l r hr (rw same at m) q i))));
           }
 
       pub successor-pre : (h : Graph) → Grown S g x I Q hx fresh h → (e : ℕ × ℕ) → List·Memᴰ e (existentials (S .problem .table) (n .rows))
           → PutPre S (Busy S g x I Q hx fresh) h x x (e .0) (c (n .rows) e)
       unfolding successor
       successor-pre h A e there =
-          let boxed = fromList (box (S .problem .table) (n .rows) (e .0)) in
+          let boxed = fromList (box (S .problem) (n .rows) (e .0)) in
           state-pre st h A (e .0) (c (n .rows) e) (λ q. absurd (x0 q))
           (union-lt (rowCount S) (insert (e .1) boxed) (S .problem .rules)
           (insert-lt (rowCount S) (e .1) boxed (existentials-lt (S .problem .table) (n .rows) (S .wellPosed .ordered) e there)
-          (fromList-box-lt (S .problem .table) (n .rows) (S .wellPosed .ordered) (e .0)))
+          (fromList-box-lt (S .problem) (n .rows) (S .wellPosed .ordered) (e .0)))
           (set-lt (rowCount S) (S .problem .rules) (S .wellPosed .ruleRows)))
           (union-right (insert (e .1) boxed) (S .problem .rules))
-          (λ d q. let (b, r, w) = successor-satisfied (S .problem) (S .structure) (S .rules) (n .rows) d q e there in (b, inr r, w))
+          (λ d q. let (b, r, w) = successor-satisfied (S .problem) (S .structure) (S .inclusive) (S .rules) (n .rows) d q e there in (b, inr r, w))
 
       turn : (e : ℕ × ℕ) (todo : List (ℕ × ℕ)) (h : Graph) → Turn (e ∷ todo) h → Sure (Turn todo) (put (S .problem) (S .capacity) x x (e .0) (c (n .rows) e) h)
       turn e todo h A =

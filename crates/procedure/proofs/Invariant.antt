@@ -103,7 +103,7 @@ module _ (S : Setting) where
     pub notRoot : y ≢ 0
     pub isState : nodeAt g y .isState ≡ true
     pub rows : nodeAt g y .rows ≡ s
-    pub back : lacking (S .problem .table) s (inverse ρ) (nodeAt g p .rows) ≡ empty
+    pub back : lacking (S .problem) s (inverse ρ) (nodeAt g p .rows) ≡ empty
 
   abbrev pub LinkShape : Graph → Node → Link → Type 0
   LinkShape g n unlinked = Unit {0}

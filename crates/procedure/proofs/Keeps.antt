@@ -99,7 +99,7 @@ module _ (S : Setting) where
               notRoot = L .1 .notRoot;
               isState = F .isState ∙ L .1 .isState;
               rows = F .rows ∙ L .1 .rows;
-              back = ap (λ (p : RowSet). lacking (S .problem .table) (n .rows) (inverse (n .prl)) p) (G .node (n .pst) (hp (L .0)) .rows) ∙ L .1 .back;
+              back = ap (λ (p : RowSet). lacking (S .problem) (n .rows) (inverse (n .prl)) p) (G .node (n .pst) (hp (L .0)) .rows) ∙ L .1 .back;
             },
           )
 

@@ -15,19 +15,18 @@ use lib.Seq.{take-length}
 use Rattle.concepts.specs.ListLaws.{getD-map, getD-mem}
 use Rattle.concepts.specs.Counting.{share-le}
 use Rattle.concepts.specs.Role.{inverse}
-use Rattle.concepts.specs.Concept.{exist, conceptAt}
+use Rattle.concepts.specs.Concept.{exist, conceptAt, NoInclusion}
 use Rattle.concepts.specs.RowSet.{RowSet, mem, empty, Subset}
 use Rattle.meaning.specs.Meaning.{finite, Holds}
 use Rattle.procedure.specs.Problem.{Problem, WellPosed}
 use Rattle.procedure.specs.Status.{Status}
 use Rattle.procedure.specs.Graph.{Graph, nodeAt, nodeCount}
-use Rattle.meaning.specs.Given.{RoleLink, listed}
+use Rattle.meaning.specs.Given.{RoleLink}
 use Rattle.procedure.specs.Example.{Example, Walk, worldOf, example}
 use Rattle.procedure.specs.SetTestLaws.{mem-existentials}
-use Rattle.meaning.specs.GivenLaws.{mem-listed, listed-mem}
 use Rattle.procedure.specs.ExampleLaws.{example-some}
 use Rattle.procedure.proofs.Finished.{Saturated, Along, Finished}
-use Rattle.procedure.proofs.Truth.{setAt, size, Hintikka, truth}
+use Rattle.procedure.proofs.Truth.{setAt, size, link, Hintikka, truth}
 use Rattle.procedure.proofs.Descend.{Usable}
 use Rattle.procedure.proofs.Walk.{stateAt, edgesFrom, Walked, right-few, rowsOf-answer, walk-walked}
 
@@ -53,7 +52,7 @@ written-set : (g : Graph) (w : Walk) (d : ℕ) → d < size (written g w) → se
 written-set g w d h = getD-map (λ y. nodeAt g y .rows) (w .states) d 0 empty (omega (arith, written-size g w))
 
 module _ (P : Problem) (g : Graph) (good : Status → Bool) (codes : (k ρ l : ℕ) → conceptAt (P .table) k ≡ exist ρ l → ρ < 32)
-    (F : Finished P g good) (w : Walk) (W : Walked (P .table) g good (length (w .states)) w) where
+    (F : Finished P g good) (w : Walk) (W : Walked P g good (length (w .states)) w) where
   element-usable : (d : ℕ) → d < size (written g w) → Usable g good (stateAt w d)
   element-usable d h = W .right .usable (stateAt w d) (getD-mem (w .states) d 0 (omega (arith, written-size g w)))
 
@@ -62,33 +61,33 @@ module _ (P : Problem) (g : Graph) (good : Status → Bool) (codes : (k ρ l : �
   element-rules d h = let U = element-usable d h in F .saturated (stateAt w d) (U .there) (U .state) (U .nonRoot)
 
   written-answered : (d k ρ l : ℕ) → d < size (written g w) → k < length (P .table) → conceptAt (P .table) k ≡ exist ρ l → T (mem k (setAt (written g w) d))
-      → (e : ℕ) × (e < size (written g w)) × T (listed (w .links) d ρ e) × T (mem l (setAt (written g w) e))
+      → (e : ℕ) × (e < size (written g w)) × List·Memᴰ (link d ρ e) (w .links) × T (mem l (setAt (written g w) e))
   written-answered d k ρ l h b e m =
       let s = nodeAt g (stateAt w d) .rows in
       let (c, i, n) = rowsOf-answer P g good codes F (stateAt w d) ρ l (element-usable d h)
       (mem-existentials (P .table) s (ρ, l) k b (subst (λ (u : RowSet). T (mem k u)) (written-set g w d h) m) e) in
       let (o, p, q, r) = W .reaches d (omega (arith, written-size g w)) (ρ, c) i in
       let z : o < size (written g w) = omega (arith, written-size g w) in
-      (o, z, mem-listed (w .links) (record { from = d; role = ρ; to = o }) q, subst (λ (u : RowSet). T (mem l u)) (sym (written-set g w o z)) (r l n))
+      (o, z, q, subst (λ (u : RowSet). T (mem l u)) (sym (written-set g w o z)) (r l n))
 
-  written-hintikka : Hintikka (P .table) (written g w)
+  written-hintikka : Hintikka P (written g w)
   written-hintikka = record {
     saturated = λ d h.
         subst (Saturated (P .table)) (sym (written-set g w d h)) (element-rules d h .0);
     answered = written-answered;
     onward = λ d ρ e hd he i.
-        let J = W .right .joins (record { from = d; role = ρ; to = e }) (listed-mem (w .links) d ρ e i) in
-        subst₂ (λ (a b : RowSet). Along (P .table) a ρ b) (sym (written-set g w d hd)) (sym (written-set g w e he)) (J .2 .onward);
+        let J = W .right .joins (link d ρ e) i in
+        subst₂ (λ (a b : RowSet). Along P a ρ b) (sym (written-set g w d hd)) (sym (written-set g w e he)) (J .2 .onward);
     backward = λ d ρ e hd he i.
-        let J = W .right .joins (record { from = d; role = ρ; to = e }) (listed-mem (w .links) d ρ e i) in
-        subst₂ (λ (a b : RowSet). Along (P .table) a (inverse ρ) b) (sym (written-set g w e he)) (sym (written-set g w d hd)) (J .2 .backward);
+        let J = W .right .joins (link d ρ e) i in
+        subst₂ (λ (a b : RowSet). Along P a (inverse ρ) b) (sym (written-set g w e he)) (sym (written-set g w d hd)) (J .2 .backward);
   }
 
   written-right : WellPosed P → 0 < length (w .states) → Subset (P .wanted) (nodeAt g (stateAt w 0) .rows) → ExampleRight P g (written g w)
   written-right posed here first = record {
-    obeys = λ k m d h. holds k d (posed .ruleRows k m) h (element-rules d h .1 k m);
-    member = (nonempty, λ k m. holds k 0 (posed .wantedRows k m) nonempty (first k m));
-    few-elements = omega (arith, written-size g w, right-few (P .table) g good w (W .right));
+    obeys = λ k m d h. holds k d (posed .ruleRows k m) (posed .ruleServes k m) h (element-rules d h .1 k m);
+    member = (nonempty, λ k m. holds k 0 (posed .wantedRows k m) (posed .wantedServes k m) nonempty (first k m));
+    few-elements = omega (arith, written-size g w, right-few P g good w (W .right));
     few-links = omega (arith, W .few, share-le (λ e. e .from) (g .edges) (w .states) (W .right .distinct), whole);
     link-ends = λ l m. let (a, b, J) = W .right .joins l m in (omega (arith, written-size g w), J .code, omega (arith, written-size g w));
   }
@@ -96,8 +95,8 @@ module _ (P : Problem) (g : Graph) (good : Status → Bool) (codes : (k ρ l : �
       nonempty : 0 < size (written g w)
       nonempty = omega (arith, written-size g w)
 
-      holds : (k d : ℕ) → k < length (P .table) → d < size (written g w) → T (mem k (nodeAt g (stateAt w d) .rows)) → Holds (finite (worldOf (P .table) (written g w))) (P .table) k d
-      holds k d b h m = truth (P .table) (written g w) (posed .ordered) (posed .normal) written-hintikka k d b h (subst (λ (u : RowSet). T (mem k u)) (sym (written-set g w d h)) m)
+      holds : (k d : ℕ) → k < length (P .table) → NoInclusion (P .table) k → d < size (written g w) → T (mem k (nodeAt g (stateAt w d) .rows)) → Holds (finite (worldOf (P .table) (written g w))) (P .table) k d
+      holds k d b s h m = truth P (written g w) posed written-hintikka k d b s h (subst (λ (u : RowSet). T (mem k u)) (sym (written-set g w d h)) m)
 
       whole : edgesFrom g (take (length (w .states)) (w .states)) ≡ edgesFrom g (w .states)
       whole = ap (edgesFrom g) (take-length (w .states))

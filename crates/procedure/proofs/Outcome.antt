@@ -1,7 +1,7 @@
 -- What the end of a run means, for any well-posed problem. Of its clash test no more is used than that it misses no clash of names,
--- and for "cannot" that it is exclusive.
+-- and for "cannot" that it is exclusive; of its inclusions, that they are the table's.
 --
--- In order: "cannot" (`no-structure`), in every structure where the test is exclusive; "can" (`finished-at`, `example-there`);
+-- In order: "cannot" (`no-structure`), in every structure where the test is exclusive and the inclusions are there; "can" (`finished-at`, `example-there`);
 -- the root has a status at the end (`root-set`), and fuel never runs out (`no-fuel`).
 -- Assumes nothing.
 use mathlib.Core.Path.{_≡_, subst}
@@ -15,7 +15,7 @@ use Rattle.procedure.specs.Graph.{Graph, Capacity, Result, reached, outO
 use Rattle.procedure.specs.GraphLaws.{Sure, lowestUnset-none}
 use Rattle.procedure.specs.Tableau.{run}
 use Rattle.procedure.specs.Example.{Example, example}
-use Rattle.procedure.proofs.Structure.{Structure, Satisfies, Exclusive}
+use Rattle.procedure.proofs.Structure.{Structure, Satisfies, Exclusive, Inclusive}
 use Rattle.procedure.proofs.Setting.{Setting}
 use Rattle.procedure.proofs.Bare.{bare}
 use Rattle.procedure.proofs.Finished.{Finished}
@@ -31,10 +31,10 @@ module _ (P : Problem) (c : Capacity) (W : WellPosed P) where
   -- ---- "cannot": no structure will do
 
   pub no-structure : (g : Graph) → run P c ≡ reached g → (nodeAt g 0 .status ≡ unsat) ⊎ (nodeAt g 0 .status ≡ toosmall)
-      → (M : Structure (P .table)) → Exclusive P M → ((d : M .Element) → Satisfies (P .table) M (P .rules) d)
+      → (M : Structure (P .table)) → Exclusive P M → Inclusive P M → ((d : M .Element) → Satisfies (P .table) M (P .rules) d)
       → (d : M .Element) → Satisfies (P .table) M (P .wanted) d → ⊥
-  no-structure g e v M exclusive rules d member =
-      let S : Setting = record { problem = P; capacity = c; wellPosed = W; structure = M; exclusive = exclusive; rules = rules; kit = λ _. (d, member) } in
+  no-structure g e v M exclusive inclusive rules d member =
+      let S : Setting = record { problem = P; capacity = c; wellPosed = W; structure = M; exclusive = exclusive; inclusive = inclusive; rules = rules; kit = λ _. (d, member) } in
       root-refuted S g (ended-at S g e .inv) v d
 
   -- ---- "can": the example is there and right

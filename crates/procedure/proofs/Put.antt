@@ -70,7 +70,7 @@ module _ (S : Setting) where
           fresh = fresh;
         }))
 
-    special-judged : lacking (S .problem .table) s (inverse ρ) (nodeAt g p .rows) ≡ empty → QuietBut S P g → s < 2 ^ rowCount S → Subset (S .problem .rules) s
+    special-judged : lacking (S .problem) s (inverse ρ) (nodeAt g p .rows) ≡ empty → QuietBut S P g → s < 2 ^ rowCount S → Subset (S .problem .rules) s
         → T (not (clash (S .problem) s)) → T (not (unfinished (S .problem .table) s))
         → Sure (Made S P g p ρ s) (linkSpecial (S .capacity) p ρ s g >>= judge put z)
     special-judged back Q bd rl cf fin =
@@ -85,7 +85,7 @@ module _ (S : Setting) where
     node-made p ρ s I Q pl bd rl few =
         let c = S .capacity in
         let t = S .problem .table in
-        let a = lacking t s (inverse ρ) (nodeAt g p .rows) in
+        let a = lacking (S .problem) s (inverse ρ) (nodeAt g p .rows) in
         by-test (Sure (Made S P g p ρ s)) (clash (S .problem) s) (addNode c (below p ρ s unsat unlinked) g)
         (elim (unfinished t s) [ true ↦ addNode c (below p ρ s unset unlinked) g | false ↦ putSpecial (S .problem) c put p ρ s g ])
         (λ b. sure-addNode (Made S P g p ρ s) c (below p ρ s unsat unlinked) g

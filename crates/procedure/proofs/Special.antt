@@ -97,27 +97,27 @@ module _ (S : Setting) where
 
     module _ (Q : QuietBut S P g) where
       abbrev a : RowSet
-      a = lacking (S .problem .table) s (inverse ρ) (nodeAt g p .rows)
+      a = lacking (S .problem) s (inverse ρ) (nodeAt g p .rows)
 
       -- the root's role is no row's, so the root lacks nothing
       above-not-root : T (not (eqb a empty)) → p ≢ 0
       above-not-root q e =
           let r : ρ ≡ noRole = pl .root e in
-          T-not (eqb a empty) q (rw (lacking-no-role (S .problem .table) s (inverse ρ) (nodeAt g p .rows) (λ k σ l _ u. S .wellPosed .univRole k σ l u) (inverse-high ρ (omega arith))) tt)
+          T-not (eqb a empty) q (rw (lacking-no-role (S .problem) s (inverse ρ) (nodeAt g p .rows) (S .wellPosed) (inverse-high ρ (omega arith))) tt)
 
       alternative-fact : T (not (eqb a empty)) → AlternativeFact S g p a
       alternative-fact q = record {
         there = pl .there;
         notRoot = above-not-root q;
-        bounded = lacking-lt (S .problem .table) s (S .wellPosed .ordered) (inverse ρ) (nodeAt g p .rows);
-        extra = lacking-witness (S .problem .table) s (S .wellPosed .ordered) (inverse ρ) (nodeAt g p .rows) q;
+        bounded = lacking-lt (S .problem) s (S .wellPosed .ordered) (inverse ρ) (nodeAt g p .rows);
+        extra = lacking-witness (S .problem) s (S .wellPosed .ordered) (inverse ρ) (nodeAt g p .rows) q;
       }
 
       -- whoever has a successor with the set s satisfies a
       blocks : T (not (eqb a empty)) → (h : Graph) → AlternativeOf h p a → nodeAt h p .rows ≡ nodeAt g p .rows → Blocked S h (below p ρ s toosmall lapsed)
       blocks q h m e = λ d b sd r sb. elim r [
         | inl z ↦ absurd (above-not-root q z)
-        | inr w ↦ (a, m, lacking-satisfied (S .problem .table) (S .structure) s b sb ρ d (nodeAt g p .rows) w)
+        | inr w ↦ (a, m, lacking-satisfied (S .problem) (S .structure) (S .inclusive) s b sb ρ d (nodeAt g p .rows) w)
       ]
 
     -- the alternative is there already, or the state above is settled
@@ -127,10 +127,10 @@ module _ (S : Setting) where
     made-lapsed Q room C = made-node toosmall lapsed Q room refl C (inr tt)
 
   made-alternative : (P : ℕ → Type 0) (g : Graph) (p ρ : ℕ) (s : RowSet) → (I : Inv S g) (pl : Place S g p ρ) → s < 2 ^ rowCount S → Subset (S .problem .rules) s → (Q : QuietBut S P g)
-      → T (not (eqb (lacking (S .problem .table) s (inverse ρ) (nodeAt g p .rows)) empty)) → nodeCount g < S .capacity .nodeRoom
-      → Made P g p ρ s (appendAlternative p (lacking (S .problem .table) s (inverse ρ) (nodeAt g p .rows)) (appendNode (below p ρ s toosmall lapsed) g))
+      → T (not (eqb (lacking (S .problem) s (inverse ρ) (nodeAt g p .rows)) empty)) → nodeCount g < S .capacity .nodeRoom
+      → Made P g p ρ s (appendAlternative p (lacking (S .problem) s (inverse ρ) (nodeAt g p .rows)) (appendNode (below p ρ s toosmall lapsed) g))
   made-alternative P g p ρ s I pl bd rl Q q room =
-      let x = lacking (S .problem .table) s (inverse ρ) (nodeAt g p .rows) in
+      let x = lacking (S .problem) s (inverse ρ) (nodeAt g p .rows) in
       -- the two records do not meet, so the alternative may be taken to come first
       let k = appendAlternative p x g in
       let n = below p ρ s toosmall lapsed in
@@ -148,11 +148,11 @@ module _ (S : Setting) where
       }
 
   pub lapsed-made : (P : ℕ → Type 0) (g : Graph) (p ρ : ℕ) (s : RowSet) → (I : Inv S g) (pl : Place S g p ρ) → s < 2 ^ rowCount S → Subset (S .problem .rules) s → (Q : QuietBut S P g)
-      → T (not (eqb (lacking (S .problem .table) s (inverse ρ) (nodeAt g p .rows)) empty))
-      → Sure (Made P g p ρ s) (addNode (S .capacity) (below p ρ s toosmall lapsed) g >>= joinAlternatives (S .capacity) p (lacking (S .problem .table) s (inverse ρ) (nodeAt g p .rows)))
+      → T (not (eqb (lacking (S .problem) s (inverse ρ) (nodeAt g p .rows)) empty))
+      → Sure (Made P g p ρ s) (addNode (S .capacity) (below p ρ s toosmall lapsed) g >>= joinAlternatives (S .capacity) p (lacking (S .problem) s (inverse ρ) (nodeAt g p .rows)))
   unfolding joinAlternatives
   lapsed-made P g p ρ s I pl bd rl Q q =
-      let x = lacking (S .problem .table) s (inverse ρ) (nodeAt g p .rows) in
+      let x = lacking (S .problem) s (inverse ρ) (nodeAt g p .rows) in
       let n = below p ρ s toosmall lapsed in
       let h = appendNode n g in
       let old = node-old n g p (pl .there) in
@@ -182,7 +182,7 @@ module _ (S : Setting) where
     pub live : T (isLive (nodeAt h (nodeCount g) .status))
     pub edge : Child h (nodeCount g) state
 
-  module _ (P : ℕ → Type 0) (g : Graph) (p ρ : ℕ) (s : RowSet) (I : Inv S g) (pl : Place S g p ρ) (back : lacking (S .problem .table) s (inverse ρ) (nodeAt g p .rows) ≡ empty) where
+  module _ (P : ℕ → Type 0) (g : Graph) (p ρ : ℕ) (s : RowSet) (I : Inv S g) (pl : Place S g p ρ) (back : lacking (S .problem) s (inverse ρ) (nodeAt g p .rows) ≡ empty) where
     abbrev z : ℕ
     z = nodeCount g
 
@@ -203,7 +203,7 @@ module _ (S : Setting) where
           notRoot = y0;
           isState = ys;
           rows = yr ∙ sym (F .rows);
-          back = subst (λ (w : ℕ). lacking (S .problem .table) (m .rows) (inverse (m .prl)) (nodeAt h w .rows) ≡ empty) (sym (F .pst)) (rw (F .rows, F .prl, pz) back);
+          back = subst (λ (w : ℕ). lacking (S .problem) (m .rows) (inverse (m .prl)) (nodeAt h w .rows) ≡ empty) (sym (F .pst)) (rw (F .rows, F .prl, pz) back);
         } in
         let B = branch-fact S h (Md .inv) z (F .there) (F .noState) .0 in
         let fact : Fact S h z n′ = record {

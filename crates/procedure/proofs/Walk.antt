@@ -62,20 +62,20 @@ on-trans u v w a b = record {
 -- ---- what a walk writes
 
 -- a link along ρ may join the states x and y
-pub record Joins (t : Table) (g : Graph) (x ρ y : ℕ) : Type 0 where
+pub record Joins (P : Problem) (g : Graph) (x ρ y : ℕ) : Type 0 where
   pub code : ρ < 32
-  pub onward : Along t (nodeAt g x .rows) ρ (nodeAt g y .rows)
-  pub backward : Along t (nodeAt g y .rows) (inverse ρ) (nodeAt g x .rows)
+  pub onward : Along P (nodeAt g x .rows) ρ (nodeAt g y .rows)
+  pub backward : Along P (nodeAt g y .rows) (inverse ρ) (nodeAt g x .rows)
 
 -- the link l joins two elements of the walk
-abbrev pub Joined : Table → Graph → Walk → RoleLink → Type 0
-Joined t g w l = (l .from < length (w .states)) × (l .to < length (w .states)) × Joins t g (stateAt w (l .from)) (l .role) (stateAt w (l .to))
+abbrev pub Joined : Problem → Graph → Walk → RoleLink → Type 0
+Joined P g w l = (l .from < length (w .states)) × (l .to < length (w .states)) × Joins P g (stateAt w (l .from)) (l .role) (stateAt w (l .to))
 
-joined-on : (t : Table) (g : Graph) (w v : Walk) (l : RoleLink) → GoesOn w v → Joined t g w l → Joined t g v l
-joined-on t g w v l G (a, b, J) = (
+joined-on : (P : Problem) (g : Graph) (w v : Walk) (l : RoleLink) → GoesOn w v → Joined P g w l → Joined P g v l
+joined-on P g w v l G (a, b, J) = (
   omega (arith, on-longer w v G),
   omega (arith, on-longer w v G),
-  subst₂ (λ (x y : ℕ). Joins t g x (l .role) y) (sym (on-kept w v G (l .from) a)) (sym (on-kept w v G (l .to) b)) J,
+  subst₂ (λ (x y : ℕ). Joins P g x (l .role) y) (sym (on-kept w v G (l .from) a)) (sym (on-kept w v G (l .to) b)) J,
 )
 
 -- element d has a link along ρ to an element with every row of c
@@ -91,25 +91,25 @@ reaches-on g w v d ρ c G (e, h, m, s) = (
   subst (λ (y : ℕ). Subset (nodeAt g c .rows) (nodeAt g y .rows)) (sym (on-kept w v G e h)) s,
 )
 
-module _ (t : Table) (g : Graph) (good : Status → Bool) where
+module _ (P : Problem) (g : Graph) (good : Status → Bool) where
   -- what holds of a walk at every moment
   pub record Right (w : Walk) : Type 0 where
     pub distinct : Distinct (w .states)
     pub usable : (y : ℕ) → List·Memᴰ y (w .states) → Usable g good y
-    pub joins : (l : RoleLink) → List·Memᴰ l (w .links) → Joined t g w l
+    pub joins : (l : RoleLink) → List·Memᴰ l (w .links) → Joined P g w l
 
   -- c is a child of the state x for a row along ρ, and the walk may go down from it
   pub record GoodChild (x ρ c : ℕ) : Type 0 where
     pub code : ρ < 32
     pub under : Under g x ρ c
-    pub along : Along t (nodeAt g x .rows) ρ (nodeAt g c .rows)
+    pub along : Along P (nodeAt g x .rows) ρ (nodeAt g c .rows)
     pub isGood : T (good (nodeAt g c .status))
 
-  child-joins : (x ρ c y : ℕ) → GoodChild x ρ c → Lands t g good c y → Joins t g x ρ y
-  child-joins x ρ c y P L = record {
-    code = P .code;
-    onward = λ k l h e m. L .more l (P .along k l h e m);
-    backward = subst₂ (λ (σ z : ℕ). Along t (nodeAt g y .rows) (inverse σ) (nodeAt g z .rows)) (P .under .prl) (P .under .pst) (L .back);
+  child-joins : (x ρ c y : ℕ) → GoodChild x ρ c → Lands P g good c y → Joins P g x ρ y
+  child-joins x ρ c y C L = record {
+    code = C .code;
+    onward = λ k σ l h e n m. L .more l (C .along k σ l h e n m);
+    backward = subst₂ (λ (σ z : ℕ). Along P (nodeAt g y .rows) (inverse σ) (nodeAt g z .rows)) (C .under .prl) (C .under .pst) (L .back);
   }
 
   -- ---- meeting a state
@@ -122,7 +122,7 @@ module _ (t : Table) (g : Graph) (good : Status → Bool) where
       links = λ l m. subst (λ (ls : List RoleLink). List·Memᴰ l ls) (sym wrote) (Memᴰ·append-left (record { from = d; role = ρ; to = position y (w .states) } ∷ []) m);
     }
 
-    met-reaches : Lands t g good c y → Reaches g v d ρ c
+    met-reaches : Lands P g good c y → Reaches g v d ρ c
     met-reaches L = (
       position y (w .states),
       M .at,
@@ -131,16 +131,16 @@ module _ (t : Table) (g : Graph) (good : Status → Bool) where
       subst (λ (z : ℕ). Subset (nodeAt g c .rows) (nodeAt g z .rows)) (sym (M .is)) (L .more),
     )
 
-    met-right : Right w → d < length (w .states) → GoodChild (stateAt w d) ρ c → Lands t g good c y → Right v
-    met-right R h P L = record {
+    met-right : Right w → d < length (w .states) → GoodChild (stateAt w d) ρ c → Lands P g good c y → Right v
+    met-right R h C L = record {
       distinct = M .distinct (R .distinct);
       usable = λ z m. elim (M .mem z m) [ inl u ↦ R .usable z u | inr e ↦ subst (Usable g good) (sym e) (L .usable) ];
       joins = λ l m. elim (List·Memᴰ·append-cases (w .links) (subst (λ (ls : List RoleLink). List·Memᴰ l ls) wrote m)) [
-        | inl u ↦ joined-on t g w v l met-on (R .joins l u)
-        | inr u ↦ subst (Joined t g v) (sym (List·Memᴰ·eq-of-singleton u)) (
+        | inl u ↦ joined-on P g w v l met-on (R .joins l u)
+        | inr u ↦ subst (Joined P g v) (sym (List·Memᴰ·eq-of-singleton u)) (
           omega (arith, on-longer w v met-on),
           M .at,
-          subst₂ (λ (a b : ℕ). Joins t g a ρ b) (sym (on-kept w v met-on d h)) (sym (M .is)) (child-joins (stateAt w d) ρ c y P L),
+          subst₂ (λ (a b : ℕ). Joins P g a ρ b) (sym (on-kept w v met-on d h)) (sym (M .is)) (child-joins (stateAt w d) ρ c y C L),
         )
       ];
     }
@@ -173,7 +173,7 @@ module _ (t : Table) (g : Graph) (good : Status → Bool) where
     ];
   }
 
-  meet-walked : (d y : ℕ) (r : ℕ × ℕ) (w : Walk) → Right w → d < length (w .states) → GoodChild (stateAt w d) (r .0) (r .1) → Lands t g good (r .1) y
+  meet-walked : (d y : ℕ) (r : ℕ × ℕ) (w : Walk) → Right w → d < length (w .states) → GoodChild (stateAt w d) (r .0) (r .1) → Lands P g good (r .1) y
       → RowsWalked d (r ∷ []) w (meet d (r .0) y w)
   meet-walked d y r w R h P L =
       let v = meet d (r .0) y w in
@@ -192,20 +192,20 @@ module _ (t : Table) (g : Graph) (good : Status → Bool) where
   pub record Walked (d : ℕ) (w : Walk) : Type 0 where
     pub right : Right w
     pub within : d ≤ length (w .states)
-    pub reaches : (i : ℕ) → i < d → (r : ℕ × ℕ) → List·Memᴰ r (rowsOf t g (stateAt w i)) → Reaches g w i (r .0) (r .1)
+    pub reaches : (i : ℕ) → i < d → (r : ℕ × ℕ) → List·Memᴰ r (rowsOf (P .table) g (stateAt w i)) → Reaches g w i (r .0) (r .1)
     pub few : length (w .links) ≤ edgesFrom g (take d (w .states))
 
   -- one more element; its links are at most the edges from its state
-  walked-suc : (d : ℕ) (w v : Walk) → Walked d w → d < length (w .states) → RowsWalked d (rowsOf t g (stateAt w d)) w v → Walked (suc d) v
+  walked-suc : (d : ℕ) (w v : Walk) → Walked d w → d < length (w .states) → RowsWalked d (rowsOf (P .table) g (stateAt w d)) w v → Walked (suc d) v
   walked-suc d w v W h A = record {
     right = A .right;
     within = omega (arith, on-longer w v (A .on));
     reaches = λ i b r m. elim (ℕ-discrete i d) [
-      | yes e ↦ subst (λ (j : ℕ). Reaches g v j (r .0) (r .1)) (sym e) (A .reaches r (subst (λ (x : ℕ). List·Memᴰ r (rowsOf t g x)) (ap (stateAt v) e ∙ on-kept w v (A .on) d h) m))
+      | yes e ↦ subst (λ (j : ℕ). Reaches g v j (r .0) (r .1)) (sym e) (A .reaches r (subst (λ (x : ℕ). List·Memᴰ r (rowsOf (P .table) g x)) (ap (stateAt v) e ∙ on-kept w v (A .on) d h) m))
       | no n ↦ reaches-on g w v i (r .0) (r .1) (A .on)
-          (W .reaches i (omega arith) r (subst (λ (x : ℕ). List·Memᴰ r (rowsOf t g x)) (on-kept w v (A .on) i (omega arith)) m))
+          (W .reaches i (omega arith) r (subst (λ (x : ℕ). List·Memᴰ r (rowsOf (P .table) g x)) (on-kept w v (A .on) i (omega arith)) m))
     ];
-    few = omega (arith, A .count, W .few, length-rowsOf t g (stateAt w d), counted);
+    few = omega (arith, A .count, W .few, length-rowsOf (P .table) g (stateAt w d), counted);
   }
     where
       taken : take (suc d) (v .states) ≡ take d (w .states) ++ stateAt w d ∷ []
@@ -226,13 +226,13 @@ module _ (P : Problem) (g : Graph) (good : Status → Bool) (codes : (k ρ l : �
   -- ---- over a finished graph
 
   -- each child of a usable state is put for a row, and the walk may go down from it
-  pub rowsOf-good : (x : ℕ) → Usable g good x → (r : ℕ × ℕ) → List·Memᴰ r (rowsOf (P .table) g x) → GoodChild (P .table) g good x (r .0) (r .1)
+  pub rowsOf-good : (x : ℕ) → Usable g good x → (r : ℕ × ℕ) → List·Memᴰ r (rowsOf (P .table) g x) → GoodChild P g good x (r .0) (r .1)
   rowsOf-good x U r m =
       let (i, h, k, p, q) = rowsOf-mem (P .table) g x r m in
       let rs = existentials (P .table) (nodeAt g x .rows) in
       let A = F .answers x i (U .there) (U .state) (U .nonRoot) (U .isGood) k in
       let (j, _, _, e) = existentials-mem (P .table) (nodeAt g x .rows) (getD rs i (0, 0)) (getD-mem rs i (0, 0) h) in
-      subst₂ (GoodChild (P .table) g good x) (sym p) (sym q) (record {
+      subst₂ (GoodChild P g good x) (sym p) (sym q) (record {
         code = codes j (getD rs i (0, 0) .0) (getD rs i (0, 0) .1) e;
         under = A .under;
         along = A .along;
@@ -253,36 +253,36 @@ module _ (P : Problem) (g : Graph) (good : Status → Bool) (codes : (k ρ l : �
         subst (λ (r : ℕ × ℕ). T (mem (r .1) (nodeAt g c .rows))) e (A .argument),
       )
 
-  walk-rows : (d : ℕ) (rs : List (ℕ × ℕ)) (w : Walk) → Right (P .table) g good w → d < length (w .states)
-      → ((r : ℕ × ℕ) → List·Memᴰ r rs → GoodChild (P .table) g good (stateAt w d) (r .0) (r .1)) → (v : Walk) × (walkRows g d rs w ≡ some v) × RowsWalked (P .table) g good d rs w v
+  walk-rows : (d : ℕ) (rs : List (ℕ × ℕ)) (w : Walk) → Right P g good w → d < length (w .states)
+      → ((r : ℕ × ℕ) → List·Memᴰ r rs → GoodChild P g good (stateAt w d) (r .0) (r .1)) → (v : Walk) × (walkRows g d rs w ≡ some v) × RowsWalked P g good d rs w v
   unfolding walkRows
-  walk-rows d [] w R h good-child = (w, refl, rows-none (P .table) g good d w R)
+  walk-rows d [] w R h good-child = (w, refl, rows-none P g good d w R)
   walk-rows d (r ∷ rs) w R h good-child =
       let p = good-child r (List·Memᴰ·head refl) in
       let (y, e, L) = descend-lands P g good F (r .1) (p .under .there) (p .under .noState) (p .isGood) in
-      let A = meet-walked (P .table) g good d y r w R h p L in
+      let A = meet-walked P g good d y r w R h p L in
       let u = meet d (r .0) y w in
       let (v, f, B) = walk-rows d rs u (A .right) (omega (arith, on-longer w u (A .on)))
-      (λ q m. subst (λ (x : ℕ). GoodChild (P .table) g good x (q .0) (q .1)) (sym (on-kept w u (A .on) d h)) (good-child q (List·Memᴰ·tail m))) in
-      (v, walkRows-cons g d y r rs w v e f, rows-more (P .table) g good d r rs w u v A B)
+      (λ q m. subst (λ (x : ℕ). GoodChild P g good x (q .0) (q .1)) (sym (on-kept w u (A .on) d h)) (good-child q (List·Memᴰ·tail m))) in
+      (v, walkRows-cons g d y r rs w v e f, rows-more P g good d r rs w u v A B)
 
   -- each turn walks one element, so the nodes bound the turns
-  walk-within : (f d : ℕ) (w : Walk) → Walked (P .table) g good d w → nodeCount g < d + f
-      → (v : Walk) × (walkWithin (P .table) g f d w ≡ some v) × Walked (P .table) g good (length (v .states)) v × Begins (w .states) (v .states)
-  walk-within zero d w W b = absurd (omega (arith, right-few (P .table) g good w (W .right), W .within))
+  walk-within : (f d : ℕ) (w : Walk) → Walked P g good d w → nodeCount g < d + f
+      → (v : Walk) × (walkWithin (P .table) g f d w ≡ some v) × Walked P g good (length (v .states)) v × Begins (w .states) (v .states)
+  walk-within zero d w W b = absurd (omega (arith, right-few P g good w (W .right), W .within))
   walk-within (suc f) d w W b = elim (decLt d (length (w .states))) [
     | yes h ↦
         let U = W .right .usable (stateAt w d) (getD-mem (w .states) d 0 h) in
         let (v, e, A) = walk-rows d (rowsOf (P .table) g (stateAt w d)) w (W .right) h (rowsOf-good (stateAt w d) U) in
-        let (u, k, N, B) = walk-within f (suc d) v (walked-suc (P .table) g good d w v W h A) (omega arith) in
+        let (u, k, N, B) = walk-within f (suc d) v (walked-suc P g good d w v W h A) (omega arith) in
         (u, walkWithin-step (P .table) g d w f v u h e k, N, begins-trans (w .states) (v .states) (u .states) (A .on .states) B)
     | no n ↦
         let e : d ≡ length (w .states) = omega (arith, W .within) in
-        (w, walkWithin-end (P .table) g d w f (omega arith), subst (λ (i : ℕ). Walked (P .table) g good i w) e W, begins-refl (w .states))
+        (w, walkWithin-end (P .table) g d w f (omega arith), subst (λ (i : ℕ). Walked P g good i w) e W, begins-refl (w .states))
   ]
 
   -- from a usable state alone
-  walked-start : (y : ℕ) → Usable g good y → Walked (P .table) g good 0 (record { states = y ∷ []; links = [] })
+  walked-start : (y : ℕ) → Usable g good y → Walked P g good 0 (record { states = y ∷ []; links = [] })
   walked-start y U = record {
     right = record {
       distinct = (λ m. List·Memᴰ·not-nil m, tt);
@@ -295,7 +295,7 @@ module _ (P : Problem) (g : Graph) (good : Status → Bool) (codes : (k ρ l : �
   }
 
   -- the walk ends, all its elements have been walked, and element 0 has every wanted row
-  pub walk-walked : (w : Walk) × (walk (P .table) g ≡ some w) × Walked (P .table) g good (length (w .states)) w × (0 < length (w .states))
+  pub walk-walked : (w : Walk) × (walk (P .table) g ≡ some w) × Walked P g good (length (w .states)) w × (0 < length (w .states))
       × Subset (P .wanted) (nodeAt g (stateAt w 0) .rows)
   walk-walked =
       let (y, e, U, wants) = descend-root P g good F in

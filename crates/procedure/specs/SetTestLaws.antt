@@ -1,27 +1,28 @@
 -- Laws of SetTests: what each test of a set of rows finds, as rows of the table.
 --
--- In order: the answers of each test on one concept; clash; the concepts of a set; unfinished rows; the universal rows along a role
--- (`box`, `lacking`); the existential rows; in an ordered table, what is found is below the table's length.
+-- In order: the answers of each test on one concept; clash; the concepts of a set; unfinished rows; the existential rows; in an ordered table, what is found
+-- is below the table's length; the universal rows that reach along a role (`box`, `lacking`).
 -- Of the clash test nothing is known here, and a concept is taken apart by its views only.
 -- Assumes nothing.
-use mathlib.Core.Path.{_≡_, refl, sym, ap₂, _∙_}
+use mathlib.Core.Path.{_≡_, refl, sym, ap, _∙_, subst}
 use mathlib.Core.Bool.{Bool, true, false, not, _&&_, _||_, cond}
 use mathlib.Core.List.{List, List·Memᴰ, List·Memᴰ·head, List·Memᴰ·tail, Memᴰ·cast, Memᴰ·map, Memᴰ·of-map}
 use mathlib.Core.Logic.{_⊎_, inl, inr}
 use mathlib.Core.Option.{Option, none, some}
 use Prim.Native.Nat.{ℕ, _≤_, _<_, _^_}
 use native.Mathlib.Omega.{arith}
-use lib.Dec.{T, T-not, eqb, eqb→eq}
+use lib.Dec.{T, T-not, eqb}
 use lib.ListN.{length}
-use borrow.Author.Tests.{eq-eqb}
-use Rattle.concepts.specs.Tests.{impossible, or-cases, and-both, decide}
+use Rattle.concepts.specs.Tests.{impossible, or-cases, and-both, decide, as-true}
 use Rattle.concepts.specs.Lists.{select, any}
 use Rattle.concepts.specs.ListLaws.{select-mem, mem-select, any-mem, mem-any, cond-some, provided-some, provided-none, answers-mem, mem-answers, first-some, first-none}
 use Rattle.concepts.specs.Concept.{Concept, conj, disj, univ, exist, asConj, asDisj, asUniv, asExist, Table, conceptAt, arguments, Ordered}
 use Rattle.concepts.specs.ConceptLaws.{asConj-some, asDisj-some, asUniv-some, asExist-some}
+use Rattle.concepts.specs.Inclusion.{Relation}
+use Rattle.concepts.specs.InclusionLaws.{narrower-low}
 use Rattle.concepts.specs.RowSet.{RowSet, mem, members, fromList}
 use Rattle.concepts.specs.RowSetLaws.{mem-empty, mem-members, members-mem, mem-fromList, fromList-mem, fromList-none, fromList-witness, fromList-lt}
-use Rattle.procedure.specs.Problem.{Problem}
+use Rattle.procedure.specs.Problem.{Problem, WellPosed}
 use Rattle.procedure.specs.SetTests.{concepts, clash, unfinishedConj, unfinishedDisj, lowestConj, lowestDisj, isSome, unfinished, univArgument, box, lacking, existentials}
 
 -- ---- what an answer says
@@ -59,12 +60,13 @@ unfinishedDisj-some s c lr e =
     let (p, n) = provided-some (λ (q : ℕ × ℕ). not (mem (q .0) s || mem (q .1) s)) (asDisj c) lr e in
     (asDisj-some c lr p, n)
 
-univArgument-some : (ρ : ℕ) (c : Concept) (l : ℕ) → univArgument ρ c ≡ some l → c ≡ univ ρ l
-univArgument-some ρ c l e = by-view (asUniv c) refl e
+univArgument-some : (N : Relation) (ρ : ℕ) (c : Concept) (l : ℕ) → univArgument N ρ c ≡ some l → (σ : ℕ) × T (N ρ σ) × (c ≡ univ σ l)
+univArgument-some N ρ c l e = by-view (asUniv c) refl e
   where
-    by-view : (o : Option (ℕ × ℕ)) → asUniv c ≡ o → elim o as (λ _. Option ℕ) [ some u ↦ cond (eqb (u .0) ρ) (some (u .1)) none | none ↦ none ] ≡ some l → c ≡ univ ρ l
+    by-view : (o : Option (ℕ × ℕ)) → asUniv c ≡ o → elim o as (λ _. Option ℕ) [ some u ↦ cond (N ρ (u .0)) (some (u .1)) none | none ↦ none ] ≡ some l
+        → (σ : ℕ) × T (N ρ σ) × (c ≡ univ σ l)
     by-view none p e = none-some l e
-    by-view (some u) p e = let (h, r) = cond-some (eqb (u .0) ρ) (u .1) l e in asUniv-some c u p ∙ ap₂ univ (eqb→eq (u .0) ρ h) r
+    by-view (some u) p e = let (h, r) = cond-some (N ρ (u .0)) (u .1) l e in (u .0, h, asUniv-some c u p ∙ ap (univ (u .0)) r)
 
 abbrev outside : RowSet → ℕ → Bool
 outside p l = not (mem l p)
@@ -153,48 +155,6 @@ module _ (t : Table) (s : RowSet) where
       (provided-none (λ (q : ℕ × ℕ). not (mem (q .0) s || mem (q .1) s)) (l, r)
       (first-none (unfinishedDisj s) (concepts t s) (disj l r) (finished-none n .1) (mem-concept k (disj l r) b m e))))
 
-  -- ---- the universal rows along a role
-
-  pub box-mem : (ρ l : ℕ) → List·Memᴰ l (box t s ρ) → (k : ℕ) × (k < length t) × T (mem k s) × (conceptAt t k ≡ univ ρ l)
-  unfolding box
-  box-mem ρ l u =
-      let (c, v, e) = answers-mem (univArgument ρ) (concepts t s) l u in
-      let (k, b, m, q) = concept-mem c v in
-      (k, b, m, q ∙ univArgument-some ρ c l e)
-
-  pub mem-box : (ρ l k : ℕ) → k < length t → T (mem k s) → conceptAt t k ≡ univ ρ l → List·Memᴰ l (box t s ρ)
-  unfolding box
-  mem-box ρ l k b m e =
-      mem-answers (univArgument ρ) (concepts t s) (univ ρ l) l (mem-concept k (univ ρ l) b m e) (rw (eq-eqb ρ ρ refl))
-
-  -- the rows of `lacking`, as a list
-  abbrev lackingRows : ℕ → RowSet → List ℕ
-  lackingRows ρ p = select (outside p) (box t s ρ)
-
-  pub lacking-mem : (ρ : ℕ) (p : RowSet) (l : ℕ) → T (mem l (lacking t s ρ p)) → List·Memᴰ l (box t s ρ) × T (not (mem l p))
-  unfolding lacking
-  lacking-mem ρ p l h = select-mem (outside p) (box t s ρ) l (fromList-mem l (lackingRows ρ p) h)
-
-  pub mem-lacking : (ρ : ℕ) (p : RowSet) (l : ℕ) → List·Memᴰ l (box t s ρ) → T (not (mem l p)) → T (mem l (lacking t s ρ p))
-  unfolding lacking
-  mem-lacking ρ p l u n = mem-fromList l (lackingRows ρ p) (mem-select (outside p) (box t s ρ) l u n)
-
-  -- where nothing is lacking, every argument along ρ is there: `Along` of correctness
-  pub lacking-none : (ρ : ℕ) (p : RowSet) → lacking t s ρ p ≡ 0 → (k l : ℕ) → k < length t → conceptAt t k ≡ univ ρ l → T (mem k s) → T (mem l p)
-  lacking-none ρ p z k l b e m = elim (decide (mem l p)) [
-    | inl h ↦ h
-    | inr n ↦ absurd (rw (z, mem-empty l) at (mem-lacking ρ p l (mem-box ρ l k b m e) n))
-  ]
-
-  -- no row has the role
-  pub lacking-no-role : (ρ : ℕ) (p : RowSet) → ((k σ l : ℕ) → k < length t → conceptAt t k ≡ univ σ l → σ < 32) → 32 ≤ ρ → lacking t s ρ p ≡ 0
-  unfolding lacking
-  lacking-no-role ρ p roles h =
-      fromList-none (lackingRows ρ p) (λ l u.
-      let (v, n) = select-mem (outside p) (box t s ρ) l u in
-      let (k, b, m, e) = box-mem ρ l v in
-      omega (arith, roles k ρ l b e))
-
   -- ---- the existential rows
 
   pub existentials-mem : (e : ℕ × ℕ) → List·Memᴰ e (existentials t s) → (k : ℕ) × (k < length t) × T (mem k s) × (conceptAt t k ≡ exist (e .0) (e .1))
@@ -227,22 +187,70 @@ module _ (t : Table) (s : RowSet) where
     pub existentials-lt : (e : ℕ × ℕ) → List·Memᴰ e (existentials t s) → e .1 < length t
     existentials-lt e u = let (k, b, m, q) = existentials-mem e u in argument-lt k (e .1) (exist (e .0) (e .1)) b q (List·Memᴰ·head refl)
 
-    pub box-lt : (ρ l : ℕ) → List·Memᴰ l (box t s ρ) → l < length t
-    box-lt ρ l u = let (k, b, m, q) = box-mem ρ l u in argument-lt k l (univ ρ l) b q (List·Memᴰ·head refl)
+-- ---- the universal rows that reach along a role
 
-    pub fromList-box-lt : (ρ : ℕ) → fromList (box t s ρ) < 2 ^ length t
-    fromList-box-lt ρ = fromList-lt (length t) (box t s ρ) (box-lt ρ)
+module _ (P : Problem) (s : RowSet) where
+  abbrev t : Table
+  t = P .table
 
-    pub lacking-lt : (ρ : ℕ) (p : RowSet) → lacking t s ρ p < 2 ^ length t
+  pub box-mem : (ρ l : ℕ) → List·Memᴰ l (box P s ρ) → (k σ : ℕ) × (k < length t) × T (mem k s) × (conceptAt t k ≡ univ σ l) × T (P .narrower ρ σ)
+  unfolding box
+  box-mem ρ l u =
+      let (c, v, e) = answers-mem (univArgument (P .narrower) ρ) (concepts t s) l u in
+      let (k, b, m, q) = concept-mem t s c v in
+      let (σ, h, p) = univArgument-some (P .narrower) ρ c l e in
+      (k, σ, b, m, q ∙ p, h)
+
+  pub mem-box : (ρ σ l k : ℕ) → k < length t → T (mem k s) → conceptAt t k ≡ univ σ l → T (P .narrower ρ σ) → List·Memᴰ l (box P s ρ)
+  unfolding box
+  mem-box ρ σ l k b m e h =
+      mem-answers (univArgument (P .narrower) ρ) (concepts t s) (univ σ l) l (mem-concept t s k (univ σ l) b m e) (rw (as-true (P .narrower ρ σ) h))
+
+  -- the rows of `lacking`, as a list
+  abbrev lackingRows : ℕ → RowSet → List ℕ
+  lackingRows ρ p = select (outside p) (box P s ρ)
+
+  pub lacking-mem : (ρ : ℕ) (p : RowSet) (l : ℕ) → T (mem l (lacking P s ρ p)) → List·Memᴰ l (box P s ρ) × T (not (mem l p))
+  unfolding lacking
+  lacking-mem ρ p l h = select-mem (outside p) (box P s ρ) l (fromList-mem l (lackingRows ρ p) h)
+
+  pub mem-lacking : (ρ : ℕ) (p : RowSet) (l : ℕ) → List·Memᴰ l (box P s ρ) → T (not (mem l p)) → T (mem l (lacking P s ρ p))
+  unfolding lacking
+  mem-lacking ρ p l u n = mem-fromList l (lackingRows ρ p) (mem-select (outside p) (box P s ρ) l u n)
+
+  -- where nothing is lacking, every argument that is reached along ρ is there: `Along` of correctness
+  pub lacking-none : (ρ : ℕ) (p : RowSet) → lacking P s ρ p ≡ 0 → (k σ l : ℕ) → k < length t → conceptAt t k ≡ univ σ l → T (P .narrower ρ σ) → T (mem k s) → T (mem l p)
+  lacking-none ρ p z k σ l b e h m = elim (decide (mem l p)) [
+    | inl i ↦ i
+    | inr n ↦ absurd (rw (z, mem-empty l) at (mem-lacking ρ p l (mem-box ρ σ l k b m e h) n))
+  ]
+
+  -- no row has the role, or a wider one
+  pub lacking-no-role : (ρ : ℕ) (p : RowSet) → WellPosed P → 32 ≤ ρ → lacking P s ρ p ≡ 0
+  unfolding lacking
+  lacking-no-role ρ p W h =
+      fromList-none (lackingRows ρ p) (λ l u.
+      let (v, n) = select-mem (outside p) (box P s ρ) l u in
+      let (k, σ, b, m, e, i) = box-mem ρ l v in
+      omega (arith, narrower-low t (λ j a c f. W .inclusionRoles j a c f .0) ρ σ (subst (λ (N : Relation). T (N ρ σ)) (W .inclusions) i) (W .univRole k σ l e)))
+
+  module _ (ordered : Ordered t) where
+    pub box-lt : (ρ l : ℕ) → List·Memᴰ l (box P s ρ) → l < length t
+    box-lt ρ l u = let (k, σ, b, m, q, h) = box-mem ρ l u in argument-lt t s ordered k l (univ σ l) b q (List·Memᴰ·head refl)
+
+    pub fromList-box-lt : (ρ : ℕ) → fromList (box P s ρ) < 2 ^ length t
+    fromList-box-lt ρ = fromList-lt (length t) (box P s ρ) (box-lt ρ)
+
+    pub lacking-lt : (ρ : ℕ) (p : RowSet) → lacking P s ρ p < 2 ^ length t
     unfolding lacking
     lacking-lt ρ p =
         fromList-lt (length t) (lackingRows ρ p)
-        (λ l u. box-lt ρ l (select-mem (outside p) (box t s ρ) l u .0))
+        (λ l u. box-lt ρ l (select-mem (outside p) (box P s ρ) l u .0))
 
-    pub lacking-witness : (ρ : ℕ) (p : RowSet) → T (not (eqb (lacking t s ρ p) 0))
-        → (j : ℕ) × (j < length t) × T (mem j (lacking t s ρ p)) × T (not (mem j p))
+    pub lacking-witness : (ρ : ℕ) (p : RowSet) → T (not (eqb (lacking P s ρ p) 0))
+        → (j : ℕ) × (j < length t) × T (mem j (lacking P s ρ p)) × T (not (mem j p))
     unfolding lacking
     lacking-witness ρ p h =
         let (j, u) = fromList-witness (lackingRows ρ p) h in
-        let (v, n) = select-mem (outside p) (box t s ρ) j u in
+        let (v, n) = select-mem (outside p) (box P s ρ) j u in
         (j, box-lt ρ j v, mem-lacking ρ p j v n, n)

@@ -10,16 +10,16 @@ use mathlib.Core.Logic.{inl, inr}
 use mathlib.Core.Option.{Option, none, some}
 use Prim.Native.Nat.{ℕ, _+_, _*_, _≤_, _<_}
 use native.Mathlib.Omega.{arith}
-use lib.Dec.{eqb, ltb, leb, ltb→lt, leb→le}
+use lib.Dec.{T, eqb, ltb, leb, eqb→eq, ltb→lt, leb→le}
 use lib.ListN.{length}
 use borrow.Author.Tests.{ltb-false, eqb-true, eqb-false, not-false}
-use Rattle.concepts.specs.Tests.{impossible, or-neither, and-both}
+use Rattle.concepts.specs.Tests.{impossible, or-cases, or-neither, and-both}
 use Rattle.concepts.specs.Lists.{range, every}
 use Rattle.concepts.specs.ListLaws.{getD-mem, mem-range, every-mem, least-below, first-at, first-nowhere, first-none}
 use Rattle.rulefile.specs.Format.{Bytes, firstRow, rowCount, ruleCount, badLength, badCounts, badPlace}
 use Rattle.rulefile.specs.Format.{Check, checks, answerOf, refusal, RuleFile, contents, Reading, refused, accepted, readingOf}
 use Rattle.decoding.specs.Decoding.{Kinds}
-use Rattle.rulefile.specs.Checks.{checkCount, noCheck, checkAt, refusesAt, Passed, PassedAll, Parted}
+use Rattle.rulefile.specs.Checks.{checkCount, noCheck, checkAt, refusesAt, FileRefusal, Passed, PassedAll, Parted}
 
 -- ---- reading, check by check
 
@@ -51,15 +51,19 @@ module _ (kinds : Kinds) (b : Bytes) where
 
   -- ---- the numbers of refusals
 
-  number-at : (i : ℕ) → i < checkCount → (0 < checkAt kinds i .number) × (checkAt kinds i .number ≤ 8)
+  file-refusal : (n : ℕ) → T ((ltb 0 n && leb n 8) || eqb n 16) → FileRefusal n
+  file-refusal n t = elim (or-cases (ltb 0 n && leb n 8) (eqb n 16) t) [
+    | inl h ↦ let (above, most) = and-both (ltb 0 n) (leb n 8) h in inl (ltb→lt 0 n above, leb→le n 8 most)
+    | inr h ↦ inr (eqb→eq n 16 h)
+  ]
+
+  number-at : (i : ℕ) → i < checkCount → FileRefusal (checkAt kinds i .number)
   unfolding range every checks
   number-at i h =
-      let listed : ℕ → Bool = λ k. ltb 0 (checkAt kinds k .number) && leb (checkAt kinds k .number) 8 in
-      let here = every-mem listed (range 0 checkCount) i tt (mem-range 0 checkCount i (omega arith) h) in
-      let (above, most) = and-both (ltb 0 (checkAt kinds i .number)) (leb (checkAt kinds i .number) 8) here in
-      (ltb→lt 0 (checkAt kinds i .number) above, leb→le (checkAt kinds i .number) 8 most)
+      let listed : ℕ → Bool = λ k. (ltb 0 (checkAt kinds k .number) && leb (checkAt kinds k .number) 8) || eqb (checkAt kinds k .number) 16 in
+      file-refusal (checkAt kinds i .number) (every-mem listed (range 0 checkCount) i tt (mem-range 0 checkCount i (omega arith) h))
 
-  pub refused-number : (n : ℕ) → readingOf kinds b ≡ refused n → (0 < n) × (n ≤ 8)
+  pub refused-number : (n : ℕ) → readingOf kinds b ≡ refused n → FileRefusal n
   refused-number n e = elim (least-below (refusesAt kinds b) checkCount) [
     | inl (i, h, p, r) ↦
         let q = reading-refused i h p r in

@@ -1,10 +1,11 @@
 -- The checks by their places in the list, and what the first of them give (01, Refusals, in checking order).
 --
--- In order: how many checks there are, and the check at a place; a file that passed the checks before a place; where the parts of such a file stand.
+-- In order: how many checks there are, and the check at a place; the refusals that they give; a file that passed the checks before a place; where the parts of such a file stand.
 -- A check's number, which a refusal gives, is another thing than its place: `Format.checks` has both. The laws are in CheckLaws.
 -- Assumes nothing.
 use mathlib.Core.Path.{_≡_}
 use mathlib.Core.Bool.{Bool, false}
+use mathlib.Core.Logic.{_⊎_}
 use Prim.Native.Nat.{ℕ, _+_, _*_, _≤_, _<_}
 use lib.ListN.{length, getD}
 use Rattle.concepts.specs.Lists.{NoneBelow}
@@ -13,7 +14,7 @@ use Rattle.decoding.specs.Decoding.{Kinds}
 
 -- the length of the list (`CheckLaws.length-checks`)
 abbrev pub checkCount : ℕ
-checkCount = 8
+checkCount = 9
 
 -- past the end of the list nothing is refused
 abbrev pub noCheck : Check
@@ -25,6 +26,10 @@ checkAt kinds i = getD (checks kinds) i noCheck
 
 abbrev pub refusesAt : Kinds → Bytes → ℕ → Bool
 refusesAt kinds b i = checkAt kinds i .refuses b
+
+-- 1 to 8, and 16
+abbrev pub FileRefusal : ℕ → Type 0
+FileRefusal n = ((0 < n) × (n ≤ 8)) ⊎ (n ≡ 16)
 
 -- none of the first i checks refuses the file
 abbrev pub Passed : Kinds → Bytes → ℕ → Type 0

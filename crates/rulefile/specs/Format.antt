@@ -1,6 +1,6 @@
--- The rule file (01, The rule file; Refusals, in checking order).
+-- The rule file (01, The rule file; Refusals, in checking order; 02, [6]).
 --
--- In order: where the parts of a file stand; the checks 1 to 8; what a file holds; reading. A row's bytes and its concept are in Decoding.
+-- In order: where the parts of a file stand; the checks 1 to 8 and 16; what a file holds; reading. A row's bytes and its concept are in Decoding.
 -- A file is a list of bytes, numbers below 256. Places past its end read as 0.
 -- Which kinds of rows are allowed is a parameter of all that looks at rows; a rule file is read with `ruleKinds`.
 -- Assumes nothing.
@@ -97,12 +97,26 @@ repeated b k = any (sameRow b k) (range 0 k)
 unfoldable pub badRule : Bytes → Bool
 badRule b = any (λ i. leb (rowCount b) (rule b i)) (range 0 (ruleCount b)) || leb (rowCount b) (wantedRow b)
 
+-- row k is of kind 7: an inclusion
+unfoldable pub inclusionAt : Bytes → ℕ → Bool
+inclusionAt b k = ltb k (rowCount b) && eqb (rowByte b k 0) 7
+
+-- such a row serves row k "as an argument"
+unfoldable pub inclusionNamed : Kinds → Bytes → ℕ → Bool
+inclusionNamed kinds b k = any (inclusionAt b) (arguments (conceptIn kinds b k))
+
+-- "if such a row serves as an argument, a rule or the wanted row" (02, [6])
+unfoldable pub inclusionServes : Kinds → Bytes → Bool
+inclusionServes kinds b =
+    someRow b (inclusionNamed kinds b) || (any (λ i. inclusionAt b (rule b i)) (range 0 (ruleCount b)) || inclusionAt b (wantedRow b))
+
 -- the refusal that a check gives, and which files it refuses
 pub record Check : Type 0 where
   pub number : ℕ
   pub refuses : Bytes → Bool
 
--- in checking order. 9 was document 01's "No row has kind 1 or 2"; no file that passes these met it, and the number is not used again (02, [3]; RowZeroLaws)
+-- in checking order. 9 was document 01's "No row has kind 1 or 2"; no file that passes these met it, and the number is not used again (02, [3]; LiteralRowLaws).
+-- "refusal 16, after 8" (02, [6]): a check's place is not its number
 unfoldable pub checks : Kinds → List Check
 checks kinds =
     record { number = 1; refuses = badLength }
@@ -113,6 +127,7 @@ checks kinds =
     ∷ record { number = 6; refuses = λ b. someRow b (badArgument kinds b) }
     ∷ record { number = 7; refuses = λ b. someRow b (repeated b) }
     ∷ record { number = 8; refuses = badRule }
+    ∷ record { number = 16; refuses = inclusionServes kinds }
     ∷ []
 
 -- the number of a check, if it refuses the file

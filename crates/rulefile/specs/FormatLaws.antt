@@ -1,21 +1,21 @@
 -- What the checks give: laws of Format.
 --
--- In order: what an accepted file holds (`Admitted`, `accepted-admitted`, `accepted-length`; of a rule file, `accepted-normal`). What its row 0 is like is in RowZeroLaws.
+-- In order: what an accepted file holds (`Admitted`, `accepted-admitted`, `accepted-length`; of a rule file, `accepted-normal`). That it has a row of kind 1 or 2 is in LiteralRowLaws.
 -- Assumes nothing.
-use mathlib.Core.Path.{_≡_, refl, ap, _∙_}
-use mathlib.Core.Bool.{false}
+use mathlib.Core.Path.{_≡_, refl, sym, ap, _∙_, subst}
+use mathlib.Core.Bool.{false, not, _||_}
 use mathlib.Core.List.{List·Memᴰ, List·Memᴰ·not-nil, List·Memᴰ·eq-of-singleton, Memᴰ·of-map}
 use Prim.Native.Nat.{ℕ, _≤_, _<_}
 use native.Mathlib.Omega.{arith}
-use lib.Dec.{T, leb}
+use lib.Dec.{T, eqb, ltb, leb, leb→le, lt→ltb}
 use lib.ListN.{length}
 use borrow.Author.Tests.{leb-false}
-use Rattle.concepts.specs.Tests.{or-neither, as-false, from-false}
+use Rattle.concepts.specs.Tests.{or-neither, and-both, as-true, as-false, from-false}
 use Rattle.concepts.specs.Lists.{range, any}
 use Rattle.concepts.specs.ListLaws.{range-mem, getD-map-range, length-map-range, map-range-cases, not-any, none-any-range}
-use Rattle.concepts.specs.Concept.{Concept, atomic, conceptAt, arguments, roleOf, Ordered, WellFormed, isNormal, Normal}
-use Rattle.rulefile.specs.Format.{Bytes, rowCount, ruleCount, wantedRow, rowByte, rule, conceptIn, badRow}
-use Rattle.rulefile.specs.Format.{badArgument, badRule, checks, RuleFile, contents, accepted, readingOf, reading}
+use Rattle.concepts.specs.Concept.{Concept, atomic, inclusion, conceptAt, arguments, roleOf, isInclusion, NoInclusion, Serves, asArgument, asRule, asWanted, Ordered, WellFormed, isNormal, Normal}
+use Rattle.rulefile.specs.Format.{Bytes, rowCount, ruleCount, wantedRow, rowByte, rule, someRow, conceptIn, badRow}
+use Rattle.rulefile.specs.Format.{badArgument, badRule, inclusionAt, inclusionNamed, inclusionServes, checks, RuleFile, contents, accepted, readingOf, reading}
 use Rattle.decoding.specs.Decoding.{Kinds, ruleKinds}
 use Rattle.rulefile.specs.Checks.{PassedAll}
 use Rattle.decoding.specs.RowParts.{inRange}
@@ -41,6 +41,14 @@ module _ (kinds : Kinds) (b : Bytes) (passed : PassedAll kinds b) where
   unfolding checks
   row-ordered = none-any-range (badArgument kinds b) (rowCount b) (passed 5 (omega arith))
 
+  inclusions-idle : (someRow b (inclusionNamed kinds b) ≡ false) × (any (λ i. inclusionAt b (rule b i)) (range 0 (ruleCount b)) ≡ false) × (inclusionAt b (wantedRow b) ≡ false)
+  unfolding checks inclusionServes
+  inclusions-idle =
+      let (rows, more) = or-neither (someRow b (inclusionNamed kinds b))
+      (any (λ i. inclusionAt b (rule b i)) (range 0 (ruleCount b)) || inclusionAt b (wantedRow b)) (passed 8 (omega arith)) in
+      let (rules, wanted) = or-neither (any (λ i. inclusionAt b (rule b i)) (range 0 (ruleCount b))) (inclusionAt b (wantedRow b)) more in
+      (rows, rules, wanted)
+
   rows-known : (any (λ i. leb (rowCount b) (rule b i)) (range 0 (ruleCount b)) ≡ false) × (leb (rowCount b) (wantedRow b) ≡ false)
   unfolding checks badRule
   rows-known =
@@ -49,16 +57,16 @@ module _ (kinds : Kinds) (b : Bytes) (passed : PassedAll kinds b) where
   rule-known : (i : ℕ) → i < ruleCount b → rule b i < rowCount b
   rule-known i h = leb-false (rowCount b) (rule b i) (none-any-range (λ j. leb (rowCount b) (rule b j)) (ruleCount b) (rows-known .0) i h)
 
-  wanted-known : wantedRow b < rowCount b
+  pub wanted-known : wantedRow b < rowCount b
   wanted-known = leb-false (rowCount b) (wantedRow b) (rows-known .1)
 
-  argument-lower : (k l : ℕ) → k < rowCount b → List·Memᴰ l (arguments (conceptIn kinds b k)) → l < k
+  pub argument-lower : (k l : ℕ) → k < rowCount b → List·Memᴰ l (arguments (conceptIn kinds b k)) → l < k
   unfolding badArgument
   argument-lower k l h m =
       leb-false k l
       (as-false (leb k l) (not-any (λ j. leb k j) (arguments (conceptIn kinds b k)) l (from-false (badArgument kinds b k) (row-ordered k h)) m))
 
-  rows-length : length (contents kinds b .table) ≡ rowCount b
+  pub rows-length : length (contents kinds b .table) ≡ rowCount b
   rows-length = length-map-range (conceptIn kinds b) 0 (rowCount b)
 
   -- row k, or no row
@@ -90,6 +98,50 @@ module _ (kinds : Kinds) (b : Bytes) (passed : PassedAll kinds b) where
       (λ k h. role-small kinds (rowByte b k 0) (rowByte b k 1) (rowByte b k 2) (rowByte b k 3) (unfold badRow in row-formed k h))
       (λ k. unfold roleOf in omega arith)
 
+  -- ---- no inclusion serves
+
+  pub argument-serves : (k l : ℕ) → k < rowCount b → List·Memᴰ l (arguments (conceptIn kinds b k)) → inclusionAt b l ≡ false
+  unfolding inclusionNamed
+  argument-serves k l h m =
+      as-false (inclusionAt b l) (not-any (inclusionAt b) (arguments (conceptIn kinds b k)) l
+      (from-false (inclusionNamed kinds b k) (none-any-range (inclusionNamed kinds b) (rowCount b) (inclusions-idle .0) k h)) m)
+
+  pub wanted-serves : inclusionAt b (wantedRow b) ≡ false
+  wanted-serves = inclusions-idle .2
+
+  rule-serves : (i : ℕ) → i < ruleCount b → inclusionAt b (rule b i) ≡ false
+  rule-serves = none-any-range (λ i. inclusionAt b (rule b i)) (ruleCount b) (inclusions-idle .1)
+
+  -- what is no inclusion by its bytes is none in the table
+  pub row-none : (k : ℕ) → k < rowCount b → inclusionAt b k ≡ false → isInclusion (conceptIn kinds b k) ≡ false
+  unfolding inclusionAt badRow
+  row-none k h e =
+      let other : eqb (rowByte b k 0) 7 ≡ false = rw (as-true (ltb k (rowCount b)) (lt→ltb k (rowCount b) h)) at e in
+      row-parts kinds (rowByte b k 0) (rowByte b k 1) (rowByte b k 2) (rowByte b k 3) (row-formed k h) .inclusion-is ∙ other
+
+  no-inclusion : (k : ℕ) → inclusionAt b k ≡ false → NoInclusion (contents kinds b .table) k
+  no-inclusion =
+      row-cases (λ k c. inclusionAt b k ≡ false → T (not (isInclusion c))) (λ k h e. from-false (isInclusion (conceptIn kinds b k)) (row-none k h e)) (λ k e. tt)
+
+  -- an argument of a row of the table is one of the row's bytes
+  argument-at : (k : ℕ) {l : ℕ} → List·Memᴰ l (arguments (conceptAt (contents kinds b .table) k)) → inclusionAt b l ≡ false
+  argument-at k {l} =
+      row-cases (λ j c. List·Memᴰ l (arguments c) → inclusionAt b l ≡ false) (λ j h. argument-serves j l h) (λ j m. absurd (List·Memᴰ·not-nil m)) k
+
+  contents-serving : (k : ℕ) → Serves (contents kinds b .table) (contents kinds b .tbox) (contents kinds b .wanted) k → NoInclusion (contents kinds b .table) k
+  contents-serving k (asArgument j m) = no-inclusion k (argument-at j m)
+  contents-serving k (asRule m) =
+      let (i, at, e) = Memᴰ·of-map (rule b) (range 0 (ruleCount b)) m in
+      let (low, high) = range-mem 0 (ruleCount b) i at in
+      no-inclusion k (subst (λ (j : ℕ). inclusionAt b j ≡ false) e (rule-serves i (omega arith)))
+  contents-serving k (asWanted m) = no-inclusion k (subst (λ (j : ℕ). inclusionAt b j ≡ false) (sym (List·Memᴰ·eq-of-singleton m)) wanted-serves)
+
+  contents-inclusions : (k ρ σ : ℕ) → conceptAt (contents kinds b .table) k ≡ inclusion ρ σ → (ρ < 32) × (σ < 32)
+  unfolding inRange
+  contents-inclusions k ρ σ e =
+      let (p, q) = and-both (leb ρ 31) (leb σ 31) (rw e at (contents-range k)) in
+      (omega (arith, leb→le ρ 31 p), omega (arith, leb→le σ 31 q))
+
   contents-rules : (k : ℕ) → List·Memᴰ k (contents kinds b .tbox) → k < length (contents kinds b .table)
   contents-rules k m =
       let (i, at, e) = Memᴰ·of-map (rule b) (range 0 (ruleCount b)) m in
@@ -113,6 +165,8 @@ module _ (kinds : Kinds) (b : Bytes) (passed : PassedAll kinds b) where
           wantedRows = contents-wanted;
           univRole = λ k ρ l e. unfold roleOf in (rw e at (contents-role k));
           existRole = λ k ρ l e. unfold roleOf in (rw e at (contents-role k));
+          inclusionRoles = contents-inclusions;
+          serving = contents-serving;
         };
         inRange = contents-range;
       }

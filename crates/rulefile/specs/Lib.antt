@@ -4,6 +4,6 @@ pub mod Checks
 pub mod Read
 pub mod CheckLaws
 pub mod FormatLaws
-pub mod RowZeroLaws
+pub mod LiteralRowLaws
 pub mod ReadLaws
 pub mod PartLaws

@@ -1,15 +1,20 @@
--- Laws of what the reader answers: the layout of an accepted file, and the text as a leading part of the file.
+-- Laws of what the reader answers: the layout of an accepted file, the text as a leading part of the file, and files without an inclusion.
 -- Assumes nothing.
-use mathlib.Core.Path.{_≡_, refl}
+use mathlib.Core.Path.{_≡_, refl, ap₂}
+use mathlib.Core.Bool.{false, _||_}
 use mathlib.Core.List.{[], map}
 use mathlib.Core.Option.{Option, none, some}
 use Prim.Native.Nat.{ℕ}
+use native.Mathlib.Decide.{decLt}
 use native.Mathlib.Omega.{arith}
+use lib.Dec.{ltb, ltb→lt, not-T}
 use lib.ListN.{length, take}
 use lib.Seq.{length-take-le}
+use Rattle.concepts.specs.Tests.{as-false}
 use Rattle.concepts.specs.Lists.{range}
-use Rattle.concepts.specs.ListLaws.{length-map-range, take-length-take}
-use Rattle.rulefile.specs.Format.{Bytes, firstRow, rowCount, ruleCount, conceptIn, rule, refusal, RuleFile, contents, Reading, refused, accepted, readingOf, textOf}
+use Rattle.concepts.specs.ListLaws.{length-map-range, take-length-take, any-none, none-any-range}
+use Rattle.concepts.specs.Concept.{arguments}
+use Rattle.rulefile.specs.Format.{Bytes, firstRow, rowCount, ruleCount, wantedRow, someRow, conceptIn, rule, inclusionAt, inclusionNamed, inclusionServes, refusal, RuleFile, contents, Reading, refused, accepted, readingOf, textOf}
 use Rattle.decoding.specs.Decoding.{Kinds}
 use Rattle.rulefile.specs.Checks.{Parted}
 use Rattle.rulefile.specs.Read.{layoutOf, trailerLayout}
@@ -45,3 +50,18 @@ module _ (kinds : Kinds) (b : Bytes) where
       of : (o : Option ℕ) → take (length (text o)) b ≡ text o
       of (some n) = refl
       of none = take-length-take (firstRow b) b
+
+-- ---- inclusions
+
+-- where no row is of kind 7, none serves
+pub none-serves : (kinds : Kinds) (b : Bytes) → someRow b (inclusionAt b) ≡ false → inclusionServes kinds b ≡ false
+unfolding inclusionServes inclusionNamed
+none-serves kinds b e =
+    ap₂ _||_ (any-none (inclusionNamed kinds b) (range 0 (rowCount b)) (λ k _. any-none (inclusionAt b) (arguments (conceptIn kinds b k)) (λ l _. none l)))
+    (ap₂ _||_ (any-none (λ i. inclusionAt b (rule b i)) (range 0 (ruleCount b)) (λ i _. none (rule b i))) (none (wantedRow b)))
+  where
+    none : (k : ℕ) → inclusionAt b k ≡ false
+    none k = elim (decLt k (rowCount b)) [
+      | yes h ↦ none-any-range (inclusionAt b) (rowCount b) e k h
+      | no n ↦ unfold inclusionAt in (rw (as-false (ltb k (rowCount b)) (not-T (ltb k (rowCount b)) (λ t. n (ltb→lt k (rowCount b) t)))))
+    ]

@@ -1,6 +1,6 @@
-// The reader of rule files (01, The rule file; Refusals, in checking order).
+// The reader of rule files (01, The rule file; Refusals, in checking order; 02, [6]).
 //
-// In order: the answer; the bounds; the trailer, a row's bytes and a rule; checks 1 to 4; what checks 5 to 8 look for in a row or
+// In order: the answer; the bounds; the trailer, a row's bytes and a rule; checks 1 to 4; what checks 5 to 8 and 16 look for in a row or
 // rule; the search for it; check by check; the reader; the parts of an accepted file.
 // Which kinds of rows are allowed is a parameter, `kinds`, as in `decoding`. A rule file is read with its RULE_KINDS.
 ghost use mathlib.Core.Path.{_≡_};
@@ -24,18 +24,21 @@ pub struct Layout {
     pub wanted: usize,
 }
 
-// A file is refused with the number of the first check that fails, 1 to 8, or accepted.
+// A file is refused with the number of the first check that fails, 1 to 8 or 16, or accepted.
 pub enum Outcome {
     Refused(u8),
     Accepted(Layout),
 }
 
-// What check 5, 6, 7 and 8 looks for in each row or rule.
+// What checks 5, 6, 7 and 8 look for in each row or rule; then, for check 16, rows of kind 7, rows that name one, rules that do.
 enum Finding {
     Malformed,
     Argument,
     Repeated,
     Rule,
+    Inclusion,
+    InclusionNamed,
+    InclusionRule,
 }
 
 // "Length 8 to 4,096 bytes"; "The trailer is the last 8 bytes".
@@ -51,9 +54,12 @@ const MOST_RULES: u8 = 64;
 const ROW: usize = 4;
 
 // The refusals of the checks, in checking order.
-const CHECKS: usize = 8;
+const CHECKS: usize = 9;
 
-const NUMBERS: [u8; CHECKS] = [1, 2, 3, 4, 5, 6, 7, 8];
+const NUMBERS: [u8; CHECKS] = [1, 2, 3, 4, 5, 6, 7, 8, 16];
+
+// The kind of an inclusion.
+const INCLUSION: u8 = 7;
 
 // The wanted row stands four bytes before the end of a file.
 const WANTED: usize = 4;
@@ -178,6 +184,30 @@ fn bad_argument(file: &[u8], kinds: u16, k: usize) -> bool
     names_from(row_at(file, kinds, k), k)
 }
 
+// Whether there is a row k, and it is of kind 7.
+fn is_inclusion(file: &[u8], k: usize) -> bool
+    requires { ⌜ Parted (now file) ⌝ }
+    ensures { λ r. ⌜ r ≡ Format.inclusionAt (now (file .entry)) k ⌝ }
+{
+    if k < row_count(file) as usize {
+        return row_byte(file, k, 0) == INCLUSION;
+    }
+    false
+}
+
+// Whether row k names a row of kind 7.
+fn names_inclusion(file: &[u8], kinds: u16, k: usize) -> bool
+    requires { ⌜ Parted (now file) × (k < Format.rowCount (now file)) ⌝ }
+    ensures { λ r. ⌜ r ≡ Format.inclusionNamed kinds (now (file .entry)) k ⌝ }
+{
+    match row_at(file, kinds, k) {
+        Row::Malformed => false,
+        Row::Nullary => false,
+        Row::Unary(l) => is_inclusion(file, l as usize),
+        Row::Binary(l, r) => is_inclusion(file, l as usize) | is_inclusion(file, r as usize),
+    }
+}
+
 // Whether rows j and k have the same four bytes.
 fn same_row(file: &[u8], j: usize, k: usize) -> bool
     requires { ⌜ Parted (now file) × (j < Format.rowCount (now file)) × (k < Format.rowCount (now file)) ⌝ }
@@ -209,10 +239,10 @@ fn extent(file: &[u8], finding: Finding) -> usize
     requires { ⌜ 8 ≤ length (now file) ⌝ }
     ensures { λ r. ⌜ r ≡ extent finding (now (file .entry)) ⌝ }
 {
-    if let Finding::Rule = finding {
-        rule_count(file) as usize
-    } else {
-        row_count(file) as usize
+    match finding {
+        Finding::Rule => rule_count(file) as usize,
+        Finding::InclusionRule => rule_count(file) as usize,
+        _ => row_count(file) as usize,
     }
 }
 
@@ -226,6 +256,9 @@ fn found_at(file: &[u8], kinds: u16, finding: Finding, i: usize) -> bool
         Finding::Argument => bad_argument(file, kinds, i),
         Finding::Repeated => repeated(file, i),
         Finding::Rule => row_count(file) <= rule(file, i),
+        Finding::Inclusion => is_inclusion(file, i),
+        Finding::InclusionNamed => names_inclusion(file, kinds, i),
+        Finding::InclusionRule => is_inclusion(file, rule(file, i) as usize),
     }
 }
 
@@ -253,6 +286,19 @@ fn bad_rule(file: &[u8], kinds: u16) -> bool
     found(file, kinds, Finding::Rule) | (row_count(file) <= wanted_row(file))
 }
 
+// Whether a row of kind 7 serves as an argument, a rule or the wanted row: check 16. Most files have none.
+fn inclusion_serves(file: &[u8], kinds: u16) -> bool
+    requires { ⌜ Parted (now file) ⌝ }
+    ensures { λ r. ⌜ r ≡ Format.inclusionServes kinds (now (file .entry)) ⌝ }
+{
+    if !found(file, kinds, Finding::Inclusion) {
+        return false;
+    }
+    found(file, kinds, Finding::InclusionNamed)
+        | (found(file, kinds, Finding::InclusionRule)
+            | is_inclusion(file, wanted_row(file) as usize))
+}
+
 // Whether the check at place i refuses the file, which passed the checks before it.
 fn refuses(file: &[u8], kinds: u16, i: usize) -> bool
     requires { ⌜ (i < checkCount) × Passed kinds (now file) i ⌝ }
@@ -266,7 +312,8 @@ fn refuses(file: &[u8], kinds: u16, i: usize) -> bool
         4 => found(file, kinds, Finding::Malformed),
         5 => found(file, kinds, Finding::Argument),
         6 => found(file, kinds, Finding::Repeated),
-        _ => bad_rule(file, kinds),
+        7 => bad_rule(file, kinds),
+        _ => inclusion_serves(file, kinds),
     }
 }
 

@@ -14,7 +14,7 @@ use Rattle.rulefile.proofs.number.Statement.{statement}
 use Rattle.rulefile.proofs.number.Tie as tie
 
 abbrev numbers : List ℕ
-numbers = 1 ∷ 2 ∷ 3 ∷ 4 ∷ 5 ∷ 6 ∷ 7 ∷ 8 ∷ []
+numbers = 1 ∷ 2 ∷ 3 ∷ 4 ∷ 5 ∷ 6 ∷ 7 ∷ 8 ∷ 16 ∷ []
 
 returns : tie.Need-returns
 unfolding range every checks

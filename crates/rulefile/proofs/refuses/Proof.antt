@@ -13,16 +13,16 @@ use Rattle.rulefile.proofs.refuses.Tie as tie
 
 -- the last arm is that of the last check
 last-arm : (i : ℕ) → i < checkCount
-    → ((((((Unit {0} × (i ≡ 0 → ⊥)) × (i ≡ 1 → ⊥)) × (i ≡ 2 → ⊥)) × (i ≡ 3 → ⊥)) × (i ≡ 4 → ⊥)) × (i ≡ 5 → ⊥)) × (i ≡ 6 → ⊥)
-    → i ≡ 7
+    → (((((((Unit {0} × (i ≡ 0 → ⊥)) × (i ≡ 1 → ⊥)) × (i ≡ 2 → ⊥)) × (i ≡ 3 → ⊥)) × (i ≡ 4 → ⊥)) × (i ≡ 5 → ⊥)) × (i ≡ 6 → ⊥)) × (i ≡ 7 → ⊥)
+    → i ≡ 8
 last-arm i l r =
-    last (past-three (r .0 .0 .0 .0 .0 .0 .1) (r .0 .0 .0 .0 .0 .1) (r .0 .0 .0 .0 .1) (r .0 .0 .0 .1)) (r .0 .0 .1) (r .0 .1) (r .1)
+    last (past-three (r .0 .0 .0 .0 .0 .0 .0 .1) (r .0 .0 .0 .0 .0 .0 .1) (r .0 .0 .0 .0 .0 .1) (r .0 .0 .0 .0 .1)) (r .0 .0 .0 .1) (r .0 .0 .1) (r .0 .1) (r .1)
   where
     past-three : (i ≡ 0 → ⊥) → (i ≡ 1 → ⊥) → (i ≡ 2 → ⊥) → (i ≡ 3 → ⊥) → 3 < i
     past-three h₀ h₁ h₂ h₃ = omega arith
 
-    last : 3 < i → (i ≡ 4 → ⊥) → (i ≡ 5 → ⊥) → (i ≡ 6 → ⊥) → i ≡ 7
-    last h h₄ h₅ h₆ = omega arith
+    last : 3 < i → (i ≡ 4 → ⊥) → (i ≡ 5 → ⊥) → (i ≡ 6 → ⊥) → (i ≡ 7 → ⊥) → i ≡ 8
+    last h h₄ h₅ h₆ h₇ = omega arith
 
 bad-mark-requires : tie.Need-bad-mark-requires
 bad-mark-requires c κs = long (c .before .before .args .kinds) (c .before .before .args .file .now) (c .before .before .pre .1) (omega (arith, c .match))
@@ -43,7 +43,10 @@ found-requires-3 : tie.Need-found-requires-3
 found-requires-3 c κs = parted (c .before .before .args .kinds) (c .before .before .args .file .now) (c .before .before .pre .1) (omega (arith, c .match))
 
 bad-rule-requires : tie.Need-bad-rule-requires
-bad-rule-requires c κs =
+bad-rule-requires c κs = parted (c .before .before .args .kinds) (c .before .before .args .file .now) (c .before .before .pre .1) (omega (arith, c .match))
+
+inclusion-serves-requires : tie.Need-inclusion-serves-requires
+inclusion-serves-requires c κs =
     let s = c .before .before in
     parted (s .args .kinds) (s .args .file .now) (s .pre .1) (omega (arith, last-arm (s .args .i) (s .pre .0) (c .match .rest)))
 
@@ -77,12 +80,16 @@ returns-7 c = rw (c .before .match .keys7) (c .found3 .ensures)
 
 returns-8 : tie.Need-returns-8
 unfolding checks extent foundAt
-returns-8 c =
+returns-8 c = rw (c .before .match .keys8) (c .bad-rule .ensures)
+
+returns-9 : tie.Need-returns-9
+unfolding checks extent foundAt
+returns-9 c =
     let s = c .before .before .before in
-    rw (last-arm (s .args .i) (s .pre .0) (c .before .match .rest)) (c .bad-rule .ensures)
+    rw (last-arm (s .args .i) (s .pre .0) (c .before .match .rest)) (c .inclusion-serves .ensures)
 
 pub refuses-spec : {M : Type 1} → statement M
 refuses-spec =
     tie.close (tie.spec
     (λ c κs. search needs) bad-mark-requires bad-counts-requires bad-place-requires found-requires found-requires-2 found-requires-3 bad-rule-requires
-    returns returns-2 returns-3 returns-4 returns-5 returns-6 returns-7 returns-8)
+    inclusion-serves-requires returns returns-2 returns-3 returns-4 returns-5 returns-6 returns-7 returns-8 returns-9)
