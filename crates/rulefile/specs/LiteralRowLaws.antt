@@ -38,18 +38,18 @@ literalAt b k = eqb (rowByte b k 0) 1 || eqb (rowByte b k 0) 2
 module _ (kinds : Kinds) (b : Bytes) (passed : PassedAll kinds b) where
   -- from a row that is no inclusion
   literal-below : (bound k : ℕ) → k < bound → k < rowCount b → inclusionAt b k ≡ false → (j : ℕ) × (j < rowCount b) × (literalAt b j ≡ true)
-  literal-below zero k h inside none = absurd (not-suc-le-zero h)
-  literal-below (suc bound) k h inside none = by-arguments (arguments (conceptIn kinds b k)) refl (literal-below bound)
+  unfolding badRow
+  literal-below zero k h inside idle = absurd (not-suc-le-zero h)
+  literal-below (suc bound) k h inside idle = by-arguments (arguments (conceptIn kinds b k)) refl (literal-below bound)
     where
       by-arguments : (ls : List ℕ) → arguments (conceptIn kinds b k) ≡ ls
           → ((l : ℕ) → l < bound → l < rowCount b → inclusionAt b l ≡ false → (j : ℕ) × (j < rowCount b) × (literalAt b j ≡ true))
           → (j : ℕ) × (j < rowCount b) × (literalAt b j ≡ true)
-      unfolding badRow
       by-arguments [] e rest = (
         k,
         inside,
         literal-kind kinds (rowByte b k 0) (rowByte b k 1) (rowByte b k 2) (rowByte b k 3) (row-formed kinds b passed k inside) e
-            (row-none kinds b passed k inside none),
+            (row-none kinds b passed k inside idle),
       )
       by-arguments (l ∷ ls) e rest =
           let there : List·Memᴰ l (arguments (conceptIn kinds b k)) = subst (λ (js : List ℕ). List·Memᴰ l js) (sym e) (List·Memᴰ·head refl) in

@@ -1,31 +1,27 @@
+-- `rulefile::is_inclusion` meets its contract: a row that is there is an inclusion by its kind.
+-- Assumes nothing.
+use mathlib.Core.Path.{sym, ap, _∙_}
+use Prim.Native.Nat.{ℕ}
+use native.Mathlib.Omega.{arith}
+use lib.Dec.{eqb}
 use borrow.Author.Needs.{needs}
+use Rattle.rulefile.specs.ReadLaws.{inclusion-row, inclusion-past}
 use Rattle.rulefile.proofs.is_inclusion.Statement.{statement}
 use Rattle.rulefile.proofs.is_inclusion.Tie as tie
-use Rattle.rulefile.proofs.is_inclusion.Reads as reads
-use Rattle.rulefile.proofs.is_inclusion.Lts as lts
-use Rattle.rulefile.proofs.row_byte.Reads as row-byte-reads
-use Rattle.rulefile.proofs.row_count.Reads as row-count-reads
 
--- src/lib.rt:192:12
-row-count-requires : tie.Need-row-count-requires
-row-count-requires c κs = search needs
-
--- src/lib.rt:192:12
-cast-if1 : tie.Need-cast-if1
-cast-if1 c = search needs
-
--- src/lib.rt:193:16
-row-byte-requires : tie.Need-row-byte-requires
-row-byte-requires c κs = search needs
-
--- src/lib.rt:193:9
 returns : tie.Need-returns
-returns c = ?
+returns c =
+    let begun : tie.Start = search in
+    let a = begun .args in
+    ap (λ (x : ℕ). eqb x 7) (c .row-byte .ensures) ∙ sym (inclusion-row (a .file .now) (a .k) (omega (arith, c .before .if1 .taken, c .before .before .row-count .ensures)))
 
--- src/lib.rt:188:1
 returns-2 : tie.Need-returns-2
-returns-2 c = ?
+returns-2 c =
+    let begun : tie.Start = search in
+    let a = begun .args in
+    sym (inclusion-past (a .file .now) (a .k) (omega (arith, c .if1 .left, c .before .row-count .ensures)))
 
 pub is-inclusion-spec : {M : Type 1} → statement M
 is-inclusion-spec =
-    tie.close (tie.spec row-count-requires cast-if1 row-byte-requires returns returns-2)
+    tie.close (tie.spec
+    (λ c κs. search needs) (λ c. search needs) (λ c κs. search needs) returns returns-2)
