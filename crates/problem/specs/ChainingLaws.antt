@@ -1,13 +1,13 @@
 -- Laws of Chaining: after all inclusions the words are a decoded problem (`placed-decoded`, `included-decoded`).
 --
--- In order: words made one by one; words left as they are; each role narrower than itself; a pair of roles more; the table; row by row; all.
+-- In order: words made one by one; words left as they are; each role narrower than itself; a pair of roles more; the table, and what is said of the rows; row by row; all.
 -- Assumes nothing.
 use mathlib.Core.Path.{_≡_, refl, sym, ap, ap₂, _∙_, subst}
 use mathlib.Core.Bool.{Bool, true, false, _&&_, _||_, cond}
 use mathlib.Core.List.{List, map}
 use mathlib.Core.Logic.{_⊎_, inl, inr}
 use mathlib.Core.Option.{none, some}
-use Prim.Native.Nat.{ℕ, suc, _+_, _≤_, _<_}
+use Prim.Native.Nat.{ℕ, suc, _+_, _/_, _%_, _^_, _≤_, _<_}
 use native.Mathlib.Decide.{ℕ-discrete, decLt}
 use native.Mathlib.Omega.{arith}
 use lib.Dec.{T, eqb, ltb}
@@ -27,7 +27,7 @@ use Rattle.concepts.specs.RowSetLaws.{mem-union, mem-single}
 use Rattle.decoding.specs.RowParts.{kindOf}
 use Rattle.decoding.specs.RowPartLaws.{views-by-parts}
 use Rattle.problem.specs.Layout.{countAt, rulesAt, wantedAt, kindsAt, universalsAt, rowsAt, narrowsAt}
-use Rattle.problem.specs.Decoded.{countOf, partOf, rowOf, tableOf, Picked, universal, noInclusion, RowsDecoded, Reaching, Narrowing, DecodedFrom}
+use Rattle.problem.specs.Decoded.{countOf, partOf, rowOf, tableOf, Picked, universal, Narrows, noInclusion, RowsDecoded, Reaching, Narrowing, DecodedFrom}
 use Rattle.problem.specs.DecodedLaws.{length-tableOf, word-parts, inclusion-roles, same-only}
 use Rattle.problem.specs.Writing.{Placed}
 use Rattle.problem.specs.Chaining.{Beside, Remade, joining, Sames, JoinsUniversals, JoinsNarrows, RowsKept, Chains, withRow, RolesAt, IncludesRow, Included}
@@ -99,20 +99,32 @@ kept-narrows B = record { longs = B .longs; low = λ i h. B .others i (inl (omeg
 
 -- ---- each role is narrower than itself
 
+pub single-narrows : (σ : ℕ) → σ < 32 → Narrows eqb σ (single σ)
+single-narrows σ h = record { codes = λ ρ. mem-single ρ σ ∙ below ρ }
+  where
+    below : (ρ : ℕ) → eqb ρ σ ≡ (ltb ρ 32 && eqb ρ σ)
+    below ρ = elim (ℕ-discrete ρ σ) [
+      | yes e ↦ sym (ap (λ (x : Bool). x && eqb ρ σ) (lt-ltb ρ 32 (omega arith)))
+      | no d ↦ ne-eqb ρ σ d ∙ sym (ap (λ (x : Bool). ltb ρ 32 && x) (ne-eqb ρ σ d) ∙ and-nothing (ltb ρ 32))
+    ]
+
 module _ {w v : List ℕ} (S : Sames 32 w v) where
   pub sames-narrowing : Narrowing eqb v
-  sames-narrowing σ h = record { codes = λ ρ. ap (mem ρ) (S .made σ h) ∙ mem-single ρ σ ∙ below ρ }
-    where
-      below : (ρ : ℕ) → eqb ρ σ ≡ (ltb ρ 32 && eqb ρ σ)
-      below ρ = elim (ℕ-discrete ρ σ) [
-        | yes e ↦ sym (ap (λ (x : Bool). x && eqb ρ σ) (lt-ltb ρ 32 (omega arith)))
-        | no d ↦ ne-eqb ρ σ d ∙ sym (ap (λ (x : Bool). ltb ρ 32 && x) (ne-eqb ρ σ d) ∙ and-nothing (ltb ρ 32))
-      ]
+  sames-narrowing σ h = subst (Narrows eqb σ) (sym (S .made σ h)) (single-narrows σ h)
 
   pub sames-reaching : (t : Table) (R : Relation) → Reaching t R w → Reaching t R v
   sames-reaching t R reach ρ h = subst (Picked t (universal R ρ)) (sym (S .beside .others (universalsAt + ρ) (inl (omega arith)))) (reach ρ h)
 
 -- ---- a pair of roles more
+
+-- by the bit of a code
+pub joined-in : (σ s z : ℕ) {n x : ℕ} → s / 2 ^ σ % 2 ≡ 1 → n ≡ x → union z n ≡ joining (mem σ s) x z
+unfolding mem
+joined-in σ s z {n} {x} h e = ap (union z) e ∙ sym (ap (λ (y : Bool). joining y x z) (eq-eqb (s / 2 ^ σ % 2) 1 h))
+
+pub joined-out : (σ s x z : ℕ) → (s / 2 ^ σ % 2 ≡ 1 → ⊥) → z ≡ joining (mem σ s) x z
+unfolding mem
+joined-out σ s x z n = sym (ap (λ (y : Bool). joining y x z) (ne-eqb (s / 2 ^ σ % 2) 1 n))
 
 mem-joining : (k : ℕ) (test : Bool) (x s : ℕ) → mem k (joining test x s) ≡ (mem k s || (test && mem k x))
 mem-joining k true x s = mem-union k s x
@@ -174,6 +186,23 @@ module _ {w v : List ℕ} (K : RowsKept w v) (few : countOf w ≤ 64) where
       ap (λ (n : ℕ). map (rowOf v) (range 0 n)) count-kept
       ∙ map-same (rowOf v) (rowOf w) (range 0 (countOf w)) (λ k m. row-kept k (omega (arith, range-mem 0 (countOf w) k m .1)))
 
+-- what the words say of the rows
+pub rows-kept : {w v : List ℕ} → RowsDecoded w → RowsKept w v → RowsDecoded v
+rows-kept {w} {v} ok K =
+    let same = table-kept K (ok .few) in
+    record {
+      enough = omega (arith, K .longs, ok .enough);
+      few = omega (arith, K .low countAt (omega arith), ok .few);
+      formed = λ k h.
+          let l : k < countOf w = omega (arith, K .low countAt (omega arith)) in
+          rw (K .high (rowsAt + k) (omega arith) (omega (arith, ok .few))) (ok .formed k l);
+      ordered = rw same (ok .ordered);
+      kinds = λ kind h. rw (same, K .low (kindsAt + kind) (omega arith)) (ok .kinds kind h);
+      ruleRows = λ k m. rw same (ok .ruleRows k (rw (K .low rulesAt (omega arith)) at m));
+      wantedRows = λ k m. rw same (ok .wantedRows k (rw (K .low wantedAt (omega arith)) at m));
+      argumentRows = rw same (ok .argumentRows);
+    }
+
 -- ---- row by row
 
 -- the inclusion in row k, if row k is one
@@ -205,13 +234,6 @@ module _ {w : List ℕ} {k : ℕ} where
 module _ {w : List ℕ} (ok : RowsDecoded w) where
   abbrev t : Table
   t = tableOf w
-
-  pub included-none : {v : List ℕ} → Reaching t eqb w → Sames 32 w v → Included w 0 v
-  included-none {v} reach S = record {
-    kept = kept-narrows (S .beside);
-    reaching = subst (λ (Q : Relation). Reaching t Q v) (sym (by-none t)) (sames-reaching S t eqb reach);
-    narrowing = subst (λ (Q : Relation). Narrowing Q v) (sym (by-none t)) (sames-narrowing S);
-  }
 
   -- by row n, in the words of the start
   row-relation : (n : ℕ) → n < countOf w → narrowerBy t (n + 1) ≡ withRow w n (narrowerBy t n)
@@ -267,44 +289,40 @@ module _ {b tbox wanted w : List ℕ} (P : Placed b tbox wanted w) where
     wanted-are = P .wanted-are;
   }
 
-  module _ {v : List ℕ} (I : Included w (countOf w) v) where
-    ok : RowsDecoded w
-    ok = P .rows
+  -- with each role narrower than itself, nothing is included yet
+  pub placed-sames : {v : List ℕ} → Sames 32 w v → Placed b tbox wanted v × Included v 0 v
+  placed-sames {v} S =
+      let K = kept-narrows (S .beside) in
+      let same = table-kept K (P .rows .few) in
+      let reach : Reaching (tableOf v) eqb v = subst (λ (t : Table). Reaching t eqb v) (sym same) (sames-reaching S (tableOf w) eqb (P .universals)) in (
+        record {
+          rows = rows-kept (P .rows) K;
+          universals = reach;
+          table-is = same ∙ P .table-is;
+          rules-are = K .low rulesAt (omega arith) ∙ P .rules-are;
+          wanted-are = K .low wantedAt (omega arith) ∙ P .wanted-are;
+        },
+        record {
+          kept = kept-refl v;
+          reaching = subst (λ (Q : Relation). Reaching (tableOf v) Q v) (sym (by-none (tableOf v))) reach;
+          narrowing = subst (λ (Q : Relation). Narrowing Q v) (sym (by-none (tableOf v))) (sames-narrowing S);
+        },
+      )
 
-    K : RowsKept w v
-    K = I .kept
-
-    same : tableOf v ≡ tableOf w
-    same = table-kept K (ok .few)
-
-    low : (i : ℕ) → i < universalsAt → getD v i 0 ≡ getD w i 0
-    low = K .low
-
-    rows-decoded : RowsDecoded v
-    rows-decoded = record {
-      enough = omega (arith, K .longs, ok .enough);
-      few = omega (arith, low countAt (omega arith), ok .few);
-      formed = λ k h.
-          let l : k < countOf w = omega (arith, low countAt (omega arith)) in
-          rw (K .high (rowsAt + k) (omega arith) (omega (arith, ok .few))) (ok .formed k l);
-      ordered = rw same (ok .ordered);
-      kinds = λ kind h. rw (same, low (kindsAt + kind) (omega arith)) (ok .kinds kind h);
-      ruleRows = λ k m. rw same (ok .ruleRows k (rw (low rulesAt (omega arith)) at m));
-      wantedRows = λ k m. rw same (ok .wantedRows k (rw (low wantedAt (omega arith)) at m));
-      argumentRows = rw same (ok .argumentRows);
-    }
-
-    relation : narrowerBy (tableOf w) (countOf w) ≡ narrower (tableOf v)
-    relation = ap (narrowerBy (tableOf w)) (sym (length-tableOf w)) ∙ sym (narrower-all (tableOf w)) ∙ ap narrower (sym same)
-
-    pub included-decoded : DecodedFrom b tbox wanted v
-    included-decoded = record {
-      decoded = record {
-        rows = rows-decoded;
-        universals = subst (λ (Q : Relation). Reaching (tableOf v) Q v) relation (subst (λ (t : Table). Reaching t (narrowerBy (tableOf w) (countOf w)) v) (sym same) (I .reaching));
-        narrows = λ _. subst (λ (Q : Relation). Narrowing Q v) relation (I .narrowing);
-      };
-      table-is = same ∙ P .table-is;
-      rules-are = low rulesAt (omega arith) ∙ P .rules-are;
-      wanted-are = low wantedAt (omega arith) ∙ P .wanted-are;
-    }
+  -- with the inclusions of all rows they are complete
+  pub included-decoded : {v : List ℕ} → Included w (countOf w) v → DecodedFrom b tbox wanted v
+  included-decoded {v} I =
+      let K = I .kept in
+      let same = table-kept K (P .rows .few) in
+      let all : narrowerBy (tableOf w) (countOf w) ≡ narrower (tableOf v) =
+          ap (narrowerBy (tableOf w)) (sym (length-tableOf w)) ∙ sym (narrower-all (tableOf w)) ∙ ap narrower (sym same) in
+      record {
+        decoded = record {
+          rows = rows-kept (P .rows) K;
+          universals = subst (λ (t : Table). Reaching t (narrower (tableOf v)) v) (sym same) (subst (λ (Q : Relation). Reaching (tableOf w) Q v) all (I .reaching));
+          narrows = λ _. subst (λ (Q : Relation). Narrowing Q v) all (I .narrowing);
+        };
+        table-is = same ∙ P .table-is;
+        rules-are = K .low rulesAt (omega arith) ∙ P .rules-are;
+        wanted-are = K .low wantedAt (omega arith) ∙ P .wanted-are;
+      }

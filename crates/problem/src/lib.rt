@@ -4,18 +4,18 @@
 // inverse of a role; the rules and the wanted rows.
 ghost use mathlib.Core.Path.{_≡_};
 ghost use Prim.Native.Nat.{_+_, _≤_, _<_};
-ghost use lib.Dec.{eqb};
-ghost use lib.ListN.{length, set};
+ghost use lib.ListN.{length, getD, set};
 ghost use Rattle.concepts.specs.Role as Role;
 ghost use Rattle.concepts.specs.Concept.{conceptAt, roleOf};
 ghost use Rattle.concepts.specs.Inclusion.{narrower};
+ghost use Rattle.concepts.specs.RowSet.{union};
 ghost use Rattle.decoding.specs.RowParts.{kindOf, leftOf, rightOf};
 ghost use Rattle.decoding.specs.Decoding.{ruleKinds};
 ghost use Rattle.rowset.specs.Value.{valueOf, width};
 ghost use Rattle.rulefile.specs.Read.{Laid};
 ghost use Rattle.problem.specs.Rows.{rowByte, rowCount, Rows, ListsRows};
 ghost use Rattle.problem.specs.Layout.{rowsAt, room};
-ghost use Rattle.problem.specs.Decoded.{countOf, tableOf, rulesOf, wantedOf, Picked, ofKind, universal, Narrows, RowsDecoded, Reaching, Decoded, DecodedFrom};
+ghost use Rattle.problem.specs.Decoded.{countOf, tableOf, rulesOf, wantedOf, Picked, ofKind, universal, Narrows, RowsDecoded, Decoded, DecodedFrom};
 ghost use Rattle.problem.specs.FileProblem.{FileDecoded};
 ghost use Rattle.problem.specs.Writing.{mark, along, putRow, putSingles, ClearedTo, Partly};
 ghost use Rattle.problem.specs.Chaining.{Sames, JoinsUniversals, JoinsNarrows, Chains, RolesAt, IncludesRow, Included};
@@ -87,6 +87,15 @@ fn put_mark(out: &mut [u64], i: usize, k: usize)
 {
     let s = rowset::load(out, i);
     rowset::store(out, i, rowset::insert(s, k));
+}
+
+// Adds rows to the set in word i.
+fn put_union(out: &mut [u64], i: usize, rows: RowSet)
+    requires { ⌜ i < length (now out) ⌝ }
+    ensures { λ _. ⌜ now (out .exit) ≡ set (now (out .entry)) i (union (getD (now (out .entry)) i 0) (valueOf rows)) ⌝ }
+{
+    let s = rowset::load(out, i);
+    rowset::store(out, i, rowset::union(s, rows));
 }
 
 // Writes row k.
@@ -165,8 +174,7 @@ fn join_universals(out: &mut [u64], narrow: usize, wide: usize)
     let mut code: usize = 0;
     while code < ROLES {
         if (narrower >> code) % 2 == 1 {
-            let rows = rowset::load(out, UNIVERSALS + code);
-            rowset::store(out, UNIVERSALS + code, rowset::union(rows, reached));
+            put_union(out, UNIVERSALS + code, reached);
         }
         code += 1;
     }
@@ -213,11 +221,10 @@ fn put_inclusion(out: &mut [u64], k: usize)
 
 // All inclusions, row by row.
 fn put_inclusions(out: &mut [u64])
-    requires { ⌜ RowsDecoded (now out) × Reaching (tableOf (now out)) eqb (now out) ⌝ }
+    requires { ⌜ RowsDecoded (now out) × Included (now out) 0 (now out) ⌝ }
     ensures { λ _. ⌜ Included (now (out .entry)) (countOf (now (out .entry))) (now (out .exit)) ⌝ }
 {
     let n = out[COUNT] as usize;
-    put_sames(out);
     let mut k: usize = 0;
     while k < n {
         put_inclusion(out, k);
@@ -235,6 +242,7 @@ pub fn decode(rows: &[u8], rules: &[u8], wanted: &[u8], out: &mut [u64])
     put_rows(rows, out);
     put_singles(out, rows.len() / ROW, rule_set, wanted_set);
     if !rowset::is_empty(rowset::load(out, KINDS + INCLUSION)) {
+        put_sames(out);
         put_inclusions(out);
     }
 }

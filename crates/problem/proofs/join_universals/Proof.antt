@@ -1,105 +1,79 @@
+-- `problem::join_universals` meets its contract: the invariant is that the words so far have joined.
+-- Assumes nothing.
+use mathlib.Core.Path.{_≡_, refl, sym, ap, _∙_, subst}
+use mathlib.Core.List.{List}
+use mathlib.Core.Logic.{inl, inr}
+use Prim.Native.Nat.{ℕ, _+_, _-_, _≤_}
+use native.Mathlib.Omega.{arith}
+use lib.ListN.{getD}
+use borrow.Author.Needs.{needs}
+use Rattle.concepts.specs.RowSet.{mem, union}
+use Rattle.rowset.specs.Value.{valueOf}
+use Rattle.problem.specs.Layout.{universalsAt, narrowsAt}
+use Rattle.problem.specs.Chaining.{joining, JoinsUniversals}
+use Rattle.problem.specs.ChainingLaws.{remade-none, remade-written, remade-kept, joined-in, joined-out}
 use Rattle.problem.proofs.join_universals.Statement.{statement}
 use Rattle.problem.proofs.join_universals.Tie as tie
-use Rattle.problem.proofs.join_universals.Reads as reads
-use Rattle.problem.proofs.join_universals.Lts as lts
-use Rattle.rowset.proofs.load.Reads as load-reads
-use Rattle.rowset.proofs.store.Reads as store-reads
-use Rattle.rowset.proofs.union.Reads as union-reads
 
 abbrev Inv-loop : tie.InvT-loop
-Inv-loop out₀ narrow wide narrower reached code₀ out code = ?
+Inv-loop out₀ narrow wide narrower reached code₀ out code =
+    (narrower ≡ getD out₀ (narrowsAt + narrow) 0) × (valueOf reached ≡ getD out₀ (universalsAt + wide) 0) × (code ≤ 32) × JoinsUniversals code narrow wide out₀ out
 
 abbrev μ-loop : tie.MeasureT-loop
-μ-loop out₀ narrow wide narrower reached code₀ out code = ?
+μ-loop out₀ narrow wide narrower reached code₀ out code = 32 - code
 
--- src/lib.rt:163:24
-add-narrower : tie.Need-add-narrower Inv-loop μ-loop
-add-narrower c = ?
+abbrev At : (tie.InvT-loop → tie.MeasureT-loop → Type 0) → Type 0
+At P = P Inv-loop μ-loop
 
--- src/lib.rt:163:20
-mul-narrower : tie.Need-mul-narrower Inv-loop μ-loop
-mul-narrower c = ?
-
--- src/lib.rt:163:20
-slice-read-narrower : tie.Need-slice-read-narrower Inv-loop μ-loop
-slice-read-narrower c = ?
-
--- src/lib.rt:164:37
-add-load : tie.Need-add-load Inv-loop μ-loop
-add-load c = ?
-
--- src/lib.rt:164:9
-load-requires : tie.Need-load-requires Inv-loop μ-loop
-load-requires c κs = ?
-
--- src/lib.rt:166:5
 loop-holds : tie.Need-loop-holds Inv-loop μ-loop
-loop-holds c = ?
+loop-holds c =
+    let s : At tie.Start = search in
+    let a = s .args in
+    let w = a .out .now in
+    (refl, c .load .ensures, omega arith, remade-none universalsAt (λ x. joining (mem x (getD w (narrowsAt + a .narrow) 0)) (getD w (universalsAt + a .wide) 0)) w)
 
--- src/lib.rt:167:13
-shr-if1 : tie.Need-shr-if1 Inv-loop μ-loop
-shr-if1 c = ?
-
--- src/lib.rt:168:42
-add-load-2 : tie.Need-add-load-2 Inv-loop μ-loop
-add-load-2 c = ?
-
--- src/lib.rt:168:17
-load-requires-2 : tie.Need-load-requires-2 Inv-loop μ-loop
-load-requires-2 c κs = ?
-
--- src/lib.rt:169:32
-add-store : tie.Need-add-store Inv-loop μ-loop
-add-store c = ?
-
--- src/lib.rt:169:51
-union-requires : tie.Need-union-requires Inv-loop μ-loop
-union-requires c κs = ?
-
--- src/lib.rt:169:13
-store-requires : tie.Need-store-requires Inv-loop μ-loop
-store-requires c κs = ?
-
--- src/lib.rt:171:9
-add-code : tie.Need-add-code Inv-loop μ-loop
-add-code c = ?
-
--- src/lib.rt:166:5
-loop-less : tie.Need-loop-less Inv-loop μ-loop
-loop-less c = ?
-
--- src/lib.rt:166:5
 loop-again : tie.Need-loop-again Inv-loop μ-loop
-loop-again c = ?
+loop-again c =
+    let s : At tie.Start = search in
+    let l : At tie.At-loop = search in
+    let a = s .args in
+    let w = a .out .now in
+    let (is, reached, few, joins) = l .loop .inv in
+    let code = l .loop .code in
+    let rows = getD (l .loop .out) (universalsAt + code) 0 in
+    let narrower = getD w (narrowsAt + a .narrow) 0 in (
+      is,
+      reached,
+      omega arith,
+      elim (c .if1 .came) [
+        | inl (taken, lent, joined, out, known, e) ↦
+            subst (JoinsUniversals (code + 1) (a .narrow) (a .wide) w) (sym (joined .ensures) ∙ sym e)
+            (remade-written joins (omega (arith, s .pre .2)) (joined-in code narrower rows (rw is at (taken .taken)) reached))
+        | inr (other, e) ↦
+            subst (JoinsUniversals (code + 1) (a .narrow) (a .wide) w) (sym e)
+            (remade-kept joins (joined-out code narrower (getD w (universalsAt + a .wide) 0) rows (rw is at (other .left))))
+      ],
+    )
 
--- src/lib.rt:159:1
-same-length : tie.Need-same-length Inv-loop μ-loop
-same-length c = ?
-
--- src/lib.rt:159:1
 returns : tie.Need-returns Inv-loop μ-loop
-returns c = ?
+returns c =
+    let l = c .before .loop in
+    let all : l .code ≡ 32 = omega arith in
+    rw all at (l .inv .3)
 
 pub join-universals-spec : {M : Type 1} → statement M
 join-universals-spec =
-    tie.close
-    (tie.spec
-    Inv-loop
-    μ-loop
-    add-narrower
-    mul-narrower
-    slice-read-narrower
-    add-load
-    load-requires
-    loop-holds
-    shr-if1
-    add-load-2
-    load-requires-2
-    add-store
-    union-requires
-    store-requires
-    add-code
-    loop-less
-    loop-again
-    same-length
-    returns)
+    tie.close (tie.spec Inv-loop μ-loop
+    -- out[NARROWS + narrow], rowset::load(out, UNIVERSALS + wide)
+    (λ c. let s : At tie.Start = search in omega (arith, s .pre)) (λ c. let s : At tie.Start = search in omega (arith, s .pre))
+    (λ c. let s : At tie.Start = search in omega (arith, s .pre .0, s .pre .2)) (λ c. let s : At tie.Start = search in omega (arith, s .pre))
+    (λ c κs. let s : At tie.Start = search in omega (arith, s .pre .1, s .pre .2)) loop-holds
+    -- narrower >> code, put_union(out, UNIVERSALS + code, reached)
+    (λ c. omega arith)
+    (λ c. let l : At tie.In-loop = search in omega (arith, l .loop-test .taken))
+    (λ c κs. let s : At tie.Start = search in let i : At tie.In-loop = search in let l : At tie.At-loop = search in
+    omega (arith, l .loop .inv .3 .beside .longs, s .pre .2, i .loop-test .taken))
+    -- the loop again
+    (λ c. let l : At tie.In-loop = search in omega (arith, l .loop-test .taken)) (λ c. let l : At tie.In-loop = search in omega (arith, l .loop-test .taken)) loop-again
+    -- the end
+    (λ c. c .before .loop .inv .3 .beside .longs) returns)

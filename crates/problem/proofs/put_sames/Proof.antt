@@ -1,67 +1,46 @@
+-- `problem::put_sames` meets its contract: the invariant is that each role so far is narrower than itself.
+-- Assumes nothing.
+use mathlib.Core.Path.{_≡_, refl, _∙_}
+use Prim.Native.Nat.{_*_, _-_, _%_, _^_, _≤_}
+use native.Mathlib.Nat.{one-mul}
+use native.Mathlib.Omega.{arith}
+use lib.Pow.{shl-exact}
+use Rattle.concepts.specs.RowSet.{single}
+use Rattle.problem.specs.Layout.{narrowsAt}
+use Rattle.problem.specs.Chaining.{Sames}
+use Rattle.problem.specs.ChainingLaws.{remade-none, remade-written}
 use Rattle.problem.proofs.put_sames.Statement.{statement}
 use Rattle.problem.proofs.put_sames.Tie as tie
-use Rattle.problem.proofs.put_sames.Reads as reads
-use Rattle.problem.proofs.put_sames.Lts as lts
 
 abbrev Inv-loop : tie.InvT-loop
-Inv-loop out₀ code₀ out code = ?
+Inv-loop out₀ code₀ out code = (code ≤ 32) × Sames code out₀ out
 
 abbrev μ-loop : tie.MeasureT-loop
-μ-loop out₀ code₀ out code = ?
+μ-loop out₀ code₀ out code = 32 - code
 
--- src/lib.rt:152:5
 loop-holds : tie.Need-loop-holds Inv-loop μ-loop
-loop-holds c = ?
+loop-holds c = (omega arith, remade-none narrowsAt (λ σ _. single σ) (c .args .out .now))
 
--- src/lib.rt:153:31
-shl-out : tie.Need-shl-out Inv-loop μ-loop
-shl-out c = ?
-
--- src/lib.rt:153:13
-add-out : tie.Need-add-out Inv-loop μ-loop
-add-out c = ?
-
--- src/lib.rt:153:9
-mul-out : tie.Need-mul-out Inv-loop μ-loop
-mul-out c = ?
-
--- src/lib.rt:153:9
 slice-write-out : tie.Need-slice-write-out Inv-loop μ-loop
-slice-write-out c = ?
+slice-write-out c = omega (arith, c .before .loop .inv .1 .beside .longs, c .before .before .pre)
 
--- src/lib.rt:154:9
-add-code : tie.Need-add-code Inv-loop μ-loop
-add-code c = ?
-
--- src/lib.rt:152:5
-loop-less : tie.Need-loop-less Inv-loop μ-loop
-loop-less c = ?
-
--- src/lib.rt:152:5
 loop-again : tie.Need-loop-again Inv-loop μ-loop
-loop-again c = ?
+unfolding single
+loop-again c =
+    let l = c .before .loop in
+    let e : (1 * 2 ^ l .code) % 2 ^ 64 ≡ 2 ^ l .code = shl-exact 1 (l .code) 64 (omega arith) (omega arith) ∙ one-mul (2 ^ l .code) in
+    (omega arith, remade-written (l .inv .1) (omega (arith, c .before .before .pre)) e)
 
--- src/lib.rt:147:1
 same-length : tie.Need-same-length Inv-loop μ-loop
-same-length c = ?
+same-length c = c .before .loop .inv .1 .beside .longs
 
--- src/lib.rt:147:1
 returns : tie.Need-returns Inv-loop μ-loop
-returns c = ?
+returns c =
+    let l = c .before .loop in
+    let all : l .code ≡ 32 = omega arith in
+    rw all at (l .inv .1)
 
 pub put-sames-spec : {M : Type 1} → statement M
 put-sames-spec =
-    tie.close
-    (tie.spec
-    Inv-loop
-    μ-loop
-    loop-holds
-    shl-out
-    add-out
-    mul-out
-    slice-write-out
-    add-code
-    loop-less
-    loop-again
-    same-length
-    returns)
+    tie.close (tie.spec
+    Inv-loop μ-loop loop-holds (λ c. omega arith) (λ c. omega arith) (λ c. omega arith) slice-write-out (λ c. omega arith) (λ c. omega arith) loop-again same-length returns)
