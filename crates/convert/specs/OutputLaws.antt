@@ -14,7 +14,7 @@ use borrow.Author.Tests.{ltb-false}
 use Rattle.concepts.specs.Tests.{or-neither}
 use Rattle.decoding.specs.Decoding.{draftKinds}
 use Rattle.rulefile.specs.Format.{Bytes, RuleFile, Reading, refused, accepted}
-use Rattle.rulefile.specs.CheckLaws.{refused-number}
+use Rattle.rulefile.specs.CheckLaws.{refused-positive}
 use Rattle.run.specs.Printed.{ascii, line}
 use Rattle.run.specs.ProgramLaws.{reading-take}
 use Rattle.drafts.specs.Normalize.{normalized}
@@ -43,7 +43,7 @@ conversion-sound draft room = go (draftReading draft) refl
         ltb-false room bytes (or-neither (ltb 4096 bytes) (ltb room bytes) (or-neither (ltb 64 (length (f .table))) (ltb 4096 bytes || ltb room bytes) e .1) .1)
 
     go : (r : Reading) → draftReading draft ≡ r → Sound room (conversionOf room r)
-    go (refused n) e = refused-number draftKinds draft n e .0
+    go (refused n) e = refused-positive draftKinds draft n e
     go (accepted d) e = fits (normalized d) (tooLarge room (normalized d)) refl
 
 -- ---- a file is written
