@@ -6,4 +6,5 @@ pub mod CheckLaws
 pub mod FormatLaws
 pub mod LiteralRowLaws
 pub mod ReadLaws
+pub mod FormerLaws
 pub mod PartLaws

@@ -83,7 +83,7 @@ accepted-holds-literal kinds b f e =
 -- ---- the check that was taken out
 
 -- a check that refuses no file that the checks before it let pass can be taken out
-spare-check : (cs : List Check) (c : Check) (b : Bytes) → (refusalBy cs b ≡ none → c .refuses b ≡ false) → refusalBy (cs ++ (c ∷ [])) b ≡ refusalBy cs b
+pub spare-check : (cs : List Check) (c : Check) (b : Bytes) → (refusalBy cs b ≡ none → c .refuses b ≡ false) → refusalBy (cs ++ (c ∷ [])) b ≡ refusalBy cs b
 unfolding first
 spare-check [] c b h = alone (c .refuses b) (h refl)
   where
