@@ -1,33 +1,32 @@
 -- The ways through the functions that follow links, on plain values.
 --
--- In order: one way followed; the loop over the links.
+-- In order: one way followed; a way, if it counts; a link, taken both ways; the loop over the links.
 -- Assumes nothing.
 use mathlib.Core.Path.{_≡_, refl, sym, ap, ap₂, _∙_, subst}
 use mathlib.Core.Bool.{Bool, true, false, not, _||_, cond, Bool·beq}
-use mathlib.Core.List.{List, [], _∷_, _++_}
-use mathlib.Core.Logic.{inl, inr}
+use mathlib.Core.List.{List}
 use Prim.Native.Nat.{ℕ, _+_, _*_, _≤_, _<_}
 use native.Mathlib.Decide.{ℕ-discrete}
 use native.Mathlib.Omega.{arith}
-use lib.Dec.{eqb, eqb→eq}
+use lib.Dec.{eqb}
 use lib.ListN.{length}
-use borrow.Author.Tests.{eq-eqb, ne-eqb, eqb-false}
-use Rattle.concepts.specs.Tests.{impossible, or-cases, or-neither, from-true}
+use borrow.Author.Tests.{eq-eqb, ne-eqb}
+use Rattle.concepts.specs.Tests.{impossible, or-neither}
 use Rattle.concepts.specs.Lists.{range, any}
 use Rattle.concepts.specs.ListLaws.{range-more}
-use Rattle.concepts.specs.Role.{inverse}
 use Rattle.concepts.specs.RowSet.{RowSet, mem}
 use Rattle.meaning.specs.Given.{RoleLink}
 use Rattle.words.specs.Words.{putLe}
 use Rattle.words.specs.Sizes.{setSize}
 use Rattle.rowset.specs.Value.{width}
+use Rattle.evaluation.specs.declared.Ways.{Ways}
 use Rattle.evaluation.specs.Layout.{Bytes, elementAt, linkAt, linksIn}
 use Rattle.evaluation.specs.Holding.{Holding, updated}
 use Rattle.evaluation.specs.HoldingLaws.{hold-get, hold-put, hold-same}
-use Rattle.evaluation.specs.Steps.{withRow, turned, byLinks, stepped, afterLinks}
+use Rattle.evaluation.specs.Steps.{withRow, turned, byLinks, stepped, taken, afterLinks}
 use Rattle.evaluation.specs.StepLaws.{withRow-lt}
-use Rattle.evaluation.specs.LinkLaws.{link-onward, link-backward, link-other}
-use Rattle.evaluation.specs.Contracts.{FillGives, FollowAsks, FollowGives, LinksAsk, AlongGives}
+use Rattle.evaluation.specs.LinkLaws.{link-more}
+use Rattle.evaluation.specs.Contracts.{FillGives, FollowGives, LinksAsk, codes, afterFirst, LinkAsks, LinkGives, AlongGives}
 
 -- ---- one way followed
 
@@ -79,28 +78,70 @@ module _ {before : Bytes} (d : ℕ) {e k left : ℕ} {all there : Bool} (A : The
       by-place f c step (yes p) = rw (eq-eqb c d p) (ap f p ∙ sym step)
       by-place f c step (no n) = rw (ne-eqb c d n)
 
+-- ---- a way, if it counts
+
+-- a way from d to e was followed, if it counts
+pub record Taken (counts : Bool) (before : Bytes) (d e k left : ℕ) (all : Bool) (after : Bytes) : Type 0 where
+  pub size : length after ≡ length before
+  pub holds : (base : Bytes) (m : ℕ) (f : ℕ → RowSet) → d < m → e < m → Holding base m f before → Holding base m (taken counts all k left f d e) after
+
+module _ {counts : Bool} {before : Bytes} {d e k left : ℕ} {all : Bool} {after : Bytes} where
+  pub way-followed : {now : Bytes} → counts ≡ true → length now ≡ length before → FollowGives before d e k left all now → after ≡ now → Taken counts before d e k left all after
+  way-followed c size G h = record {
+    size = ap length h ∙ size;
+    holds = λ base m f hd he H.
+        subst (Holding base m (taken counts all k left f d e)) (sym h)
+        (hold-same (G .holds base m f hd he H) (λ x _. ap (λ (b : Bool). taken b all k left f d e x) (sym c)));
+  }
+
+  pub way-passed : counts ≡ false → after ≡ before → Taken counts before d e k left all after
+  way-passed c h = record {
+    size = ap length h;
+    holds = λ base m f hd he H.
+        subst (Holding base m (taken counts all k left f d e)) (sym h) (hold-same H (λ x _. ap (λ (b : Bool). taken b all k left f d e x) (sym c)));
+  }
+
+-- ---- a link
+
+-- the code of link i was read, and which ways count for it
+pub record CodeRead (links : Bytes) (i : ℕ) (ways : Ways) (on back : Bool) : Type 0 where
+  pub on-is : on ≡ codes (ways .onward) (linkAt links i .role)
+  pub back-is : back ≡ codes (ways .backward) (linkAt links i .role)
+
+module _ {links : Bytes} {i k left : ℕ} {ways : Ways} (hl : left < k) {on back : Bool} (R : CodeRead links i ways on back) where
+  -- what the links and one more give
+  more : (all : Bool) (f : ℕ → RowSet) (d : ℕ)
+      → taken back all k left (taken on all k left (afterFirst links k ways left all f i) (linkAt links i .from) (linkAt links i .to)) (linkAt links i .to) (linkAt links i .from) d
+      ≡ afterFirst links k ways left all f (i + 1) d
+  more all f d =
+      let on-codes = codes (ways .onward) in
+      let back-codes = codes (ways .backward) in
+      rw (R .on-is, R .back-is)
+      (link-more all k left (λ e. absurd (omega (arith, hl))) f on-codes back-codes (linksIn links i) (linkAt links i) d
+      ∙ ap (λ (ls : List RoleLink). afterLinks all on-codes back-codes k left f ls d) (sym (range-more (linkAt links) i)))
+
+  -- it is taken onward, then backward
+  pub link-taken : {all : Bool} {before between after : Bytes} {from to : ℕ} → from ≡ linkAt links i .from → to ≡ linkAt links i .to
+      → Taken on before from to k left all between → Taken back between to from k left all after → LinkGives before links i k ways left all after
+  link-taken {all} hf ht O B = record {
+    holds = λ base m f inside over H.
+        let first = O .holds base m (afterFirst links k ways left all f i) (rw hf inside) (rw ht over) H in
+        hold-same (B .holds base m _ (rw ht over) (rw hf inside) first) (λ d _. rw (hf, ht) (more all f d));
+  }
+
+  -- no way counts
+  pub link-passed : (on || back) ≡ false → {all : Bool} {before : Bytes} → LinkGives before links i k ways left all before
+  link-passed none = let (a, b) = or-neither on back none in link-taken refl refl (way-passed a refl) (way-passed b refl)
+
 -- ---- the loop over the links
 
--- the code's test, whether a code is one of two
-pub the-other : {a b c : ℕ} → (eqb a b || eqb a c) ≡ true → (a ≡ b → ⊥) → a ≡ c
-the-other {a} {b} {c} h n = elim (or-cases (eqb a b) (eqb a c) (from-true _ h)) [ inl p ↦ absurd (n (eqb→eq a b p)) | inr p ↦ eqb→eq a c p ]
-
-pub neither : {a b c : ℕ} → (eqb a b || eqb a c) ≡ false → (a ≡ b → ⊥) × (a ≡ c → ⊥)
-neither {a} {b} {c} h = let (p, q) = or-neither (eqb a b) (eqb a c) h in (eqb-false a b p, eqb-false a c q)
-
--- link i was read
-pub record LinkRead (links : Bytes) (i code from to : ℕ) : Type 0 where
-  pub code-is : code ≡ linkAt links i .role
-  pub from-is : from ≡ linkAt links i .from
-  pub to-is : to ≡ linkAt links i .to
-
 -- the first i links have been followed, since row k was put as it is without links
-pub record Followed (m : ℕ) (links : Bytes) (k ρ left : ℕ) (all : Bool) (filled : Bytes) (i : ℕ) (area : Bytes) : Type 0 where
+pub record Followed (m : ℕ) (links : Bytes) (k : ℕ) (ways : Ways) (left : ℕ) (all : Bool) (filled : Bytes) (i : ℕ) (area : Bytes) : Type 0 where
   pub size : length area ≡ length filled
-  pub holds : (base : Bytes) (f : ℕ → RowSet) → Holding base m (λ d. withRow k all (f d)) filled → Holding base m (afterLinks all ρ k left f (linksIn links i)) area
+  pub holds : (base : Bytes) (f : ℕ → RowSet) → Holding base m (λ d. withRow k all (f d)) filled → Holding base m (afterFirst links k ways left all f i) area
 
-module _ {m : ℕ} {links : Bytes} {k ρ left : ℕ} {all : Bool} {filled : Bytes} where
-  pub followed-none : Followed m links k ρ left all filled 0 filled
+module _ {m : ℕ} {links : Bytes} {k : ℕ} {ways : Ways} {left : ℕ} {all : Bool} {filled : Bytes} where
+  pub followed-none : Followed m links k ways left all filled 0 filled
   unfolding byLinks range any
   followed-none = record { size = refl; holds = λ base f H. hold-same H (λ d h. ap (λ (x : Bool). withRow k x (f d)) (sym (none all))) }
     where
@@ -108,65 +149,18 @@ module _ {m : ℕ} {links : Bytes} {k ρ left : ℕ} {all : Bool} {filled : Byte
       none true = refl
       none false = refl
 
-  module _ {n i : ℕ} {area : Bytes} (A : LinksAsk m links n) (hl : left < k) (F : Followed m links k ρ left all filled i area) (hi : i < n)
-      {code from to : ℕ} (R : LinkRead links i code from to) where
-    abbrev l : RoleLink
-    l = linkAt links i
+  module _ {n i : ℕ} {area : Bytes} (A : LinksAsk m links n) (F : Followed m links k ways left all filled i area) (hi : i < n) where
+    -- there is room for the ends of the link
+    pub followed-asks : setSize * m ≤ length filled → k < width → left < k → LinkAsks area links i k left
+    followed-asks room hk hl =
+        let (inside, over) = A .ends i hi in
+        record { room = omega (arith, A .room); from = omega (arith, inside, F .size); to = omega (arith, over, F .size); row = hk; argument = hl }
 
-    -- what the links and one more give
-    more : (f : ℕ → RowSet) (d : ℕ) → afterLinks all ρ k left f (linksIn links i ++ l ∷ []) d ≡ afterLinks all ρ k left f (linksIn links (i + 1)) d
-    more f d = ap (λ (ls : List RoleLink). afterLinks all ρ k left f ls d) (sym (range-more (linkAt links) i))
+    pub followed-more : {after : Bytes} → length after ≡ length area → LinkGives area links i k ways left all after → Followed m links k ways left all filled (i + 1) after
+    followed-more size G = let (inside, over) = A .ends i hi in record { size = size ∙ F .size; holds = λ base f H. G .holds base m f inside over (F .holds base f H) }
 
-    apart : left ≡ k → ⊥
-    apart e = absurd (omega (arith, hl))
-
-    -- the ends are elements
-    pub from-lt : from < m
-    from-lt = omega (arith, R .from-is, A .ends i hi .0)
-
-    pub to-lt : to < m
-    to-lt = omega (arith, R .to-is, A .ends i hi .1)
-
-    -- there is room for them
-    module _ (room : setSize * m ≤ length filled) (hk : k < width) where
-      pub onward-asks : FollowAsks area from to k left
-      onward-asks = record { from = omega (arith, from-lt, F .size); to = omega (arith, to-lt, F .size); row = hk; argument = omega arith }
-
-      pub backward-asks : FollowAsks area to from k left
-      backward-asks = record { from = omega (arith, to-lt, F .size); to = omega (arith, from-lt, F .size); row = hk; argument = omega arith }
-
-    pub followed-onward : {area′ area″ : Bytes} → code ≡ ρ → length area′ ≡ length area → FollowGives area from to k left all area′ → area″ ≡ area′
-        → Followed m links k ρ left all filled (i + 1) area″
-    followed-onward {area′} e size G h = record {
-      size = ap length h ∙ size ∙ F .size;
-      holds = λ base f H.
-          let stepped-to = G .holds base m (afterLinks all ρ k left f (linksIn links i)) from-lt to-lt (F .holds base f H) in
-          subst (Holding base m (afterLinks all ρ k left f (linksIn links (i + 1)))) (sym h)
-          (hold-same stepped-to (λ d _. rw (R .from-is, R .to-is) (link-onward all ρ k left apart f (linksIn links i) l (sym (R .code-is) ∙ e) d) ∙ more f d));
-    }
-
-    pub followed-backward : {area′ area″ : Bytes} → code ≡ inverse ρ → length area′ ≡ length area → FollowGives area to from k left all area′ → area″ ≡ area′
-        → Followed m links k ρ left all filled (i + 1) area″
-    followed-backward {area′} e size G h = record {
-      size = ap length h ∙ size ∙ F .size;
-      holds = λ base f H.
-          let stepped-to = G .holds base m (afterLinks all ρ k left f (linksIn links i)) to-lt from-lt (F .holds base f H) in
-          subst (Holding base m (afterLinks all ρ k left f (linksIn links (i + 1)))) (sym h)
-          (hold-same stepped-to (λ d _. rw (R .from-is, R .to-is) (link-backward all ρ k left apart f (linksIn links i) l (sym (R .code-is) ∙ e) d) ∙ more f d));
-    }
-
-    pub followed-other : {area″ : Bytes} → (code ≡ ρ → ⊥) → (code ≡ inverse ρ → ⊥) → area″ ≡ area → Followed m links k ρ left all filled (i + 1) area″
-    followed-other a b h = record {
-      size = ap length h ∙ F .size;
-      holds = λ base f H.
-          subst (Holding base m (afterLinks all ρ k left f (linksIn links (i + 1)))) (sym h)
-          (hold-same (F .holds base f H) (λ d _.
-          link-other all ρ k left apart f (linksIn links i) l (λ e. a (R .code-is ∙ e)) (λ e. b (R .code-is ∙ e)) d ∙ more f d));
-    }
-
-  pub followed-all : {before : Bytes} {n i : ℕ} {area : Bytes} → FillGives before m k all filled → Followed m links k ρ left all filled i area → i ≡ n
-      → AlongGives before m links n k ρ left all area
+  pub followed-all : {before : Bytes} {n i : ℕ} {area : Bytes} → FillGives before m k all filled → Followed m links k ways left all filled i area → i ≡ n
+      → AlongGives before m links n k ways left all area
   followed-all {area = area} G F e = record {
-    holds = λ base f absent H.
-        subst (λ (j : ℕ). Holding base m (afterLinks all ρ k left f (linksIn links j)) area) e (F .holds base f (G .holds base f absent H));
+    holds = λ base f absent H. subst (λ (j : ℕ). Holding base m (afterFirst links k ways left all f j) area) e (F .holds base f (G .holds base f absent H));
   }

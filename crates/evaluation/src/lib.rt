@@ -4,15 +4,17 @@
 ghost use mathlib.Core.Path.{_≡_};
 ghost use Prim.Native.Nat.{_+_, _*_, _≤_, _<_};
 ghost use lib.ListN.{length};
+ghost use Rattle.concepts.specs.Inclusion.{narrower};
+ghost use Rattle.concepts.specs.RowSet.{mem};
 ghost use Rattle.concepts.specs.Lowest.{Within};
 ghost use Rattle.words.specs.Words.{overwrite};
-ghost use Rattle.words.specs.Sizes.{setSize, linkSize};
+ghost use Rattle.words.specs.Sizes.{setSize};
 ghost use Rattle.rowset.specs.Value.{valueOf, width};
 ghost use Rattle.problem.specs.Decoded.{countOf, tableOf, Picked, Decoded};
 ghost use Rattle.evaluation.specs.Evaluation.{evaluated};
 ghost use Rattle.evaluation.specs.Layout.{elementBytes, worldIn};
 ghost use Rattle.evaluation.specs.Steps.{withRow, literal, joined};
-ghost use Rattle.evaluation.specs.Contracts.{Named, BeginGives, LocalGives, FillGives, FollowAsks, FollowGives, AlongAsks, AlongGives, RowGives, EvaluateAsks};
+ghost use Rattle.evaluation.specs.Contracts.{Named, BeginGives, LocalGives, FillGives, FollowAsks, FollowGives, WaysOf, LinkAsks, LinkGives, AlongAsks, AlongGives, RowGives, EvaluateAsks};
 use rowset::RowSet;
 use rowset::SET_BYTES;
 use words::get2;
@@ -32,6 +34,15 @@ const DISJ: usize = 4;
 const UNIV: usize = 5;
 
 const EXIST: usize = 6;
+
+// How many role codes a set of them has room for: code n is bit n of a word.
+const CODES: usize = 64;
+
+// Two sets of role codes: of the links that lead onward, and of those that lead backward.
+struct Ways {
+    onward: u64,
+    backward: u64,
+}
 
 // The set with row k, or without it.
 fn with_row(s: RowSet, k: usize, holds: bool) -> RowSet
@@ -143,6 +154,57 @@ fn follow(elements: &mut [u8], d: usize, e: usize, k: usize, left: usize, all: b
     }
 }
 
+// The ways of a role: it leads onward along the links of narrower roles, and backward along those of roles that are narrower than its inverse.
+fn ways_of(problem: &[u64], role: u8) -> Ways
+    requires { ⌜ Decoded (now problem) × (role < 32) ⌝ }
+    ensures { λ r. ⌜ WaysOf (narrower (tableOf (now (problem .entry)))) role r ⌝ }
+{
+    Ways {
+        onward: problem::narrower(problem, role),
+        backward: problem::narrower(problem, problem::inverse(role)),
+    }
+}
+
+// Whether a code is in a set of role codes. Those are 0 to 31, but a link has room for a larger number.
+fn has(codes: u64, code: usize) -> bool
+    ensures { λ r. ⌜ r ≡ mem code codes ⌝ }
+{
+    if code < CODES {
+        return (codes >> code) % 2 == 1;
+    }
+    false
+}
+
+// Row k, "all" or "some", at the ends of link i, from each from which the role leads to the other.
+fn follow_link(
+    elements: &mut [u8],
+    links: &[u8],
+    i: usize,
+    k: usize,
+    ways: Ways,
+    left: usize,
+    all: bool,
+)
+    requires { ⌜ LinkAsks (now elements) (now links) i k left ⌝ }
+    ensures { λ _. ⌜ LinkGives (now (elements .entry)) (now (links .entry)) i k ways left all (now (elements .exit)) ⌝ }
+{
+    let at = LINK_BYTES * i;
+    let code = get2(links, at + 2) as usize;
+    let onward = has(ways.onward, code);
+    let backward = has(ways.backward, code);
+    if !(onward | backward) {
+        return;
+    }
+    let from = get2(links, at) as usize;
+    let to = get2(links, at + 4) as usize;
+    if onward {
+        follow(elements, from, to, k, left, all);
+    }
+    if backward {
+        follow(elements, to, from, k, left, all);
+    }
+}
+
 // Row k, "all" or "some" along a role, by each link that the role leads along, whichever way the link is taken.
 fn along(
     elements: &mut [u8],
@@ -150,29 +212,17 @@ fn along(
     links: &[u8],
     count: usize,
     k: usize,
-    role: u8,
+    ways: Ways,
     left: usize,
     all: bool,
 )
-    requires { ⌜ AlongAsks (now elements) size (now links) count k role left ⌝ }
-    ensures { λ _. ⌜ AlongGives (now (elements .entry)) size (now (links .entry)) count k role left all (now (elements .exit)) ⌝ }
+    requires { ⌜ AlongAsks (now elements) size (now links) count k left ⌝ }
+    ensures { λ _. ⌜ AlongGives (now (elements .entry)) size (now (links .entry)) count k ways left all (now (elements .exit)) ⌝ }
 {
     fill(elements, size, k, all);
-    let onward = role as u16;
-    let backward = problem::inverse(role) as u16;
     let mut i = 0;
     while i < count {
-        let at = LINK_BYTES * i;
-        let code = get2(links, at + 2);
-        if (code == onward) | (code == backward) {
-            let from = get2(links, at) as usize;
-            let to = get2(links, at + 4) as usize;
-            if code == onward {
-                follow(elements, from, to, k, left, all);
-            } else {
-                follow(elements, to, from, k, left, all);
-            }
-        }
+        follow_link(elements, links, i, k, ways, left, all);
         i += 1;
     }
 }
@@ -202,7 +252,7 @@ fn evaluate_row(
             links,
             count,
             k,
-            problem::role_at(problem, k),
+            ways_of(problem, problem::role_at(problem, k)),
             left,
             kind == UNIV,
         );
@@ -213,7 +263,8 @@ fn evaluate_row(
 pub fn evaluate(problem: &[u64], elements: &mut [u8], size: usize, links: &[u8], count: usize)
     requires { ⌜ EvaluateAsks (now problem) (now elements) size (now links) count ⌝ }
     ensures { λ _. ⌜ now (elements .exit)
-        ≡ overwrite (elementBytes (evaluated (worldIn (now (elements .entry)) size (now (links .entry)) count) (tableOf (now (problem .entry))))) (now (elements .entry)) ⌝ }
+        ≡ overwrite (elementBytes (evaluated (worldIn (narrower (tableOf (now (problem .entry)))) (now (elements .entry)) size (now (links .entry)) count)
+        (tableOf (now (problem .entry))))) (now (elements .entry)) ⌝ }
 {
     begin(problem, elements, size);
     let rows = problem::row_count(problem);
