@@ -38,17 +38,17 @@ formerWorld t x = record { size = length (x .elements); named = worldOf t x .nam
 
 -- the answer to a result, by the world that an example describes
 module _ (world : Example → World) (l : Lengths) (t : Table) where
-  unfoldable shownBy : Graph → Option Example
+  unfoldable pub shownBy : Graph → Option Example
   shownBy g = elim (example t g) [ some x ↦ some (record { elements = evaluated (world x) t; links = x .links }) | none ↦ none ]
 
-  unfoldable rootBy : Status → Graph → Answer
+  unfoldable pub rootBy : Status → Graph → Answer
   rootBy sat g = answerCan l (used g) (shownBy g)
   rootBy «open» g = answerCan l (used g) (shownBy g)
   rootBy unsat g = cannot (used g)
   rootBy toosmall g = cannot (used g)
   rootBy unset g = undefined
 
-  unfoldable resultBy : Result → Answer
+  unfoldable pub resultBy : Result → Answer
   resultBy (reached g) = rootBy (nodeAt g 0 .status) g
   resultBy (noPlace a) = short a (roomFor (capacity l) a)
   resultBy outOfFuel = undefined
@@ -90,7 +90,8 @@ module _ (b : Bytes) (without : WithoutInclusions b) where
     pub world-as-before : worldOf (f .table) ≡ formerWorld (f .table)
     unfolding worldOf
     world-as-before =
-        ap (λ (N : Relation) (x : Example). record { size = length (x .elements); named = worldOf (f .table) x .named; related = pairs N (x .links) }) same-roles
+        let world : Relation → Example → World = λ N x. record { size = length (x .elements); named = worldOf (f .table) x .named; related = pairs N (x .links) } in
+        ap world same-roles
 
   reading-answered : (l : Lengths) (r : Reading) → reading b ≡ r → answerReading l r ≡ formerAnswerReading l r
   unfolding answerReading formerAnswerReading
