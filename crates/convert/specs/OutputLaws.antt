@@ -5,6 +5,7 @@
 use mathlib.Core.Path.{_≡_, refl, sym, ap, _∙_}
 use mathlib.Core.Bool.{Bool, true, false, _||_}
 use mathlib.Core.List.{[], _∷_}
+use mathlib.Core.Logic.{inl, inr}
 use Prim.Native.Nat.{ℕ, _≤_, _<_}
 use native.Mathlib.Omega.{arith}
 use lib.Dec.{ltb}
@@ -43,7 +44,7 @@ conversion-sound draft room = go (draftReading draft) refl
         ltb-false room bytes (or-neither (ltb 4096 bytes) (ltb room bytes) (or-neither (ltb 64 (length (f .table))) (ltb 4096 bytes || ltb room bytes) e .1) .1)
 
     go : (r : Reading) → draftReading draft ≡ r → Sound room (conversionOf room r)
-    go (refused n) e = refused-number draftKinds draft n e .0
+    go (refused n) e = elim (refused-number draftKinds draft n e) [ inl h ↦ h .0 | inr h ↦ omega (arith, h) ]
     go (accepted d) e = fits (normalized d) (tooLarge room (normalized d)) refl
 
 -- ---- a file is written

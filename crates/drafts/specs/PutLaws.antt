@@ -28,10 +28,14 @@ putShape-same f g (binary make s k z l) h out =
     ap (λ (p : Put). share (make (p .at) (f z l (p .rows) .at)) (f z l (p .rows) .rows)) (h s k out (List·Memᴰ·head refl))
     ∙ ap (λ (q : Put). share (make (g s k out .at) (q .at)) (q .rows)) (h z l (g s k out .rows) (List·Memᴰ·tail (List·Memᴰ·head refl)))
 
+-- the rows of what becomes of row k are those that it names
+pub rows-named : (t : Table) (s : Sign) (k l : ℕ) {σ : Shape} → shape (conceptAt t k) s ≡ σ → List·Memᴰ l (shapeRows σ) → List·Memᴰ l (arguments (conceptAt t k))
+rows-named t s k l e m = subst (List·Memᴰ l) (ap shapeRows (sym e) ∙ shape-rows (conceptAt t k) s) m
+
 module _ (t : Table) (ordered : Ordered t) where
-  -- the rows of what becomes of row k are lower
-  pub rows-lower : (s : Sign) (k l : ℕ) → List·Memᴰ l (shapeRows (shape (conceptAt t k) s)) → l < k
-  rows-lower s k l m = ordered k l (subst (List·Memᴰ l) (shape-rows (conceptAt t k) s) m)
+  -- so they are lower
+  rows-lower : (s : Sign) (k l : ℕ) → List·Memᴰ l (shapeRows (shape (conceptAt t k) s)) → l < k
+  rows-lower s k l m = ordered k l (rows-named t s k l refl m)
 
   bound-free : (f g : ℕ) (s : Sign) (k : ℕ) (out : Table) → k < f → k < g → putBelow t f s k out ≡ putBelow t g s k out
   unfolding putBelow
@@ -148,7 +152,7 @@ module _ (t : Table) (ordered : Ordered t) where
     IfIdle s k out p = NoInclusion t k → P s k out p
 
     rows-idle : (s : Sign) (k l : ℕ) {σ : Shape} → shape (conceptAt t k) s ≡ σ → List·Memᴰ l (shapeRows σ) → NoInclusion t l
-    rows-idle s k l e m = idle k l (subst (List·Memᴰ l) (ap shapeRows (sym e) ∙ shape-rows (conceptAt t k) s) m)
+    rows-idle s k l e m = idle k l (rows-named t s k l e m)
 
     idle-step : (s : Sign) (k : ℕ) (σ : Shape) → shape (conceptAt t k) s ≡ σ → GrownStep IfIdle s k σ
     idle-step s k (literal c) e = λ out n. step s k (literal c) n e out
