@@ -16,7 +16,7 @@ use borrow.Author.Tests.{ltb-false}
 use Rattle.concepts.specs.Tests.{or-neither}
 use Rattle.concepts.specs.ListLaws.{getD-mem, mem-getD}
 use Rattle.concepts.specs.Begins.{Begins, begins-refl, begins-trans}
-use Rattle.concepts.specs.Concept.{Concept, atomic, Table, conceptAt, arguments, Ordered, isInclusion, NoInclusion, Serves, asArgument, asRule, asWanted}
+use Rattle.concepts.specs.Concept.{Concept, atomic, Table, conceptAt, Ordered, isInclusion, NoInclusion, Serves, asArgument, asRule, asWanted}
 use Rattle.meaning.specs.Meaning.{World}
 use Rattle.decoding.specs.RowParts.{inRange}
 use Rattle.rulefile.specs.Format.{RuleFile}
@@ -25,7 +25,7 @@ use Rattle.drafts.specs.Normalize.{asIs, stands, Put, put, PutList, putL
 use Rattle.drafts.specs.Encoding.{fileBytes}
 use Rattle.drafts.specs.Conversion.{tooLarge}
 use Rattle.drafts.specs.Promise.{Needed, byRule, byKit, byRow, Same, Keeps}
-use Rattle.drafts.specs.Sound.{Sound, Writable}
+use Rattle.drafts.specs.Sound.{Idle, Sound, Writable}
 use Rattle.drafts.specs.PutLaws.{put-grown}
 use Rattle.drafts.specs.SoundLaws.{put-sound}
 use Rattle.drafts.specs.InclusionRowLaws.{inclusionRows-sound}
@@ -44,7 +44,7 @@ module _ (t : Table) (ordered : Ordered t) (ks places : List ℕ) (u : Table)
   place-listed : length places ≡ length ks → (k : ℕ) → List·Memᴰ k places → k < length u
   place-listed count k m = let (i, h, e) = mem-getD places k 0 m in omega (arith, e, place-inside i (omega arith))
 
-  module _ (idle : (k l : ℕ) → List·Memᴰ l (arguments (conceptAt t k)) → NoInclusion t l) (none : (k : ℕ) → List·Memᴰ k ks → NoInclusion t k) where
+  module _ (idle : Idle t) (none : (k : ℕ) → List·Memᴰ k ks → NoInclusion t k) where
     -- no inclusion
     place-idle : ((k : ℕ) → T (inRange (conceptAt t k))) → Sound u → length places ≡ length ks → (k : ℕ) → List·Memᴰ k places → NoInclusion u k
     place-idle ranged S count k m =
@@ -100,7 +100,7 @@ module _ (draft : RuleFile) (A : Admitted draft) where
 
   -- ---- what serves is no inclusion
 
-  idle : (k l : ℕ) → List·Memᴰ l (arguments (conceptAt t k)) → NoInclusion t l
+  idle : Idle t
   idle k l m = A .wellFormed .serving l (asArgument k m)
 
   rule-none : (k : ℕ) → List·Memᴰ k (draft .tbox) → NoInclusion t k

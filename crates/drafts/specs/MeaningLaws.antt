@@ -1,15 +1,15 @@
 -- In every finite world what is put for a row that is no inclusion holds at the same elements as the row, or as its opposite.
 -- Assumes nothing.
 use mathlib.Core.Path.{_≡_, sym, ap, subst, transport}
-use mathlib.Core.List.{List·Memᴰ}
 use mathlib.Core.Logic.{_↔_, Iff·trans}
 use Prim.Native.Nat.{ℕ}
 use Rattle.concepts.specs.Begins.{Begins, begins-trans}
-use Rattle.concepts.specs.Concept.{Concept, Table, conceptAt, arguments, Ordered, NoInclusion}
+use Rattle.concepts.specs.Concept.{Concept, Table, conceptAt, Ordered, NoInclusion}
 use Rattle.meaning.specs.Meaning.{World, finite, Means, Holds}
 use Rattle.meaning.specs.MeaningLaws.{holds-clause, holds-as}
 use Rattle.meaning.specs.FiniteLaws.{holds-decided}
 use Rattle.drafts.specs.Normalize.{Sign, Shape, literal, other, unary, binary, shape, Put, put}
+use Rattle.drafts.specs.Sound.{Idle}
 use Rattle.drafts.specs.ShareLaws.{Shared, share-gives, shared-here}
 use Rattle.drafts.specs.PutLaws.{GrownStep, put-idle-induction}
 use Rattle.drafts.specs.ShapeMeaning.{Signed, ShapeMeans, shape-means}
@@ -57,6 +57,6 @@ module _ (W : World) (t : Table) (ordered : Ordered t) where
           let left : Begins (p .rows) u = begins-trans (p .rows) (q .rows) u (F .more) right in
           Iff·trans (shared-means S u o b d) (Iff·trans (M u (p .at) (q .at) (H u o left) (K u o right) d) (by-clause s k d))
 
-  pub put-means : ((k l : ℕ) → List·Memᴰ l (arguments (conceptAt t k)) → NoInclusion t l)
-      → (s : Sign) (k : ℕ) (out : Table) → NoInclusion t k → (u : Table) → Ordered u → Begins (put t s k out .rows) u → MeansRow s k u (put t s k out .at)
+  pub put-means : Idle t → (s : Sign) (k : ℕ) (out : Table) → NoInclusion t k → (u : Table) → Ordered u → Begins (put t s k out .rows) u
+      → MeansRow s k u (put t s k out .at)
   put-means idle = put-idle-induction t ordered idle Meant meant-step

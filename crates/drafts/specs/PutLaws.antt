@@ -13,6 +13,7 @@ use lib.ListN.{length}
 use Rattle.concepts.specs.Begins.{Begins, begins-trans}
 use Rattle.concepts.specs.Concept.{Table, conceptAt, arguments, Ordered, NoInclusion}
 use Rattle.drafts.specs.Normalize.{Sign, Shape, literal, other, unary, binary, shape, Put, stands, share, putShape, putBelow, put}
+use Rattle.drafts.specs.Sound.{Idle}
 use Rattle.drafts.specs.ShapeLaws.{shapeRows, shape-rows}
 use Rattle.drafts.specs.ShareLaws.{share-gives, shared-settled}
 
@@ -146,7 +147,7 @@ module _ (t : Table) (ordered : Ordered t) where
 
   -- ---- induction over rows that are no inclusions: the rows that they name are none either
 
-  module _ (idle : (k l : ℕ) → List·Memᴰ l (arguments (conceptAt t k)) → NoInclusion t l) (P : Sign → ℕ → Table → Put → Type 0)
+  module _ (idle : Idle t) (P : Sign → ℕ → Table → Put → Type 0)
       (step : (s : Sign) (k : ℕ) (σ : Shape) → NoInclusion t k → shape (conceptAt t k) s ≡ σ → GrownStep P s k σ) where
     abbrev IfIdle : Sign → ℕ → Table → Put → Type 0
     IfIdle s k out p = NoInclusion t k → P s k out p

@@ -11,10 +11,10 @@ use native.Mathlib.Omega.{arith}
 use lib.Dec.{T}
 use lib.ListN.{length, getD}
 use Rattle.concepts.specs.Begins.{Begins, begins-refl, begins-trans}
-use Rattle.concepts.specs.Concept.{Table, conceptAt, arguments, Ordered, NoInclusion}
+use Rattle.concepts.specs.Concept.{Table, conceptAt, Ordered, NoInclusion}
 use Rattle.decoding.specs.RowParts.{inRange}
 use Rattle.drafts.specs.Normalize.{asIs, Put, stands, put, PutList, putList}
-use Rattle.drafts.specs.Sound.{Sound}
+use Rattle.drafts.specs.Sound.{Idle, Sound}
 use Rattle.drafts.specs.PutLaws.{put-grown}
 use Rattle.drafts.specs.SoundLaws.{put-sound}
 use Rattle.drafts.specs.NeededLaws.{Reaches, reaches-grown, put-reaches}
@@ -57,8 +57,8 @@ module _ (t : Table) (ordered : Ordered t) where
       at p q first rest zero h u b = first u b
       at p q first rest (suc i) h u b = rest i (le-of-suc-le-suc h) u b
 
-  pub putList-sound : ((k l : ℕ) → List·Memᴰ l (arguments (conceptAt t k)) → NoInclusion t l) → ((k : ℕ) → T (inRange (conceptAt t k)))
-      → (ks : List ℕ) → ((k : ℕ) → List·Memᴰ k ks → NoInclusion t k) → (out : Table) → Sound out → Sound (putList t ks out .rows)
+  pub putList-sound : Idle t → ((k : ℕ) → T (inRange (conceptAt t k))) → (ks : List ℕ) → ((k : ℕ) → List·Memᴰ k ks → NoInclusion t k) → (out : Table)
+      → Sound out → Sound (putList t ks out .rows)
   unfolding putList
   putList-sound idle ranged [] none out S = S
   putList-sound idle ranged (k ∷ ks) none out S =

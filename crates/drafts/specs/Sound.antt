@@ -1,4 +1,4 @@
--- What makes a file one that reads as it was written: its rows, and the whole.
+-- What makes a file one that reads as it was written: no inclusion is an argument, the rows, and the whole.
 -- Assumes nothing.
 use mathlib.Core.Path.{_≡_}
 use mathlib.Core.Bool.{false}
@@ -12,10 +12,14 @@ use Rattle.rulefile.specs.Format.{RuleFile}
 use Rattle.drafts.specs.Normalize.{sameRow}
 use Rattle.drafts.specs.Encoding.{fileBytes}
 
+-- no row names an inclusion
+abbrev pub Idle : Table → Type 0
+Idle t = (k l : ℕ) → List·Memᴰ l (arguments (conceptAt t k)) → NoInclusion t l
+
 -- arguments are lower rows, and no inclusions; the kinds are those of a rule file, names and roles are in their range, no two rows are equal
 pub record Sound (t : Table) : Type 0 where
   pub ordered : Ordered t
-  pub idle : (k l : ℕ) → List·Memᴰ l (arguments (conceptAt t k)) → NoInclusion t l
+  pub idle : Idle t
   pub normal : Normal t
   pub ranged : (k : ℕ) → T (inRange (conceptAt t k))
   pub distinct : (j k : ℕ) → j < k → k < length t → sameRow (conceptAt t k) (conceptAt t j) ≡ false

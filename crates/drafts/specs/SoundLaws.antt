@@ -1,6 +1,6 @@
 -- What is written stays sound: arguments are lower rows and no inclusions, kinds are those of a rule file, names and roles in range, no two rows equal.
 --
--- In order: rows that others can name; one row more (`snoc-cases`, `share-sound`); a row with all that it needs (`put-sound`), which is no inclusion (`put-idle`).
+-- In order: rows that others can name; one row more (`snoc-cases`, `share-sound`); a row with all that it needs (`put-sound`), whose place is no inclusion either.
 -- Assumes nothing.
 use mathlib.Core.Path.{_≡_, refl, sym, _∙_, subst}
 use mathlib.Core.Bool.{false, not}
@@ -16,7 +16,7 @@ use Rattle.concepts.specs.Begins.{Begins, begins-length, begins-getD}
 use Rattle.concepts.specs.Concept.{Concept, atomic, Table, conceptAt, arguments, Ordered, isInclusion, NoInclusion, isNormal}
 use Rattle.decoding.specs.RowParts.{inRange}
 use Rattle.drafts.specs.Normalize.{Sign, Shape, literal, other, unary, binary, shape, sameRow, Put, share, put}
-use Rattle.drafts.specs.Sound.{Sound}
+use Rattle.drafts.specs.Sound.{Idle, Sound}
 use Rattle.drafts.specs.ShapeLaws.{RowLike, Written, shape-written}
 use Rattle.drafts.specs.ShareLaws.{equalAt, share-gives, conceptAt-last}
 use Rattle.drafts.specs.PutLaws.{GrownStep, put-idle-induction}
@@ -88,8 +88,7 @@ module _ (c : Concept) (out : Table) where
 
 -- ---- a row with all that it needs
 
-module _ (t : Table) (ordered : Ordered t) (idle : (k l : ℕ) → List·Memᴰ l (arguments (conceptAt t k)) → NoInclusion t l)
-    (ranged : (k : ℕ) → T (inRange (conceptAt t k))) where
+module _ (t : Table) (ordered : Ordered t) (idle : Idle t) (ranged : (k : ℕ) → T (inRange (conceptAt t k))) where
   abbrev Keeps : Sign → ℕ → Table → Put → Type 0
   Keeps s k out p = Sound out → Sound (p .rows) × NoInclusion (p .rows) (p .at)
 
@@ -107,12 +106,12 @@ module _ (t : Table) (ordered : Ordered t) (idle : (k l : ℕ) → List·Memᴰ 
       by-shape (literal c) R = λ out S. share-keeps c out S R (λ l m. absurd (List·Memᴰ·not-nil m))
       by-shape (other z l) R = λ out p K. K
       by-shape (unary make z l) R = λ out p G K S.
-          let (T, i) = K S in
-          share-keeps (make (p .at)) (p .rows) T (R (p .at)) (λ j m. one (p .rows) (G .inside, i) m)
+          let (S′, i) = K S in
+          share-keeps (make (p .at)) (p .rows) S′ (R (p .at)) (λ j m. one (p .rows) (G .inside, i) m)
       by-shape (binary make z l y r) R = λ out p q G K F L S.
-          let (T, i) = K S in
-          let (U, j) = L T in
-          share-keeps (make (p .at) (q .at)) (q .rows) U (R (p .at) (q .at)) (λ l m. elim (List·Memᴰ·cases-cons m) [
+          let (S′, i) = K S in
+          let (S″, j) = L S′ in
+          share-keeps (make (p .at) (q .at)) (q .rows) S″ (R (p .at) (q .at)) (λ l m. elim (List·Memᴰ·cases-cons m) [
             | inl e ↦ subst (Nameable (q .rows)) (sym e) (nameable-grown (p .rows) (q .rows) (p .at) (F .more) (G .inside, i))
             | inr v ↦ one (q .rows) (F .inside, j) v
           ])

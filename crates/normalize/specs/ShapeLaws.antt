@@ -4,7 +4,6 @@
 -- Assumes nothing.
 use mathlib.Core.Path.{_≡_, refl, sym, _∙_}
 use mathlib.Core.Bool.{true, false, not, _||_}
-use mathlib.Core.List.{List·Memᴰ}
 use mathlib.Core.Logic.{inl, inr}
 use Prim.Native.Nat.{ℕ, zero, suc, _≤_, _<_}
 use native.Mathlib.Omega.{arith}
@@ -13,7 +12,7 @@ use lib.ListN.{length}
 use borrow.Author.Tests.{le-leb, lt-leb, eq-eqb, ne-eqb}
 use Rattle.concepts.specs.Tests.{impossible, or-cases, from-true}
 use Rattle.concepts.specs.ListLaws.{length-map-range}
-use Rattle.concepts.specs.Concept.{Concept, atomic, negated, conj, disj, univ, exist, inclusion, neg, impl, conceptAt, arguments, roleOf, Ordered, isInclusion, NoInclusion, asArgument}
+use Rattle.concepts.specs.Concept.{Concept, atomic, negated, conj, disj, univ, exist, inclusion, neg, impl, conceptAt, roleOf, Ordered, isInclusion, NoInclusion, asArgument}
 use Rattle.decoding.specs.Decoding.{draftKinds}
 use Rattle.decoding.specs.RowParts.{kindOf, leftOf, rightOf, ofParts}
 use Rattle.decoding.specs.RowPartLaws.{Parts}
@@ -22,6 +21,7 @@ use Rattle.rulefile.specs.Checks.{Parted}
 use Rattle.rulefile.specs.CheckLaws.{parted}
 use Rattle.rulefile.specs.FormatLaws.{contents-parts, contents-admitted}
 use Rattle.drafts.specs.Normalize.{Sign, shape}
+use Rattle.drafts.specs.Sound.{Idle}
 use Rattle.normalize.specs.Shapes.{IsLiteral, IsModal, IsPair, tableOf, ShapeAt, writtenKind, formOf}
 use Rattle.normalize.specs.declared.Shape.the-variants.{Literal, Other, Unary, Binary}
 use Rattle.normalize.specs.Contracts.{Draft}
@@ -57,7 +57,7 @@ module _ {b : Bytes} (D : Draft b) where
   pub draft-ordered : Ordered (tableOf b)
   draft-ordered = contents-admitted draftKinds b (D .passed) .wellFormed .ordered
 
-  pub draft-idle : (k l : ℕ) → List·Memᴰ l (arguments (conceptAt (tableOf b) k)) → NoInclusion (tableOf b) l
+  pub draft-idle : Idle (tableOf b)
   draft-idle k l m = contents-admitted draftKinds b (D .passed) .wellFormed .serving l (asArgument k m)
 
   pub draft-rows : length (tableOf b) ≡ rowCount b
