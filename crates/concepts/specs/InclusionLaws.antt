@@ -100,6 +100,10 @@ record ClosedBy (t : Table) (n : ℕ) (Q : Relation) : Type 0 where
   given : (k ρ σ : ℕ) → k < n → conceptAt t k ≡ inclusion ρ σ → holds Q ρ σ
 
 module _ (t : Table) where
+  pub by-none : narrowerBy t 0 ≡ eqb
+  unfolding narrowerBy
+  by-none = refl
+
   -- by one row more, where that row's inclusion is known
   pub by-inclusion : (n : ℕ) {i : ℕ × ℕ} → asInclusion (conceptAt t n) ≡ some i → narrowerBy t (suc n) ≡ including (narrowerBy t n) (i .0) (i .1)
   unfolding narrowerBy
@@ -163,6 +167,10 @@ module _ (t : Table) where
           including-least (narrowerBy t n) (i .0) (i .1) R (C .chain) has g (C .turned (i .0) (i .1) g)
 
   -- ---- by a table
+
+  pub narrower-all : narrower t ≡ narrowerBy t (length t)
+  unfolding narrower
+  narrower-all = refl
 
   -- an inclusion is a row
   row-there : (k ρ σ : ℕ) → conceptAt t k ≡ inclusion ρ σ → k < length t

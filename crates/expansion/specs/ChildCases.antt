@@ -73,7 +73,7 @@ module _ {ws : List ℕ} {n e a : Bytes} {c : Counts} {x : ℕ} (A : ExpandAsks 
 module _ {ws : List ℕ} {n e a : Bytes} {c : Counts} {x : ℕ} {A : ExpandAsks ws (work n e a) c x} {v : D.Node} {l r : ℕ} (B : Both A v l r) where
   both-fit : (l < width) × (r < width)
   both-fit =
-      let (p, q) = lowestConj-lt (tableOf ws) (nodeAt (g A) x .rows) (A .decoded .ordered) (l, r) (B .found) in
+      let (p, q) = lowestConj-lt (tableOf ws) (nodeAt (g A) x .rows) (A .decoded .rows .ordered) (l, r) (B .found) in
       (row-fits A l p, row-fits A r q)
 
   pub both-left : l < width
@@ -124,7 +124,7 @@ module _ {ws : List ℕ} {n e a : Bytes} {c : Counts} {x : ℕ} {A : DisjAsks ws
 
   either-fit : (l < width) × (r < width)
   either-fit =
-      let (p, q) = lowestDisj-lt (tableOf ws) (nodeAt (g N) x .rows) (N .decoded .ordered) (l, r) (E .found) in
+      let (p, q) = lowestDisj-lt (tableOf ws) (nodeAt (g N) x .rows) (N .decoded .rows .ordered) (l, r) (E .found) in
       (row-fits N l p, row-fits N r q)
 
   pub either-left : l < width

@@ -44,7 +44,7 @@ module _ {ws : List ℕ} {w : Work} {c : Counts} {x : ℕ} (A : ExpandAsks ws w 
 
   -- a row of the table is one of the set's width
   pub row-fits : (k : ℕ) → k < length (tableOf ws) → k < width
-  row-fits k h = omega (arith, A .decoded .few, length-tableOf ws)
+  row-fits k h = omega (arith, A .decoded .rows .few, length-tableOf ws)
 
   -- ---- between two puts
 

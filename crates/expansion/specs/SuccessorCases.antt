@@ -105,7 +105,7 @@ module _ {ws : List ℕ} {w : Work} {c : Counts} {x : ℕ} {s : RowSet} {w′ : 
 module _ {ws : List ℕ} {w : Work} {c : Counts} {x : ℕ} {s : RowSet} {w′ : Work} {d : Counts} {k : ℕ} {T : Turn ws w c x s w′ d k}
     {row role argument : ℕ} (C : Chosen T row role argument) where
   pub turn-row : row + 1 ≤ 64
-  turn-row = omega (arith, C .below, A T .decoded .few)
+  turn-row = omega (arith, C .below, A T .decoded .rows .few)
 
   pub turn-less : countOf ws - (row + 1) < countOf ws - k
   turn-less = omega (arith, C .from, C .below)
@@ -114,7 +114,7 @@ module _ {ws : List ℕ} {w : Work} {c : Counts} {x : ℕ} {s : RowSet} {w′ : 
   one-of = T .some (role, argument) (subst (λ (l : List (ℕ × ℕ)). List·Memᴰ (role, argument) l) (sym (C .here)) (List·Memᴰ·head refl))
 
   pub turn-argument : argument < width
-  turn-argument = row-fits (A T) argument (existentials-lt (tableOf ws) s (A T .decoded .ordered) (role, argument) one-of)
+  turn-argument = row-fits (A T) argument (existentials-lt (tableOf ws) s (A T .decoded .rows .ordered) (role, argument) one-of)
 
   -- ---- its put: the set σ is the successor's
 

@@ -2,14 +2,14 @@
 -- Assumes nothing.
 use mathlib.Core.Path.{_≡_, refl, sym, ap, _∙_, subst}
 use mathlib.Core.Bool.{false}
-use mathlib.Core.List.{map}
+use mathlib.Core.List.{map, List·Memᴰ}
 use Prim.Native.Nat.{ℕ, _+_, _*_, _≤_, _<_}
 use native.Mathlib.Omega.{arith}
 use lib.ListN.{length, getD, drop, length-drop}
 use lib.Seq.{length-take-le, getD-take, getD-drop}
 use Rattle.concepts.specs.Lists.{range}
 use Rattle.concepts.specs.ListLaws.{range-mem, map-same}
-use Rattle.concepts.specs.Concept.{Ordered}
+use Rattle.concepts.specs.Concept.{Table, conceptAt, arguments, NoInclusion, Serves, asArgument, asRule, asWanted, Ordered}
 use Rattle.rulefile.specs.Format as Format
 use Rattle.rulefile.specs.Format.{rowsPart}
 use Rattle.decoding.specs.Decoding.{ruleKinds, conceptOf, malformed}
@@ -58,6 +58,9 @@ module _ (b : Format.Bytes) (passed : PassedAll ruleKinds b) where
             let l : k < Format.rowCount b = omega (arith, rowCount-rowsPart b p) in
             four-bytes b p (λ kind role left right. malformed ruleKinds kind role left right ≡ false) k l (unfold Format.badRow in row-formed ruleKinds b passed k l);
         ordered = subst Ordered (sym (table-rowsPart b p)) (contents-admitted ruleKinds b passed .wellFormed .ordered);
+        arguments =
+            subst (λ (t : Table). (k l : ℕ) → List·Memᴰ l (arguments (conceptAt t k)) → NoInclusion t l) (sym (table-rowsPart b p))
+            (λ k l m. contents-admitted ruleKinds b passed .wellFormed .serving l (asArgument k m));
       }
 
 -- an accepted file
@@ -71,8 +74,11 @@ module _ (b : Format.Bytes) (f : Format.RuleFile) (e : Format.reading b ≡ Form
   inside : (k : ℕ) → k < length (f .table) → k < rowCount (rowsPart b)
   inside k h = omega (arith, ap length accepted-table, length-tableIn (rowsPart b))
 
+  serving : (k : ℕ) → Serves (f .table) (f .tbox) (f .wanted) k → NoInclusion (tableIn (rowsPart b)) k
+  serving k s = subst (λ (t : Table). NoInclusion t k) (sym accepted-table) (accepted-admitted ruleKinds b f e .wellFormed .serving k s)
+
   pub accepted-rules : ListsRows (rowsPart b) (f .tbox)
-  accepted-rules k m = inside k (accepted-admitted ruleKinds b f e .wellFormed .ruleRows k m)
+  accepted-rules k m = (inside k (accepted-admitted ruleKinds b f e .wellFormed .ruleRows k m), serving k (asRule m))
 
   pub accepted-wanted : ListsRows (rowsPart b) (f .wanted)
-  accepted-wanted k m = inside k (accepted-admitted ruleKinds b f e .wellFormed .wantedRows k m)
+  accepted-wanted k m = (inside k (accepted-admitted ruleKinds b f e .wellFormed .wantedRows k m), serving k (asWanted m))

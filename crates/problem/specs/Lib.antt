@@ -7,4 +7,6 @@ pub mod Decoded
 pub mod DecodedLaws
 pub mod Writing
 pub mod WritingLaws
+pub mod Chaining
+pub mod ChainingLaws
 pub mod FileProblem

@@ -1,7 +1,7 @@
 -- What decoding writes, and what the words hold in between.
 --
 -- In order: a row's four bytes as one word; a row marked in a set; the two words that a row is marked in; all of one row; the single words; empty words;
--- the words after some rows (`Partly`). Laws are in WritingLaws.
+-- the words after some rows (`Partly`), and after all that is written of them (`Placed`). Laws are in WritingLaws.
 -- Assumes nothing.
 use mathlib.Core.Path.{_≡_}
 use mathlib.Core.Bool.{Bool, _&&_, _||_, cond}
@@ -9,9 +9,10 @@ use mathlib.Core.List.{List}
 use Prim.Native.Nat.{ℕ, _+_, _*_, _≤_, _<_}
 use lib.Dec.{eqb, ltb}
 use lib.ListN.{length, getD, set}
-use Rattle.concepts.specs.RowSet.{RowSet, mem, insert}
-use Rattle.problem.specs.Rows.{rowByte}
+use Rattle.concepts.specs.RowSet.{RowSet, mem, insert, fromList}
+use Rattle.problem.specs.Rows.{rowByte, tableIn}
 use Rattle.problem.specs.Layout.{countAt, rulesAt, wantedAt, kindsAt, universalsAt, rowsAt, room}
+use Rattle.problem.specs.Decoded.{tableOf, rulesOf, wantedOf, RowsDecoded, Reaching}
 
 abbrev pub pack : ℕ → ℕ → ℕ → ℕ → ℕ
 pack kind role left right = kind + role * 256 + left * 65536 + right * 16777216
@@ -48,3 +49,11 @@ pub record Partly (b : List ℕ) (n : ℕ) (w : List ℕ) : Type 0 where
   pub enough : room ≤ length w
   pub rows : (k : ℕ) → k < n → getD w (rowsAt + k) 0 ≡ packed b k
   pub masks : (i : ℕ) → i < rowsAt → (k : ℕ) → mem k (getD w i 0) ≡ (ltb k n && marked (rowByte b k 0) (rowByte b k 1) i)
+
+-- the words after all rows and the single words: an "all" row reaches along its own role so far
+pub record Placed (b tbox wanted w : List ℕ) : Type 0 where
+  pub rows : RowsDecoded w
+  pub universals : Reaching (tableOf w) eqb w
+  pub table-is : tableOf w ≡ tableIn b
+  pub rules-are : rulesOf w ≡ fromList tbox
+  pub wanted-are : wantedOf w ≡ fromList wanted

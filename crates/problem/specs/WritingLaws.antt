@@ -1,4 +1,4 @@
--- Laws of Writing: after all rows and the single words, the words are decoded from the file (`decoded-from`).
+-- Laws of Writing: after all rows and the single words, the words hold the file but for its inclusions (`rows-placed`).
 --
 -- In order: empty words; where a row is marked; a row more (`partly-more`); the sets after all rows (`partly-kinds`, `partly-universals`); the single words; all.
 -- Assumes nothing.
@@ -23,8 +23,8 @@ use Rattle.decoding.specs.RowPartLaws.{kindOf-lt}
 use Rattle.problem.specs.Rows.{rowByte, rowCount, conceptIn, tableIn, Rows, ListsRows}
 use Rattle.problem.specs.RowLaws.{length-tableIn, byte-parts, byte-role, listed-inside}
 use Rattle.problem.specs.Layout.{countAt, rulesAt, wantedAt, kindsAt, universalsAt, rowsAt, room}
-use Rattle.problem.specs.Decoded.{countOf, partOf, rowOf, tableOf, Picked, ofKind, universal, DecodedFrom}
-use Rattle.problem.specs.Writing.{pack, packed, mark, along, marked, putRow, putSingles, ClearedTo, Partly}
+use Rattle.problem.specs.Decoded.{countOf, partOf, rowOf, tableOf, Picked, ofKind, universal}
+use Rattle.problem.specs.Writing.{pack, packed, mark, along, marked, putRow, putSingles, ClearedTo, Partly, Placed}
 
 -- ---- empty words
 
@@ -173,18 +173,18 @@ marked-kind kind role x h = elim (ℕ-discrete kind x) [
     apart d true e = omega arith
     apart d false e = d (omega arith)
 
-marked-role : (kind role ρ : ℕ) → kind < 16 → marked kind role (universalsAt + ρ) ≡ (eqb kind 5 && eqb role ρ)
+marked-role : (kind role ρ : ℕ) → kind < 16 → marked kind role (universalsAt + ρ) ≡ (eqb kind 5 && eqb ρ role)
 unfolding marked along
 marked-role kind role ρ h =
     ap (λ (y : Bool). y || eqb (universalsAt + ρ) (along kind role)) (ne-eqb (universalsAt + ρ) (kindsAt + kind) (λ e. omega arith)) ∙ by-kind (eqb kind 5)
   where
-    shift : eqb (universalsAt + ρ) (universalsAt + role) ≡ eqb role ρ
-    shift = elim (ℕ-discrete role ρ) [
-      | yes e ↦ eq-eqb (universalsAt + ρ) (universalsAt + role) (omega arith) ∙ sym (eq-eqb role ρ e)
-      | no d ↦ ne-eqb (universalsAt + ρ) (universalsAt + role) (λ e. d (omega arith)) ∙ sym (ne-eqb role ρ d)
+    shift : eqb (universalsAt + ρ) (universalsAt + role) ≡ eqb ρ role
+    shift = elim (ℕ-discrete ρ role) [
+      | yes e ↦ eq-eqb (universalsAt + ρ) (universalsAt + role) (omega arith) ∙ sym (eq-eqb ρ role e)
+      | no d ↦ ne-eqb (universalsAt + ρ) (universalsAt + role) (λ e. d (omega arith)) ∙ sym (ne-eqb ρ role d)
     ]
 
-    by-kind : (y : Bool) → eqb (universalsAt + ρ) (cond y (universalsAt + role) (kindsAt + kind)) ≡ (y && eqb role ρ)
+    by-kind : (y : Bool) → eqb (universalsAt + ρ) (cond y (universalsAt + role) (kindsAt + kind)) ≡ (y && eqb ρ role)
     by-kind true = shift
     by-kind false = ne-eqb (universalsAt + ρ) (kindsAt + kind) (λ e. omega arith)
 
@@ -207,12 +207,12 @@ module _ {b : List ℕ} (ok : Rows b) {w : List ℕ} (p : Partly b (rowCount b) 
       picks (ofKind kind) (kindsAt + kind) (omega arith) (λ k l.
       marked-kind (rowByte b k 0) (rowByte b k 1) kind h ∙ ap (λ (x : ℕ). eqb x kind) (sym (byte-parts ok k l .kind-is)))
 
-  pub partly-universals : (ρ : ℕ) → ρ < 32 → Picked (tableIn b) (universal ρ) (getD w (universalsAt + ρ) 0)
+  pub partly-universals : (ρ : ℕ) → ρ < 32 → Picked (tableIn b) (universal eqb ρ) (getD w (universalsAt + ρ) 0)
   unfolding universal
   partly-universals ρ h =
-      picks (universal ρ) (universalsAt + ρ) (omega arith) (λ k l.
+      picks (universal eqb ρ) (universalsAt + ρ) (omega arith) (λ k l.
       marked-role (rowByte b k 0) (rowByte b k 1) ρ (row-kind-lt ok l)
-      ∙ ap₂ (λ (x y : ℕ). eqb x 5 && eqb y ρ) (sym (byte-parts ok k l .kind-is)) (sym (byte-parts ok k l .role-is)))
+      ∙ ap₂ (λ (x y : ℕ). eqb x 5 && eqb ρ y) (sym (byte-parts ok k l .kind-is)) (sym (byte-parts ok k l .role-is)))
 
 -- ---- the single words
 
@@ -284,9 +284,9 @@ module _ {b tbox wanted : List ℕ} (ok : Rows b) (bytes : (i : ℕ) → getD b 
   carried : (test : Concept → Bool) (i : ℕ) → wantedAt < i → Picked (tableIn b) test (getD w i 0) → Picked (tableOf w′) test (getD w′ i 0)
   carried test i h picked = rw (table-there, other i h) picked
 
-  pub decoded-from : DecodedFrom b tbox wanted w′
-  decoded-from = record {
-    decoded = record {
+  pub rows-placed : Placed b tbox wanted w′
+  rows-placed = record {
+    rows = record {
       enough = omega (arith, length-singles w (p .enough) n (fromList tbox) (fromList wanted), p .enough);
       few = omega (arith, count-is, ok .few);
       formed = λ k h.
@@ -294,10 +294,11 @@ module _ {b tbox wanted : List ℕ} (ok : Rows b) (bytes : (i : ℕ) → getD b 
           four-parts (λ kind role left right. malformed ruleKinds kind role left right ≡ false) k l (ok .formed k l);
       ordered = subst Ordered (sym table-there) (ok .ordered);
       kinds = λ kind h. carried (ofKind kind) (kindsAt + kind) (omega arith) (partly-kinds ok p kind h);
-      universals = λ ρ h. carried (universal ρ) (universalsAt + ρ) (omega arith) (partly-universals ok p ρ h);
       ruleRows = λ k m. rw table-there (listed-inside ok rules-listed k (rw rules-is at m));
       wantedRows = λ k m. rw table-there (listed-inside ok wanted-listed k (rw wanted-is at m));
+      argumentRows = rw table-there (ok .arguments);
     };
+    universals = λ ρ h. carried (universal eqb ρ) (universalsAt + ρ) (omega arith) (partly-universals ok p ρ h);
     table-is = table-there;
     rules-are = rules-is;
     wanted-are = wanted-is;

@@ -1,20 +1,24 @@
-// The problem of an accepted file, decoded once into words (01, The rule file).
+// The problem of an accepted file, decoded once into words (01, The rule file; 02, [6]).
 //
-// In order: where the words stand; decoding, of parts and of an accepted file; the rows of a kind and along a role; the parts of a row, and the inverse of a role; the rules and the wanted rows.
+// In order: where the words stand; the rows written; the inclusions written; decoding, of parts and of an accepted file; the rows of a kind and along a role, and narrower roles; the parts of a row, and the
+// inverse of a role; the rules and the wanted rows.
 ghost use mathlib.Core.Path.{_≡_};
 ghost use Prim.Native.Nat.{_+_, _≤_, _<_};
-ghost use lib.ListN.{length, set};
+ghost use lib.ListN.{length, getD, set};
 ghost use Rattle.concepts.specs.Role as Role;
 ghost use Rattle.concepts.specs.Concept.{conceptAt, roleOf};
+ghost use Rattle.concepts.specs.Inclusion.{narrower};
+ghost use Rattle.concepts.specs.RowSet.{union};
 ghost use Rattle.decoding.specs.RowParts.{kindOf, leftOf, rightOf};
 ghost use Rattle.decoding.specs.Decoding.{ruleKinds};
 ghost use Rattle.rowset.specs.Value.{valueOf, width};
 ghost use Rattle.rulefile.specs.Read.{Laid};
 ghost use Rattle.problem.specs.Rows.{rowByte, rowCount, Rows, ListsRows};
 ghost use Rattle.problem.specs.Layout.{rowsAt, room};
-ghost use Rattle.problem.specs.Decoded.{countOf, tableOf, rulesOf, wantedOf, Picked, ofKind, universal, Decoded, DecodedFrom};
+ghost use Rattle.problem.specs.Decoded.{countOf, tableOf, rulesOf, wantedOf, Picked, ofKind, universal, Narrows, RowsDecoded, Decoded, DecodedFrom};
 ghost use Rattle.problem.specs.FileProblem.{FileDecoded};
 ghost use Rattle.problem.specs.Writing.{mark, along, putRow, putSingles, ClearedTo, Partly};
+ghost use Rattle.problem.specs.Chaining.{Sames, JoinsUniversals, JoinsNarrows, Chains, RolesAt, IncludesRow, Included};
 use rowset::RowSet;
 use rulefile::Layout;
 use rulefile::rows_of;
@@ -22,9 +26,9 @@ use rulefile::rules_of;
 use rulefile::wanted_of;
 
 // How many words a problem takes.
-pub const WORDS: usize = 128;
+pub const WORDS: usize = 160;
 
-// Where they stand: the number of rows, the rules, the wanted rows; then a word for each kind, each role code and each row.
+// Where they stand: the number of rows, the rules, the wanted rows; then a word for each kind, each role code and each row, and one more for each role code.
 const COUNT: usize = 0;
 
 const RULES: usize = 1;
@@ -37,13 +41,17 @@ const UNIVERSALS: usize = 32;
 
 const ROWS: usize = 64;
 
+const NARROWS: usize = 128;
+
 // "A row is four bytes: kind, role, left, right".
 const ROW: usize = 4;
 
-// The kind of a universal row, and role codes, "0 to 31".
+// The kinds of a universal row and of an inclusion, and how many role codes there are, "0 to 31".
 const UNIV: usize = 5;
 
-const ROLES: u8 = 32;
+const INCLUSION: usize = 7;
+
+const ROLES: usize = 32;
 
 // Byte i of row k.
 fn byte_at(rows: &[u8], k: usize, i: usize) -> usize
@@ -79,6 +87,15 @@ fn put_mark(out: &mut [u64], i: usize, k: usize)
 {
     let s = rowset::load(out, i);
     rowset::store(out, i, rowset::insert(s, k));
+}
+
+// Adds rows to the set in word i.
+fn put_union(out: &mut [u64], i: usize, rows: RowSet)
+    requires { ⌜ i < length (now out) ⌝ }
+    ensures { λ _. ⌜ now (out .exit) ≡ set (now (out .entry)) i (union (getD (now (out .entry)) i 0) (valueOf rows)) ⌝ }
+{
+    let s = rowset::load(out, i);
+    rowset::store(out, i, rowset::union(s, rows));
 }
 
 // Writes row k.
@@ -135,7 +152,87 @@ fn put_singles(out: &mut [u64], n: usize, rules: RowSet, wanted: RowSet)
     rowset::store(out, WANTED, wanted);
 }
 
-// Decodes the rows, the rules and the wanted rows into words, whatever these hold before.
+// Each role is narrower than itself.
+fn put_sames(out: &mut [u64])
+    requires { ⌜ room ≤ length (now out) ⌝ }
+    ensures { λ _. ⌜ Sames 32 (now (out .entry)) (now (out .exit)) ⌝ }
+{
+    let mut code: usize = 0;
+    while code < ROLES {
+        out[NARROWS + code] = 1u64 << code;
+        code += 1;
+    }
+}
+
+// Along each role that is narrower than the first, the rows that reach along the second.
+fn join_universals(out: &mut [u64], narrow: usize, wide: usize)
+    requires { ⌜ (narrow < 32) × (wide < 32) × (room ≤ length (now out)) ⌝ }
+    ensures { λ _. ⌜ JoinsUniversals 32 narrow wide (now (out .entry)) (now (out .exit)) ⌝ }
+{
+    let narrower = out[NARROWS + narrow];
+    let reached = rowset::load(out, UNIVERSALS + wide);
+    let mut code: usize = 0;
+    while code < ROLES {
+        if (narrower >> code) % 2 == 1 {
+            put_union(out, UNIVERSALS + code, reached);
+        }
+        code += 1;
+    }
+}
+
+// For each role that the second is narrower than, the roles that are narrower than the first.
+fn join_narrows(out: &mut [u64], narrow: usize, wide: usize)
+    requires { ⌜ (narrow < 32) × (wide < 32) × (room ≤ length (now out)) ⌝ }
+    ensures { λ _. ⌜ JoinsNarrows 32 narrow wide (now (out .entry)) (now (out .exit)) ⌝ }
+{
+    let narrower = out[NARROWS + narrow];
+    let mut code: usize = 0;
+    while code < ROLES {
+        let known = out[NARROWS + code];
+        if (known >> wide) % 2 == 1 {
+            out[NARROWS + code] = known | narrower;
+        }
+        code += 1;
+    }
+}
+
+// Chains one role to another: what is narrower than the first is narrower than all that the second is narrower than.
+fn chain(out: &mut [u64], narrow: usize, wide: usize)
+    requires { ⌜ (narrow < 32) × (wide < 32) × (room ≤ length (now out)) ⌝ }
+    ensures { λ _. ⌜ Chains narrow wide (now (out .entry)) (now (out .exit)) ⌝ }
+{
+    join_universals(out, narrow, wide);
+    join_narrows(out, narrow, wide);
+}
+
+// The inclusion in row k, if row k is one: its roles, and both turned round.
+fn put_inclusion(out: &mut [u64], k: usize)
+    requires { ⌜ (k < width) × (room ≤ length (now out)) × RolesAt (now out) k ⌝ }
+    ensures { λ _. ⌜ IncludesRow k (now (out .entry)) (now (out .exit)) ⌝ }
+{
+    let row = out[ROWS + k];
+    if row % 256 == INCLUSION as u64 {
+        let narrow = (row / 256 % 256) as u8;
+        let wide = (row / 65536 % 256) as u8;
+        chain(out, narrow as usize, wide as usize);
+        chain(out, inverse(narrow) as usize, inverse(wide) as usize);
+    }
+}
+
+// All inclusions, row by row.
+fn put_inclusions(out: &mut [u64])
+    requires { ⌜ RowsDecoded (now out) × Included (now out) 0 (now out) ⌝ }
+    ensures { λ _. ⌜ Included (now (out .entry)) (countOf (now (out .entry))) (now (out .exit)) ⌝ }
+{
+    let n = out[COUNT] as usize;
+    let mut k: usize = 0;
+    while k < n {
+        put_inclusion(out, k);
+        k += 1;
+    }
+}
+
+// Decodes the rows, the rules and the wanted rows into words, whatever these hold before. Most files have no inclusion.
 pub fn decode(rows: &[u8], rules: &[u8], wanted: &[u8], out: &mut [u64])
     requires { ⌜ Rows (now rows) × ListsRows (now rows) (now rules) × ListsRows (now rows) (now wanted) × (room ≤ length (now out)) ⌝ }
     ensures { λ _. ⌜ DecodedFrom (now (rows .entry)) (now (rules .entry)) (now (wanted .entry)) (now (out .exit)) ⌝ }
@@ -144,6 +241,10 @@ pub fn decode(rows: &[u8], rules: &[u8], wanted: &[u8], out: &mut [u64])
     let wanted_set = rowset::from_list(wanted);
     put_rows(rows, out);
     put_singles(out, rows.len() / ROW, rule_set, wanted_set);
+    if !rowset::is_empty(rowset::load(out, KINDS + INCLUSION)) {
+        put_sames(out);
+        put_inclusions(out);
+    }
 }
 
 // Decodes an accepted file.
@@ -165,15 +266,26 @@ pub fn of_kind(problem: &[u64], kind: usize) -> RowSet
     rowset::load(problem, KINDS + kind)
 }
 
-// The universal rows along a role.
+// The universal rows that reach along a role.
 pub fn universal(problem: &[u64], role: u8) -> RowSet
     requires { ⌜ Decoded (now problem) ⌝ }
-    ensures { λ r. ⌜ Picked (tableOf (now (problem .entry))) (universal role) (valueOf r) ⌝ }
+    ensures { λ r. ⌜ Picked (tableOf (now (problem .entry))) (universal (narrower (tableOf (now (problem .entry)))) role) (valueOf r) ⌝ }
 {
-    if role < ROLES {
+    if (role as usize) < ROLES {
         return rowset::load(problem, UNIVERSALS + role as usize);
     }
     rowset::empty()
+}
+
+// The roles that are narrower than a role, and that role: code n as bit n.
+pub fn narrower(problem: &[u64], role: u8) -> u64
+    requires { ⌜ Decoded (now problem) × (role < 32) ⌝ }
+    ensures { λ r. ⌜ Narrows (narrower (tableOf (now (problem .entry)))) role r ⌝ }
+{
+    if rowset::is_empty(rowset::load(problem, KINDS + INCLUSION)) {
+        return 1u64 << role;
+    }
+    problem[NARROWS + role as usize]
 }
 
 // How many rows there are.

@@ -58,7 +58,7 @@ module _ {ws : List ℕ} {n e a : Bytes} {c : Counts} {m p ρ : ℕ} {s : RowSet
 
   -- what is lacking in the state above
   abbrev lacked : RowSet
-  lacked = lacking (P .table) s (inverse ρ) (nodeAt g p .rows)
+  lacked = lacking P s (inverse ρ) (nodeAt g p .rows)
 
   -- the set is finished, without a clash
   pub record Finished : Type 0 where
@@ -118,20 +118,20 @@ module _ {ws : List ℕ} {n e a : Bytes} {c : Counts} {m p ρ : ℕ} {s : RowSet
       put-finished u = record { clean = sym hb ∙ q; finished = sym hd ∙ u }
 
   -- what is lacking along a code that is turned round by cases: along one that is no role's nothing is, turned round or not
-  turned-lacks : {ι : ℕ} → Turned ρ ι → (q : RowSet) → lacking (P .table) s ι q ≡ lacking (P .table) s (inverse ρ) q
+  turned-lacks : {ι : ℕ} → Turned ρ ι → (q : RowSet) → lacking P s ι q ≡ lacking P s (inverse ρ) q
   turned-lacks {ι} H q = elim (decLt ρ 32) [
-    | yes h ↦ ap (λ (i : ℕ). lacking (P .table) s i q) (H .role h)
+    | yes h ↦ ap (λ (i : ℕ). lacking P s i q) (H .role h)
     | no h ↦
-        let none : (σ : ℕ) → 32 ≤ σ → lacking (P .table) s σ q ≡ 0 = λ σ. lacking-no-role (P .table) s σ q (λ k τ l _ u. A .fit .fit .wellPosed .univRole k τ l u) in
+        let none : (σ : ℕ) → 32 ≤ σ → lacking P s σ q ≡ 0 = λ σ. lacking-no-role P s σ q (A .fit .fit .wellPosed) in
         none ι (subst (λ (σ : ℕ). 32 ≤ σ) (sym (H .other (omega arith))) (omega arith)) ∙ sym (none (inverse ρ) (inverse-high ρ (omega arith)))
   ]
 
   -- with the state above as it was loaded
-  pub put-weighed : Finished → (v : D.Node) → nodeOf v ≡ nodeIn n p → {ι : ℕ} → Turned ρ ι → {l : RowSet} → l ≡ lacking (P .table) s ι (valueOf (v .rows))
+  pub put-weighed : Finished → (v : D.Node) → nodeOf v ≡ nodeIn n p → {ι : ℕ} → Turned ρ ι → {l : RowSet} → l ≡ lacking P s ι (valueOf (v .rows))
       → {b : Bool} → b ≡ eqb l empty → Weighed l b
   put-weighed F v hv hι hl hb = record {
     finished = F;
-    is = hl ∙ turned-lacks hι (valueOf (v .rows)) ∙ ap (λ (u : Node). lacking (P .table) s (inverse ρ) (u .rows)) (hv ∙ sym (graph-node w c p above-there));
+    is = hl ∙ turned-lacks hι (valueOf (v .rows)) ∙ ap (λ (u : Node). lacking P s (inverse ρ) (u .rows)) (hv ∙ sym (graph-node w c p above-there));
     test = hb;
   }
 

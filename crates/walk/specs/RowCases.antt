@@ -169,7 +169,7 @@ module _ {ws : List ℕ} {w : Work} {c : Counts} {s : Sizes} {d x : ℕ} {set : 
 module _ {ws : List ℕ} {w : Work} {c : Counts} {s : Sizes} {d x : ℕ} {set : RowSet} {w′ : Work} {s′ : Sizes} {k i : ℕ} {T : Turn ws w c s d x set w′ s′ k i}
     {row ρ l : ℕ} (R : Row T row ρ l) where
   pub turn-count : row + 1 ≤ 64
-  turn-count = omega (arith, R .below, length-tableOf ws, T .asks .decoded .few)
+  turn-count = omega (arith, R .below, length-tableOf ws, T .asks .decoded .rows .few)
 
   module _ {r : Next} (N : Answer w′ c x i r) where
     pub turn-childless : r ≡ Next.End → RowsGives ws w c s d s′ w′

@@ -11,7 +11,7 @@ use Rattle.problem.proofs.kind_at.Tie as tie
 returns : tie.Need-returns
 returns c =
     let (ok, h) = c .before .pre in
-    omega (arith, word-parts ok (c .before .args .k) h .kind-is)
+    omega (arith, word-parts (ok .rows) (c .before .args .k) h .kind-is)
 
 pub kind-at-spec : {M : Type 1} → statement M
 kind-at-spec =
