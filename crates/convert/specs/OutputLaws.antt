@@ -5,7 +5,6 @@
 use mathlib.Core.Path.{_≡_, refl, sym, ap, _∙_}
 use mathlib.Core.Bool.{Bool, true, false, _||_}
 use mathlib.Core.List.{[], _∷_}
-use mathlib.Core.Logic.{inl, inr}
 use Prim.Native.Nat.{ℕ, _≤_, _<_}
 use native.Mathlib.Omega.{arith}
 use lib.Dec.{ltb}
@@ -15,7 +14,7 @@ use borrow.Author.Tests.{ltb-false}
 use Rattle.concepts.specs.Tests.{or-neither}
 use Rattle.decoding.specs.Decoding.{draftKinds}
 use Rattle.rulefile.specs.Format.{Bytes, RuleFile, Reading, refused, accepted}
-use Rattle.rulefile.specs.CheckLaws.{refused-number}
+use Rattle.rulefile.specs.CheckLaws.{refused-positive}
 use Rattle.run.specs.Printed.{ascii, line}
 use Rattle.run.specs.ProgramLaws.{reading-take}
 use Rattle.drafts.specs.Normalize.{normalized}
@@ -44,7 +43,7 @@ conversion-sound draft room = go (draftReading draft) refl
         ltb-false room bytes (or-neither (ltb 4096 bytes) (ltb room bytes) (or-neither (ltb 64 (length (f .table))) (ltb 4096 bytes || ltb room bytes) e .1) .1)
 
     go : (r : Reading) → draftReading draft ≡ r → Sound room (conversionOf room r)
-    go (refused n) e = elim (refused-number draftKinds draft n e) [ inl h ↦ h .0 | inr h ↦ omega (arith, h) ]
+    go (refused n) e = refused-positive draftKinds draft n e
     go (accepted d) e = fits (normalized d) (tooLarge room (normalized d)) refl
 
 -- ---- a file is written

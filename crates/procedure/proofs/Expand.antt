@@ -10,13 +10,14 @@ use mathlib.Core.Option.{Option, none, some}
 use Prim.Native.Nat.{ℕ, _<_, _^_}
 use Rattle.concepts.specs.Tests.{impossible}
 use Rattle.concepts.specs.RowSet.{RowSet, insert, Subset}
-use Rattle.concepts.specs.RowSetLaws.{insert-more, insert-lt}
+use Rattle.concepts.specs.RowSetLaws.{insert-more}
 use Rattle.procedure.specs.Status.{Status, unset}
 use Rattle.procedure.specs.SetTests.{lowestConj, lowestDisj}
-use Rattle.procedure.specs.SetTestLaws.{unfinished-disj, lowestConj-lt, lowestDisj-lt}
+use Rattle.procedure.specs.SetTestLaws.{unfinished-disj}
 use Rattle.procedure.specs.Graph.{Node, Graph, nodeAt, nodeCount, children}
 use Rattle.procedure.specs.GraphLaws.{Sure, sure-map, sure-bind, Child}
 use Rattle.procedure.specs.Tableau.{put, expandDisj, expandConj}
+use Rattle.procedure.proofs.Standing.{Standing, standing-insert, conj-stands, disj-stands}
 use Rattle.procedure.proofs.Setting.{Setting, rowCount, Element}
 use Rattle.procedure.proofs.Semantics.{conj-satisfied, disj-satisfied}
 use Rattle.procedure.proofs.Grows.{Grows, grows-refl, grows-trans, grows-there, grows-child}
@@ -71,7 +72,7 @@ module _ (S : Setting) (g : Graph) (x : ℕ) (I : Inv S g) (Q : QuietBut S None 
     shape : BranchShape S g x (n .pst) (n .prl)
     shape = branch-fact S g I x hx noState .0
 
-    branch-pre : (h : Graph) → Grown h → (s : RowSet) → Subset (n .rows) s → s < 2 ^ rowCount S → PutPre S Busy h x (n .pst) (n .prl) s
+    branch-pre : (h : Graph) → Grown h → (s : RowSet) → Subset (n .rows) s → Standing (S .problem) s → PutPre S Busy h x (n .pst) (n .prl) s
     branch-pre h A s sub bd =
         let G = A .grows in
         let B = shape in
@@ -79,7 +80,7 @@ module _ (S : Setting) (g : Graph) (x : ℕ) (I : Inv S g) (Q : QuietBut S None 
         record {
           there = grows-there G x hx;
           place = record { there = grows-there G (n .pst) (B .above); isState = G .node (n .pst) (B .above) .isState ∙ B .aboveState; root = B .aboveRoot };
-          bounded = bd;
+          standing = bd;
           rules = λ k m. sub k (I .fact x hx .rules (B .notRoot) k m);
           excused = inr refl;
           state = λ e. absurd (absurd-bool (nodeAt h x .isState) e (ap (λ (a : Node). a .isState) same ∙ noState));
@@ -97,16 +98,16 @@ module _ (S : Setting) (g : Graph) (x : ℕ) (I : Inv S g) (Q : QuietBut S None 
     -- what the puts of a conjunction and of a disjunction may rely on
     pub conj-pre : (lr : ℕ × ℕ) → lowestConj (S .problem .table) (n .rows) ≡ some lr → PutPre S Busy g x (n .pst) (n .prl) (insert (lr .0) (insert (lr .1) (n .rows)))
     conj-pre lr e =
-        let (a, b) = lowestConj-lt (S .problem .table) (n .rows) (S .wellPosed .ordered) lr e in
+        let (a, b) = conj-stands (S .problem) (S .wellPosed) (n .rows) lr e in
         branch-pre g grown-refl (insert (lr .0) (insert (lr .1) (n .rows))) (λ k m. insert-more (lr .0) (insert (lr .1) (n .rows)) k (insert-more (lr .1) (n .rows) k m))
-        (insert-lt (rowCount S) (lr .0) (insert (lr .1) (n .rows)) a (insert-lt (rowCount S) (lr .1) (n .rows) b (I .fact x hx .bounded)))
+        (standing-insert (S .problem) (lr .0) (insert (lr .1) (n .rows)) a (standing-insert (S .problem) (lr .1) (n .rows) b (I .fact x hx .standing)))
 
     pub disj-pre : (lr : ℕ × ℕ) → lowestDisj (S .problem .table) (n .rows) ≡ some lr → (h : Graph) → Grown h
         → PutPre S Busy h x (n .pst) (n .prl) (insert (lr .0) (n .rows)) × PutPre S Busy h x (n .pst) (n .prl) (insert (lr .1) (n .rows))
     disj-pre lr e h A =
-        let (a, b) = lowestDisj-lt (S .problem .table) (n .rows) (S .wellPosed .ordered) lr e in (
-          branch-pre h A (insert (lr .0) (n .rows)) (insert-more (lr .0) (n .rows)) (insert-lt (rowCount S) (lr .0) (n .rows) a (I .fact x hx .bounded)),
-          branch-pre h A (insert (lr .1) (n .rows)) (insert-more (lr .1) (n .rows)) (insert-lt (rowCount S) (lr .1) (n .rows) b (I .fact x hx .bounded)),
+        let (a, b) = disj-stands (S .problem) (S .wellPosed) (n .rows) lr e in (
+          branch-pre h A (insert (lr .0) (n .rows)) (insert-more (lr .0) (n .rows)) (standing-insert (S .problem) (lr .0) (n .rows) a (I .fact x hx .standing)),
+          branch-pre h A (insert (lr .1) (n .rows)) (insert-more (lr .1) (n .rows)) (standing-insert (S .problem) (lr .1) (n .rows) b (I .fact x hx .standing)),
         )
 
     conj-expanded : (lr : ℕ × ℕ) → lowestConj (S .problem .table) (n .rows) ≡ some lr → Sure Branched (expandConj (S .problem) (S .capacity) x (some lr) g)

@@ -11,13 +11,14 @@ use Prim.Native.Nat.{ℕ, zero, suc, _<_, _^_}
 use native.Mathlib.Omega.{arith}
 use lib.Dec.{T}
 use Rattle.concepts.specs.RowSet.{RowSet, union, insert, fromList, Subset}
-use Rattle.concepts.specs.RowSetLaws.{union-left, union-right, insert-self, insert-more, mem-fromList, union-lt, insert-lt, set-lt}
+use Rattle.concepts.specs.RowSetLaws.{union-left, union-right, insert-self, insert-more, mem-fromList}
 use Rattle.procedure.specs.Status.{unset, isUnset, isLive}
 use Rattle.procedure.specs.SetTests.{lowestConj, box, existentials}
-use Rattle.procedure.specs.SetTestLaws.{finished-none, mem-box, existentials-lt, fromList-box-lt}
+use Rattle.procedure.specs.SetTestLaws.{finished-none, mem-box}
 use Rattle.procedure.specs.Graph.{Link, unlinked, Node, Graph, reached, _>>=_, forEach, nodeAt, nodeCount, children}
 use Rattle.procedure.specs.GraphLaws.{Sure, sure-map, sure-bind, sure-forEach}
 use Rattle.procedure.specs.Tableau.{noRole, judge, judgeBy, judgeState, judgeBranch, put, updateParents, update, successor, putSuccessors, putKit, expandState, expandDisj, expandConj, expand}
+use Rattle.procedure.proofs.Standing.{Standing, standing-insert, standing-union, standing-wanted, standing-rules, exist-stands, standing-box}
 use Rattle.procedure.proofs.Setting.{Setting, rowCount, Element}
 use Rattle.procedure.proofs.Semantics.{satisfies-union, successor-satisfied}
 use Rattle.procedure.proofs.Grows.{Grows, grows-trans, grows-there}
@@ -54,7 +55,7 @@ module _ (S : Setting) where
         grown : Grown S g x I Q hx fresh h
         expanded : Expanded S h x (n .rows)
 
-      state-pre : (h : Graph) → Grown S g x I Q hx fresh h → (ρ : ℕ) (s : RowSet) → (x ≡ 0 → ρ ≡ noRole) → s < 2 ^ rowCount S → Subset (S .problem .rules) s
+      state-pre : (h : Graph) → Grown S g x I Q hx fresh h → (ρ : ℕ) (s : RowSet) → (x ≡ 0 → ρ ≡ noRole) → Standing (S .problem) s → Subset (S .problem .rules) s
           → ((d : Element S) → Sat S (n .rows) d → (e : Element S) × Reach S x ρ d e × Sat S s e) → PutPre S (Busy S g x I Q hx fresh) h x x ρ s
       state-pre h A ρ s root bd rl ask =
           let G = A .grows in
@@ -63,7 +64,7 @@ module _ (S : Setting) where
           record {
             there = there;
             place = record { there = there; isState = G .node x hx .isState ∙ isState; root = root };
-            bounded = bd;
+            standing = bd;
             rules = rl;
             excused = inr refl;
             state = λ e. (rw (same, fresh) tt, refl, rw same ask);
@@ -76,8 +77,7 @@ module _ (S : Setting) where
     kit-pre e st =
         let s = union (S .problem .wanted) (S .problem .rules) in
         state-pre st g (grown-refl S g x I Q hx fresh) noRole s (λ _. refl)
-        (union-lt (rowCount S) (S .problem .wanted) (S .problem .rules)
-        (set-lt (rowCount S) (S .problem .wanted) (S .wellPosed .wantedRows)) (set-lt (rowCount S) (S .problem .rules) (S .wellPosed .ruleRows)))
+        (standing-union (S .problem) (S .problem .wanted) (S .problem .rules) (standing-wanted (S .problem) (S .wellPosed)) (standing-rules (S .problem) (S .wellPosed)))
         (union-right (S .problem .wanted) (S .problem .rules))
         (λ d q. let (m, w) = S .kit d in (
           m,
@@ -144,10 +144,9 @@ module _ (S : Setting) where
       successor-pre h A e there =
           let boxed = fromList (box (S .problem) (n .rows) (e .0)) in
           state-pre st h A (e .0) (c (n .rows) e) (λ q. absurd (x0 q))
-          (union-lt (rowCount S) (insert (e .1) boxed) (S .problem .rules)
-          (insert-lt (rowCount S) (e .1) boxed (existentials-lt (S .problem .table) (n .rows) (S .wellPosed .ordered) e there)
-          (fromList-box-lt (S .problem) (n .rows) (S .wellPosed .ordered) (e .0)))
-          (set-lt (rowCount S) (S .problem .rules) (S .wellPosed .ruleRows)))
+          (standing-union (S .problem) (insert (e .1) boxed) (S .problem .rules)
+          (standing-insert (S .problem) (e .1) boxed (exist-stands (S .problem) (S .wellPosed) (n .rows) e there) (standing-box (S .problem) (S .wellPosed) (n .rows) (e .0)))
+          (standing-rules (S .problem) (S .wellPosed)))
           (union-right (insert (e .1) boxed) (S .problem .rules))
           (λ d q. let (b, r, w) = successor-satisfied (S .problem) (S .structure) (S .inclusive) (S .rules) (n .rows) d q e there in (b, inr r, w))
 

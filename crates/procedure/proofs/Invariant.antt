@@ -15,6 +15,7 @@ use Rattle.procedure.specs.SetTests.{clash, unfinished, lacking, existen
 use Rattle.procedure.specs.Graph.{Link, unlinked, toState, lapsed, Node, Graph, nodeAt, nodeCount, children}
 use Rattle.procedure.specs.GraphLaws.{Child, AlternativeOf}
 use Rattle.procedure.specs.Tableau.{noRole}
+use Rattle.procedure.proofs.Standing.{Standing}
 use Rattle.procedure.proofs.Structure.{Satisfies}
 use Rattle.procedure.proofs.Setting.{Setting, rowCount, Element}
 use Rattle.procedure.proofs.Finished.{Under, Answers}
@@ -115,7 +116,7 @@ module _ (S : Setting) where
   KindFact g x n false = BranchShape g x (n .pst) (n .prl) × BranchSays g x n (n .status)
 
   pub record Fact (g : Graph) (x : ℕ) (n : Node) : Type 0 where
-    pub bounded : n .rows < 2 ^ rowCount S
+    pub standing : Standing (S .problem) (n .rows)
     pub rules : x ≢ 0 → Subset (S .problem .rules) (n .rows)
     pub link : LinkShape g n (n .link)
     pub kind : KindFact g x n (n .isState)
@@ -150,7 +151,7 @@ module _ (S : Setting) where
   pub record AlternativeFact (g : Graph) (x : ℕ) (a : RowSet) : Type 0 where
     pub there : x < nodeCount g
     pub notRoot : x ≢ 0
-    pub bounded : a < 2 ^ rowCount S
+    pub standing : Standing (S .problem) a
     pub extra : (j : ℕ) × (j < rowCount S) × T (mem j a) × T (not (mem j (nodeAt g x .rows)))
 
   -- ---- the invariant

@@ -10,11 +10,12 @@ use Prim.Native.Nat.{ℕ, _≤_, _<_, _^_}
 use native.Mathlib.Omega.{arith}
 use lib.Dec.{T}
 use Rattle.concepts.specs.RowSet.{RowSet, union, missing, Subset}
-use Rattle.concepts.specs.RowSetLaws.{union-left, union-right, union-lt, missing-lt}
+use Rattle.concepts.specs.RowSetLaws.{union-left, union-right, missing-lt}
 use Rattle.procedure.specs.Status.{Status, unset, «open», sat, unsat, toosmall, isUnset, isLive}
 use Rattle.procedure.specs.Graph.{Link, toState, lapsed, Node, Graph, reached, forEach, withLink, withStatus, nodeAt, nodeCount, children, alternativesOf, setStatus, setLink}
 use Rattle.procedure.specs.GraphLaws.{Sure, sure-map, sure-bind, sure-forEach, node-same, node-other, Child, children-edges, AlternativeOf}
 use Rattle.procedure.specs.Tableau.{Put, judgeBranch, putAlternatives, judgeLinked, noRole}
+use Rattle.procedure.proofs.Standing.{Standing, standing-union}
 use Rattle.procedure.proofs.Setting.{Setting, rowCount, Element}
 use Rattle.procedure.proofs.Semantics.{satisfies-union}
 use Rattle.procedure.proofs.Grows.{Follows, Grows, grows-refl, grows-trans, grows-there, grows-child, grows-replace}
@@ -41,7 +42,7 @@ module _ (S : Setting) where
   pub record PutPre (P : ℕ → Type 0) (g : Graph) (n p ρ : ℕ) (s : RowSet) : Type 0 where
     pub there : n < nodeCount g
     pub place : Place g p ρ
-    pub bounded : s < 2 ^ rowCount S
+    pub standing : Standing (S .problem) s
     pub rules : Subset (S .problem .rules) s
     pub excused : P n
     pub state : nodeAt g n .isState ≡ true → T (isUnset (nodeAt g n .status)) × (p ≡ n)
@@ -125,7 +126,7 @@ module _ (S : Setting) where
           record {
             there = grows-there (A .grows) z hz;
             place = record { there = grows-there (A .grows) (n .pst) (pl .there); isState = A .grows .node (n .pst) (pl .there) .isState ∙ pl .isState; root = pl .root };
-            bounded = union-lt (rowCount S) a (nodeAt g y .rows) (alternative-fact .bounded) (I .fact y (K .there) .bounded);
+            standing = standing-union (S .problem) a (nodeAt g y .rows) (alternative-fact .standing) (I .fact y (K .there) .standing);
             rules = λ r m. union-right a (nodeAt g y .rows) r (I .fact y (K .there) .rules (K .notRoot) r m);
             excused = inr refl;
             state = λ e. absurd (absurd-bool (nodeAt h z .isState) e (ap (λ (x : Node). x .isState) same ∙ noState));
@@ -198,7 +199,7 @@ module _ (S : Setting) where
         let live′ : T (isLive (m .status)) = rw same L in
         let B = branch-fact S h (A .inv) z hz′ noState′ .0 in
         let fact : Fact S h z n′ = record {
-          bounded = A .inv .fact z hz′ .bounded;
+          standing = A .inv .fact z hz′ .standing;
           rules = A .inv .fact z hz′ .rules;
           link = noState′;
           kind = subst (λ (b : Bool). KindFact S h z n′ b) (sym noState′) (B, says (m .status) live′);

@@ -21,6 +21,7 @@ use Rattle.procedure.specs.Graph.{unlinked, lapsed, Node, Graph, Result,
 use Rattle.procedure.specs.GraphLaws.{Sure, sure-map, sure-bind, sure-addNode, sure-addEdge, Child, children-own, children-other}
 use Rattle.procedure.specs.TableauLaws.{judge-linked}
 use Rattle.procedure.specs.Tableau.{Put, judge, judgeLinked, below, state, joinAlternatives, linkSpecial, putSpecial, putNode, putBy, putWithin, put}
+use Rattle.procedure.proofs.Standing.{Standing}
 use Rattle.procedure.proofs.Setting.{Setting, rowCount}
 use Rattle.procedure.proofs.Semantics.{clash-unsatisfied}
 use Rattle.procedure.proofs.Grows.{Grows, grows-trans, grows-there, grows-edge}
@@ -70,7 +71,7 @@ module _ (S : Setting) where
           fresh = fresh;
         }))
 
-    special-judged : lacking (S .problem) s (inverse ρ) (nodeAt g p .rows) ≡ empty → QuietBut S P g → s < 2 ^ rowCount S → Subset (S .problem .rules) s
+    special-judged : lacking (S .problem) s (inverse ρ) (nodeAt g p .rows) ≡ empty → QuietBut S P g → Standing (S .problem) s → Subset (S .problem .rules) s
         → T (not (clash (S .problem) s)) → T (not (unfinished (S .problem .table) s))
         → Sure (Made S P g p ρ s) (linkSpecial (S .capacity) p ρ s g >>= judge put z)
     special-judged back Q bd rl cf fin =
@@ -79,7 +80,7 @@ module _ (S : Setting) where
   -- ---- the node of a set, and its edge
 
   module _ (put : Put) (f : ℕ) (right : PutRight S put f) (P : ℕ → Type 0) (g : Graph) where
-    node-made : (p ρ : ℕ) (s : RowSet) → Inv S g → QuietBut S P g → Place S g p ρ → s < 2 ^ rowCount S → Subset (S .problem .rules) s → missing (rowCount S) s ≤ f
+    node-made : (p ρ : ℕ) (s : RowSet) → Inv S g → QuietBut S P g → Place S g p ρ → Standing (S .problem) s → Subset (S .problem .rules) s → missing (rowCount S) s ≤ f
         → Sure (Made S P g p ρ s) (putNode (S .problem) (S .capacity) put p ρ s g)
     unfolding putNode putSpecial
     node-made p ρ s I Q pl bd rl few =
@@ -104,7 +105,7 @@ module _ (S : Setting) where
     put-by n p ρ s I Q A few =
         let z = nodeCount g in
         sure-bind (Made S P g p ρ s) (PutPost S P g n p ρ s) (putNode (S .problem) (S .capacity) put p ρ s g) (addEdge (S .capacity) n z)
-        (node-made p ρ s I Q (A .place) (A .bounded) (A .rules) few)
+        (node-made p ρ s I Q (A .place) (A .standing) (A .rules) few)
         (λ h Md.
         let F = Md .fresh in
         let same = Md .kept n (A .there) in

@@ -16,12 +16,13 @@ use Rattle.concepts.specs.Role.{inverse, inverse-high}
 use Rattle.concepts.specs.RowSet.{RowSet, empty, Subset}
 use Rattle.procedure.specs.Status.{Status, unset, toosmall, isUnset, isLive}
 use Rattle.procedure.specs.SetTests.{clash, unfinished, lacking}
-use Rattle.procedure.specs.SetTestLaws.{lacking-no-role, lacking-lt, lacking-witness}
+use Rattle.procedure.specs.SetTestLaws.{lacking-no-role, lacking-witness}
 use Rattle.procedure.specs.Graph.{Link, unlinked, toState, lapsed, Node, Graph, reached, _>>=_, appendNode, appendEdge, appendAlternative, addNode, addAlternative}
 use Rattle.procedure.specs.Graph.{withLink, nodeAt, nodeCount, children, findState, setLink}
 use Rattle.procedure.specs.GraphLaws.{Sure, sure-bind, sure-addNode, sure-addEdge, sure-addAlternative, count-append, node-old, node-new, node-same, node-other, Child}
 use Rattle.procedure.specs.GraphLaws.{children-edges, children-own, children-other, AlternativeOf, alternative-new, has-alternative, find-state}
 use Rattle.procedure.specs.Tableau.{below, state, joinAlternatives, linkTo, linkFound, linkSpecial, noRole}
+use Rattle.procedure.proofs.Standing.{Standing, standing-lacking}
 use Rattle.procedure.proofs.Setting.{Setting, rowCount}
 use Rattle.procedure.proofs.Semantics.{lacking-satisfied}
 use Rattle.procedure.proofs.Grows.{Follows, Grows, grows-trans, grows-there, grows-node, grows-edge, grows-alternative, grows-alternative-of, grows-replace}
@@ -54,7 +55,7 @@ module _ (S : Setting) where
 
   -- ---- a new node that is no state
 
-  module _ (P : ℕ → Type 0) (g : Graph) (p ρ : ℕ) (s : RowSet) (I : Inv S g) (pl : Place S g p ρ) (bounded : s < 2 ^ rowCount S) (rules : Subset (S .problem .rules) s) where
+  module _ (P : ℕ → Type 0) (g : Graph) (p ρ : ℕ) (s : RowSet) (I : Inv S g) (pl : Place S g p ρ) (standing : Standing (S .problem) s) (rules : Subset (S .problem .rules) s) where
     pub made-node : (v : Status) (l : Link) → QuietBut S P g → nodeCount g < S .capacity .nodeRoom
         → LinkShape S (appendNode (below p ρ s v l) g) (below p ρ s v l) l
         → BranchSays S (appendNode (below p ρ s v l) g) (nodeCount g) (below p ρ s v l) v
@@ -67,7 +68,7 @@ module _ (S : Setting) where
         let here : nodeAt h (nodeCount g) ≡ n = node-new n g in
         record {
           inv = inv-node S n g I room (record {
-            bounded = bounded;
+            standing = standing;
             rules = λ _. rules;
             link = L;
             kind = (
@@ -109,7 +110,7 @@ module _ (S : Setting) where
       alternative-fact q = record {
         there = pl .there;
         notRoot = above-not-root q;
-        bounded = lacking-lt (S .problem) s (S .wellPosed .ordered) (inverse ρ) (nodeAt g p .rows);
+        standing = standing-lacking (S .problem) (S .wellPosed) s (inverse ρ) (nodeAt g p .rows);
         extra = lacking-witness (S .problem) s (S .wellPosed .ordered) (inverse ρ) (nodeAt g p .rows) q;
       }
 
@@ -126,7 +127,7 @@ module _ (S : Setting) where
         → Made P g p ρ s (appendNode (below p ρ s toosmall lapsed) g)
     made-lapsed Q room C = made-node toosmall lapsed Q room refl C (inr tt)
 
-  made-alternative : (P : ℕ → Type 0) (g : Graph) (p ρ : ℕ) (s : RowSet) → (I : Inv S g) (pl : Place S g p ρ) → s < 2 ^ rowCount S → Subset (S .problem .rules) s → (Q : QuietBut S P g)
+  made-alternative : (P : ℕ → Type 0) (g : Graph) (p ρ : ℕ) (s : RowSet) → (I : Inv S g) (pl : Place S g p ρ) → Standing (S .problem) s → Subset (S .problem .rules) s → (Q : QuietBut S P g)
       → T (not (eqb (lacking (S .problem) s (inverse ρ) (nodeAt g p .rows)) empty)) → nodeCount g < S .capacity .nodeRoom
       → Made P g p ρ s (appendAlternative p (lacking (S .problem) s (inverse ρ) (nodeAt g p .rows)) (appendNode (below p ρ s toosmall lapsed) g))
   made-alternative P g p ρ s I pl bd rl Q q room =
@@ -147,7 +148,7 @@ module _ (S : Setting) where
         fresh = M .fresh;
       }
 
-  pub lapsed-made : (P : ℕ → Type 0) (g : Graph) (p ρ : ℕ) (s : RowSet) → (I : Inv S g) (pl : Place S g p ρ) → s < 2 ^ rowCount S → Subset (S .problem .rules) s → (Q : QuietBut S P g)
+  pub lapsed-made : (P : ℕ → Type 0) (g : Graph) (p ρ : ℕ) (s : RowSet) → (I : Inv S g) (pl : Place S g p ρ) → Standing (S .problem) s → Subset (S .problem .rules) s → (Q : QuietBut S P g)
       → T (not (eqb (lacking (S .problem) s (inverse ρ) (nodeAt g p .rows)) empty))
       → Sure (Made P g p ρ s) (addNode (S .capacity) (below p ρ s toosmall lapsed) g >>= joinAlternatives (S .capacity) p (lacking (S .problem) s (inverse ρ) (nodeAt g p .rows)))
   unfolding joinAlternatives
@@ -207,7 +208,7 @@ module _ (S : Setting) where
         } in
         let B = branch-fact S h (Md .inv) z (F .there) (F .noState) .0 in
         let fact : Fact S h z n′ = record {
-          bounded = Md .inv .fact z (F .there) .bounded;
+          standing = Md .inv .fact z (F .there) .standing;
           rules = Md .inv .fact z (F .there) .rules;
           link = (F .noState, K);
           kind = subst (λ (b : Bool). KindFact S h z n′ b) (sym (F .noState)) (B, subst (λ (v : Status). BranchSays S h z n′ v) (sym (U .status)) tt);
@@ -244,7 +245,7 @@ module _ (S : Setting) where
         })
 
     -- the state with this set is made
-    with-state : (h : Graph) → Unlinked P g p ρ s h → s < 2 ^ rowCount S → Subset (S .problem .rules) s → T (not (clash (S .problem) s)) → T (not (unfinished (S .problem .table) s))
+    with-state : (h : Graph) → Unlinked P g p ρ s h → Standing (S .problem) s → Subset (S .problem .rules) s → T (not (clash (S .problem) s)) → T (not (unfinished (S .problem .table) s))
         → nodeCount h < S .capacity .nodeRoom → Unlinked P g p ρ s (appendNode (state s) h)
     with-state h U bd rl cf fin room =
         let Md = U .made in
@@ -258,7 +259,7 @@ module _ (S : Setting) where
         record {
           made = record {
             inv = inv-node S n h (Md .inv) room (record {
-              bounded = bd;
+              standing = bd;
               rules = λ _. rl;
               link = tt;
               kind = (
@@ -283,7 +284,7 @@ module _ (S : Setting) where
           noChild = children-edges k h refl z ∙ U .noChild;
         }
 
-    pub special-started : QuietBut S P g → s < 2 ^ rowCount S → Subset (S .problem .rules) s → T (not (clash (S .problem) s)) → T (not (unfinished (S .problem .table) s))
+    pub special-started : QuietBut S P g → Standing (S .problem) s → Subset (S .problem .rules) s → T (not (clash (S .problem) s)) → T (not (unfinished (S .problem .table) s))
         → Sure (Started P g p ρ s) (linkSpecial (S .capacity) p ρ s g)
     unfolding linkSpecial linkFound
     special-started Q bd rl cf fin =

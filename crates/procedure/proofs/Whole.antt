@@ -23,6 +23,7 @@ use Rattle.procedure.specs.SetTestLaws.{lowestConj-some, lowestDisj-some
 use Rattle.procedure.specs.Graph.{Graph, reached, _>>=_, appendNode, addNode, nodeAt, children, alternativesOf, lowestUnset}
 use Rattle.procedure.specs.GraphLaws.{Sure, sure-bind, sure-addNode, lowestUnset-some}
 use Rattle.procedure.specs.Tableau.{state, expand, loopWithin, run}
+use Rattle.procedure.proofs.Standing.{standing-empty}
 use Rattle.procedure.proofs.Setting.{Setting, rowCount}
 use Rattle.procedure.proofs.Invariant.{Fact, Inv, Quiet, QuietBut}
 use Rattle.procedure.proofs.Measure.{count-le, withAStatus, status-rises}
@@ -65,7 +66,7 @@ module _ (S : Setting) where
     fits = omega arith;
     root = (omega arith, refl);
     fact = λ x hx. subst (λ (y : ℕ). Fact S rootOnly y (nodeAt rootOnly y)) (sym (only-root x hx)) (record {
-      bounded = pow-pos (rowCount S);
+      standing = standing-empty (S .problem);
       rules = λ d. absurd (d refl);
       link = tt;
       kind = (record { link = refl; root = λ _. refl; clashFree = λ d. absurd (d refl); finished = empty-finished (S .problem .table); expanded = λ u. absurd u }, tt);

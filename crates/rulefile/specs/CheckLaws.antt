@@ -1,7 +1,7 @@
 -- Laws of Checks: reading goes by the first check that refuses, and what the first four checks give.
 --
 -- In order: refusal and reading, check by check (`refusal-at`, `refusal-none`, `reading-refused`, `reading-accepted`);
--- the numbers that a refused file can get (`refused-number`); an accepted file passed every check (`accepted-contents`, `accepted-passed`);
+-- the numbers that a refused file can get (`refused-number`), and those that it can't; an accepted file passed every check (`accepted-contents`, `accepted-passed`);
 -- where the parts of a file stand (`long`, `parted`).
 -- Assumes nothing.
 use mathlib.Core.Path.{_≡_, refl}
@@ -71,6 +71,13 @@ module _ (kinds : Kinds) (b : Bytes) where
         rw (← same) (number-at i h)
     | inr p ↦ let q = reading-accepted p in impossible cc
   ]
+
+  -- no other number
+  pub refused-apart : {A : Type 0} (n : ℕ) → readingOf kinds b ≡ refused n → 8 < n → n < 16 → A
+  refused-apart n e low high = elim (refused-number n e) [ inl (p, q) ↦ absurd (omega arith) | inr q ↦ absurd (omega arith) ]
+
+  pub refused-positive : (n : ℕ) → readingOf kinds b ≡ refused n → 0 < n
+  refused-positive n e = elim (refused-number n e) [ inl (p, q) ↦ p | inr q ↦ omega arith ]
 
   -- ---- an accepted file passed every check
 

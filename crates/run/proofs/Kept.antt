@@ -41,7 +41,7 @@ unfit l x e = go (leb (setSize * length (x .elements)) (l .elements)) refl (leb 
     go true p true q h = impossible cc
 
 model-of : (f : RuleFile) (x : Example) → Shows f x → Model (f .table) (f .tbox) (f .wanted)
-model-of f x C = record { world = worldOf (f .table) x; obeys = C .obeys; element = 0; member = C .member }
+model-of f x C = record { world = worldOf (f .table) x; obeys = C .obeys; includes = C .includes; element = 0; member = C .member }
 
 module _ (f : RuleFile) (before : Areas) where
   abbrev l : Lengths

@@ -24,6 +24,7 @@ use Rattle.procedure.specs.Graph.{Graph, Capacity, roomFor, Result, reached, no
 use Rattle.procedure.specs.GraphLaws.{Sure}
 use Rattle.procedure.specs.Tableau.{run}
 use Rattle.procedure.specs.Example.{Example, example, worldOf}
+use Rattle.procedure.specs.ExampleLaws.{world-includes}
 use Rattle.procedure.proofs.Bare.{bare}
 use Rattle.procedure.proofs.Whole.{Ended, run-ends}
 use Rattle.procedure.proofs.Correct.{no-model, example-there, example-obeys, example-member, root-set, no-fuel}
@@ -82,6 +83,7 @@ module _ (f : RuleFile) (W : WellFormed (f .table) (f .tbox) (f .wanted)) (N : N
       let same = sym (world-listing (f .table) p) in
       record {
         obeys = subst (λ (U : World). Obeys (finite U) (f .table) (f .tbox)) same (example-obeys (f .table) c (f .tbox) (f .wanted) W N g p R);
+        includes = world-includes (f .table) (filled p);
         member = subst (λ (U : World). Member (finite U) (f .table) (f .wanted) 0) same (example-member (f .table) c (f .tbox) (f .wanted) W N g p R);
       }
 
@@ -166,8 +168,8 @@ unfolding answer answerReading
 can-model b l q = by-reading (reading b) refl
   where
     model-of : (f : RuleFile) (a : Answer) → Claim f a → SaysCan a → Model (f .table) (f .tbox) (f .wanted)
-    model-of f (can u x) C s = record { world = worldOf (f .table) x; obeys = C .0 .obeys; element = 0; member = C .0 .member }
-    model-of f (tooLong x) C s = record { world = worldOf (f .table) x; obeys = C .0 .obeys; element = 0; member = C .0 .member }
+    model-of f (can u x) C s = record { world = worldOf (f .table) x; obeys = C .0 .obeys; includes = C .0 .includes; element = 0; member = C .0 .member }
+    model-of f (tooLong x) C s = record { world = worldOf (f .table) x; obeys = C .0 .obeys; includes = C .0 .includes; element = 0; member = C .0 .member }
     model-of f (cannot u) C s = absurd s
     model-of f (short a n) C s = absurd s
     model-of f (refusedFile n) C s = absurd s

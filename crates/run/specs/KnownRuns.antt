@@ -6,9 +6,11 @@ use Prim.Native.Nat.{ℕ, _*_}
 use lib.ListN.{length}
 use Rattle.concepts.specs.Lists.{range, select, any, every, consAnswer, answers, first}
 use Rattle.concepts.specs.Role.{inverse}
+use Rattle.concepts.specs.Inclusion.{narrowerBy, narrower}
 use Rattle.concepts.specs.RowSet.{RowSet, mem, single, union, fromList, members}
 use Rattle.meaning.specs.Given.{RoleLink, listed}
-use Rattle.rulefile.specs.Format.{Bytes, badLength, badMark, badCounts, badPlace, badRow, badArgument, sameRow, repeated, badRule, checks, refusal, readingOf}
+use Rattle.rulefile.specs.Format.{Bytes, badLength, badMark, badCounts, badPlace, badRow, badArgument, sameRow, repeated, badRule, inclusionAt, inclusionNamed, inclusionServes, checks}
+use Rattle.rulefile.specs.Format.{refusal, readingOf}
 use Rattle.decoding.specs.Decoding.{ofKind, decode}
 use Rattle.procedure.specs.Status.{branchTable, stateTable, entry, foldStatus}
 use Rattle.procedure.specs.Problem.{opposedNames}
@@ -75,7 +77,7 @@ knownRuns =
 
 pub known-runs : map (λ (k : KnownRun). answer (k .file) (k .lent)) knownRuns ≡ map (λ (k : KnownRun). k .expected) knownRuns
 unfolding knownRuns written flatten range select any every consAnswer answers first inverse mem single union fromList members ofKind decode badLength badMark badCounts badPlace
-    badRow badArgument sameRow repeated badRule checks refusal readingOf branchTable stateTable entry foldStatus opposedNames clash lowestConj lowestDisj unfinished box
+    badRow badArgument sameRow repeated badRule inclusionAt inclusionNamed inclusionServes narrowerBy narrower checks refusal readingOf branchTable stateTable entry foldStatus opposedNames clash lowestConj lowestDisj unfinished box
     lacking existentials _>>=_ forEach addNode addEdge hasAlternative addAlternative children parents alternativesOf lowest findState lowestUnset foldChildren putAlternatives
     judgeLinked judgeBy judge joinAlternatives linkTo linkFound linkSpecial putSpecial putNode putBy putWithin put updateParents updateChanged updateWithin update successor
     putSuccessors putKit expandState expandDisj expandConj expand loopWithin run X._>>=_ firstChild liveChild descendBy descendWithin descend position meet walkRows rowsOf

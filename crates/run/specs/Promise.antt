@@ -1,4 +1,4 @@
--- What the engine's call promises, for every file and all five areas (00, demands 1 to 3; 02, [2] and [4]).
+-- What the engine's call promises, for every file and all five areas (00, demands 1 to 3; 02, [2], [4] and [6]).
 --
 -- In order: demand 3 for an accepted file, from the numbers of the answer and the bytes of the areas to the meaning of ALCI; the whole promise.
 -- It is kept: proofs/Kept.
@@ -48,7 +48,7 @@ pub record Right (f : RuleFile) (l : Lengths) (r : Numbers) (after : Areas) : Ty
   pub canOnly : NotShort r → Model (f .table) (f .tbox) (f .wanted) → SaysCan r
   -- 11 only where the example is larger than its areas
   pub tooLong : r .refusal ≡ 11 → (l .elements < setSize * r .elements) ⊎ (l .links < linkSize * r .links)
-  -- with "can" the world read from the bytes of the example areas obeys every rule at each element, and its element 0 is a member of the kit
+  -- with "can" the world read from the bytes of the example areas obeys every rule at each element and every inclusion, and its element 0 is a member of the kit
   pub example : r .verdict ≡ 1 → Shows f (exampleIn (after .elements) (after .links) (r .elements) (r .links))
   -- each element lists a row exactly if it holds there, in the world read from the bytes
   pub lists : r .verdict ≡ 1 → Lists f (exampleIn (after .elements) (after .links) (r .elements) (r .links))

@@ -79,7 +79,7 @@ abbrev pub used : Graph → Used
 used g = record { nodes = length (g .nodes); edges = length (g .edges); alternatives = length (g .alternatives) }
 
 pub data Answer : Type 0 where
-  refusedFile : ℕ → Answer  -- a file check refuses the file: 1 to 8
+  refusedFile : ℕ → Answer  -- a file check refuses the file: 1 to 8, or 16
   short : Area → ℕ → Answer  -- refusal 13, 14 or 15: a record has no place in this area, where so many count as lent
   cannot : Used → Answer
   can : Used → Example → Answer

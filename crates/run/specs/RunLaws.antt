@@ -16,6 +16,7 @@ use Rattle.concepts.specs.Tests.{impossible}
 use Rattle.concepts.specs.Concept.{Table}
 use Rattle.decoding.specs.Decoding.{ruleKinds}
 use Rattle.rulefile.specs.Format.{Bytes, Reading, refused, accepted, reading}
+use Rattle.rulefile.specs.Checks.{FileRefusal}
 use Rattle.rulefile.specs.CheckLaws.{refused-number}
 use Rattle.procedure.specs.Status.{Status, unset, «open», sat, unsat, toosmall}
 use Rattle.procedure.specs.Graph.{Graph, Area, roomFor, Result, reached, noPlace, outOfFuel, nodeAt}
@@ -88,12 +89,12 @@ answer-room b l =
 
 -- ---- the numbers of refusals
 
--- 1 to 8 by a check of the file, 11, and 13, 14 or 15 for a record without a place; 0 with a verdict. 9 is not used again (02, [3]), 10 is no longer given (02, [4])
+-- 1 to 8 and 16 by a check of the file, 11, and 13, 14 or 15 for a record without a place; 0 with a verdict. 9 is not used again (02, [3]), 10 is no longer given (02, [4])
 abbrev pub RunRefusal : ℕ → Type 0
-RunRefusal n = (n ≤ 8) ⊎ ((n ≡ 11) ⊎ ((a : Area) × (n ≡ shortRefusal a)))
+RunRefusal n = (n ≡ 0) ⊎ (FileRefusal n ⊎ ((n ≡ 11) ⊎ ((a : Area) × (n ≡ shortRefusal a))))
 
 pub answer-refusal : (b : Bytes) (l : Lengths) → RunRefusal (numbers (answer b l) .refusal)
 unfolding numbers
 answer-refusal b l =
-    answer-cases (λ a. RunRefusal (numbers a .refusal)) l (λ a. inr (inr (a, refl))) (λ u. inl (omega arith))
-    (λ u x f. inl (omega arith)) (λ x f. inr (inl refl)) (inl (omega arith)) b (λ n e. inl (refused-number ruleKinds b n e .1))
+    answer-cases (λ a. RunRefusal (numbers a .refusal)) l (λ a. inr (inr (inr (a, refl)))) (λ u. inl refl)
+    (λ u x f. inl refl) (λ x f. inr (inr (inl refl))) (inl refl) b (λ n e. inr (inl (refused-number ruleKinds b n e)))

@@ -7,7 +7,7 @@ use Prim.Native.Nat.{_≤_}
 use native.Mathlib.Omega.{arith}
 use Rattle.decoding.specs.Decoding.{ruleKinds}
 use Rattle.rulefile.specs.Format.{Bytes}
-use Rattle.rulefile.specs.CheckLaws.{refused-number}
+use Rattle.rulefile.specs.CheckLaws.{refused-apart}
 use Rattle.procedure.specs.Graph.{Area, nodeArea, edgeArea, alternativeArea, roomFor}
 use Rattle.words.specs.Sizes.{mostRecords}
 use Rattle.run.specs.Run.{Areas, Lengths, lengths, capacity, Answer, refusedFile, short, cannot, can, tooLong, undefined, answer}
@@ -21,6 +21,11 @@ pub shortRefusal-least : (a : Area) → 13 ≤ shortRefusal a
 shortRefusal-least nodeArea = omega arith
 shortRefusal-least edgeArea = omega arith
 shortRefusal-least alternativeArea = omega arith
+
+pub shortRefusal-most : (a : Area) → shortRefusal a ≤ 15
+shortRefusal-most nodeArea = omega arith
+shortRefusal-most edgeArea = omega arith
+shortRefusal-most alternativeArea = omega arith
 
 -- each area has a number of its own
 pub shortRefusal-one : (a r : Area) → shortRefusal a ≡ shortRefusal r → a ≡ r
@@ -57,7 +62,7 @@ module _ (b : Bytes) (l : Lengths) where
   ten-is-split =
       answer-cases (λ k. formerNumbers k .refusal ≡ 10 → (a : Area) × (numbers k ≡ shortWith a (roomFor (capacity l) a))) l (λ a e. (a, refl)) (λ u e. absurd (omega (arith, e)))
       (λ u x f e. absurd (omega (arith, e))) (λ x f e. absurd (omega (arith, e))) (λ e. absurd (omega (arith, e))) b
-      (λ n q e. absurd (omega (arith, e, refused-number ruleKinds b n q .1)))
+      (λ n q e. refused-apart ruleKinds b n q (omega (arith, e)) (omega (arith, e)))
 
   -- "and no other run does"
   pub only-ten-is-split : (a : Area) → SaysShort a (numbers (answer b l)) → formerNumbers (answer b l) ≡ refusedWith 10
@@ -66,7 +71,7 @@ module _ (b : Bytes) (l : Lengths) where
       let least = shortRefusal-least r in
       answer-cases (λ k. SaysShort r (numbers k) → formerNumbers k ≡ refusedWith 10) l (λ a e. refl) (λ u e. absurd (omega (arith, e, least)))
       (λ u x f e. absurd (omega (arith, e, least))) (λ x f e. absurd (omega (arith, e, least))) (λ e. absurd (omega (arith, e, least))) b
-      (λ n q e. absurd (omega (arith, e, least, refused-number ruleKinds b n q .1)))
+      (λ n q e. refused-apart ruleKinds b n q (omega (arith, e, least)) (omega (arith, e, shortRefusal-most r)))
 
   -- all other runs give the numbers that they gave
   pub others-as-before : (formerNumbers (answer b l) .refusal ≡ 10 → ⊥) → numbers (answer b l) ≡ formerNumbers (answer b l)
@@ -96,4 +101,4 @@ short-clears b before r =
     let least = shortRefusal-least r in
     answer-cases (λ k. SaysShort r (numbers k) → areasAfter k before ≡ workCleared before) (lengths before) (λ a e. refl) (λ u e. refl)
     (λ u x f e. absurd (omega (arith, e, least))) (λ x f e. refl) (λ e. absurd (omega (arith, e, least))) b
-    (λ n q e. absurd (omega (arith, e, least, refused-number ruleKinds b n q .1)))
+    (λ n q e. refused-apart ruleKinds b n q (omega (arith, e, least)) (omega (arith, e, shortRefusal-most r)))

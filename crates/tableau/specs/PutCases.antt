@@ -184,7 +184,7 @@ module _ {ws : List ℕ} {n e a : Bytes} {c : Counts} {m p ρ : ℕ} {s : RowSet
       let B = A .fit .pre in
       let K = L .complete in
       subst (λ (r : Result). Sure (Started S Anyone (g A) p ρ s) r) (sym (L .gives .meets))
-      (special-started S Anyone (g A) p ρ s (A .fit .fit .inv) (B .place) (eqb→eq (lacked A) empty (from-true (eqb (lacked A) empty) (K .nothing))) (anyone-quiet S (g A)) (B .bounded) (B .rules)
+      (special-started S Anyone (g A) p ρ s (A .fit .fit .inv) (B .place) (eqb→eq (lacked A) empty (from-true (eqb (lacked A) empty) (K .nothing))) (anyone-quiet S (g A)) (B .standing) (B .rules)
       (from-false (clash (P A) s) (K .finished .clean)) (from-false (unfinished (P A .table) s) (K .finished .finished)))
 
   -- the judgement of the new node may rely on this
