@@ -13,7 +13,6 @@ use Rattle.concepts.specs.Concept.{Table}
 use Rattle.meaning.specs.Meaning.{World, finite, Holds, Obeys, Member, ObeysInclusions, Model}
 use Rattle.rulefile.specs.Format.{Bytes, RuleFile, accepted, reading}
 use Rattle.procedure.specs.Example.{worldOf}
-use Rattle.procedure.specs.ExampleLaws.{world-includes}
 use Rattle.run.specs.Run as Run
 use Rattle.run.specs.ExampleBytes.{exampleIn}
 use Rattle.run.specs.Promise as Engine
@@ -103,9 +102,8 @@ module _ {d f : RuleFile} (K : Keeps d f) where
     can = λ s. model-back (E .can s);
     canOnly = λ n m. E .canOnly n (model-there m);
     example = λ v.
-        let x = exampleIn (after .elements) (after .links) (r .elements) (r .links) in
-        let W = worldOf (f .table) x in
-        (obeys-back W (E .example v .obeys), includes-back W (world-includes (f .table) x), member-back W (E .example v .member));
+        let W = worldOf (f .table) (exampleIn (after .elements) (after .links) (r .elements) (r .links)) in
+        (obeys-back W (E .example v .obeys), includes-back W (E .example v .includes), member-back W (E .example v .member));
   }
 
 -- ---- the theorem
