@@ -1,6 +1,6 @@
 -- The ways through the converter, on plain values.
 --
--- In order: answers by their names; a draft that passed the checks; its rules and its wanted row, put one list after the other; too many rows;
+-- In order: answers by their names; a draft that passed the checks; its inclusions, its rules and its wanted row, put one after the other; too many rows;
 -- the file's bytes; a file that does not fit, or does; the call.
 -- Assumes nothing.
 use mathlib.Core.Path.{_≡_, refl, sym, ap, _∙_, subst}
@@ -13,10 +13,9 @@ use lib.ListN.{length, getD, take, replicate}
 use lib.Seq.{length-take-le}
 use borrow.Author.Tests.{lt-ltb, le-ltb, ltb-false}
 use Rattle.concepts.specs.Tests.{or-neither}
-use Rattle.concepts.specs.Lists.{range}
 use Rattle.concepts.specs.ListLaws.{length-map-range}
 use Rattle.concepts.specs.Begins.{begins-length}
-use Rattle.concepts.specs.Concept.{Table, conceptAt}
+use Rattle.concepts.specs.Concept.{Table, conceptAt, asRule, asWanted}
 use Rattle.decoding.specs.Decoding.{draftKinds}
 use Rattle.rulefile.specs.Format.{Bytes, ruleCount, rule, rules, wantedRows, RuleFile, contents, refused, accepted}
 use Rattle.rulefile.specs.Read.{Laid}
@@ -25,7 +24,7 @@ use Rattle.rulefile.specs.FormatLaws.{Admitted, contents-admitted}
 use Rattle.rulefile.specs.PartLaws.{laid-placed, whole}
 use Rattle.rulefile.specs.declared.Layout.{Layout}
 use Rattle.words.specs.Words.{overwrite}
-use Rattle.drafts.specs.Normalize.{PutList, putList, normalized}
+use Rattle.drafts.specs.Normalize.{PutList, putList, inclusionRows, normalized}
 use Rattle.drafts.specs.PutListLaws.{putList-grown}
 use Rattle.drafts.specs.Encoding.{rowBytes, trailer, fileBytes}
 use Rattle.drafts.specs.EncodingLaws.{length-fileBytes}
@@ -36,7 +35,7 @@ use Rattle.normalize.specs.Words.{rowIn, rowsIn}
 use Rattle.normalize.specs.WordLaws.{own-parts, length-rowsIn, conceptAt-rowsIn}
 use Rattle.normalize.specs.Shapes.{tableOf}
 use Rattle.normalize.specs.ShapeLaws.{draft-parted, draft-ordered, draft-rows}
-use Rattle.normalize.specs.Contracts.{Draft, ListAsks, ListGives}
+use Rattle.normalize.specs.Contracts.{Draft, ListAsks, ListGives, KeepAsks, KeepGives}
 use Rattle.normalize.specs.PutCases.{remembers-none}
 use Rattle.normalize.specs.declared.Listed.{Listed}
 use Rattle.normalize.specs.declared.Listed.the-variants.{Rows, Full}
@@ -68,43 +67,44 @@ module _ {b : Bytes} {l : Layout} (L : Laid draftKinds b l) where
   conversion-laid : (room : ℕ) → conversion b room ≡ writtenOr (tooLarge room (result b)) (result b)
   conversion-laid room = conversion-accepted b room (contents draftKinds b) laid-reading
 
-  -- ---- the rules, and then the wanted row
+  -- ---- the inclusions, the rules, and then the wanted row
 
   abbrev rulePlaces : PutList
-  rulePlaces = putList (tableOf b) (rules b) []
+  rulePlaces = putList (tableOf b) (rules b) (inclusionRows (tableOf b))
 
   abbrev kitPlaces : PutList
   kitPlaces = putList (tableOf b) (wantedRows b) (rulePlaces .rows)
 
-  no-rows : (ws : List ℕ) → rowsIn ws 0 ≡ []
-  unfolding rowsIn range
-  no-rows ws = refl
+  pub inclusions-asks : (ws : List ℕ) → length ws ≡ 64 → KeepAsks b (l .rows) ws
+  inclusions-asks ws words = record { draft = laid-draft; rows = ap (λ (x : Layout). x .rows) (laid-placed L .layout); size = words }
 
-  module _ {list : List ℕ} (is-rules : list ≡ rules b) (ws places : List ℕ) (words : length ws ≡ 64) (room : length places ≡ 64) where
-    pub rules-asks : ListAsks b list (replicate 128 255) ws 0 places
+  module _ {list : List ℕ} (is-rules : list ≡ rules b) {ws : List ℕ} {n₀ : ℕ} (I : KeepGives b ws n₀) (places : List ℕ) (room : length places ≡ 64) where
+    pub rules-asks : ListAsks b list (replicate 128 255) ws n₀ places
     rules-asks = record {
       draft = laid-draft;
       listed = λ k m. omega (arith, laid-admitted .wellFormed .ruleRows k (subst (λ (ks : List ℕ). List·Memᴰ k ks) is-rules m), draft-rows laid-draft);
-      held = record { size = words; few = omega arith; own = λ i h. absurd (omega (arith, h)) };
-      remembered = remembers-none (rowsIn ws 0) (draft-parted laid-draft .fewRows);
+      idle = λ k m. laid-admitted .wellFormed .serving k (asRule (subst (λ (ks : List ℕ). List·Memᴰ k ks) is-rules m));
+      held = I .held;
+      remembered = remembers-none (rowsIn ws n₀) (draft-parted laid-draft .fewRows);
       room = omega (arith, ap length is-rules, laid-admitted .fewRules);
     }
 
-    rules-put : putList (tableOf b) list (rowsIn ws 0) ≡ rulePlaces
-    rules-put = rw (is-rules, no-rows ws)
+    rules-put : putList (tableOf b) list (rowsIn ws n₀) ≡ rulePlaces
+    rules-put = rw (is-rules, I .rows)
 
     -- too many rows
-    pub rules-full : {memo′ ws′ places′ : List ℕ} → ListGives b list ws 0 memo′ ws′ places places′ Full → 64 < length (result b .table)
+    pub rules-full : {memo′ ws′ places′ : List ℕ} → ListGives b list ws n₀ memo′ ws′ places places′ Full → 64 < length (result b .table)
     unfolding normalized
     rules-full G =
         let long : 64 < length (rulePlaces .rows) = rw rules-put at (G .got) in
         omega (arith, begins-length (rulePlaces .rows) (kitPlaces .rows) (putList-grown (tableOf b) (draft-ordered laid-draft) (wantedRows b) (rulePlaces .rows) .more))
 
-    module _ {memo′ ws′ places′ : List ℕ} {n : ℕ} (G : ListGives b list ws 0 memo′ ws′ places places′ (Rows n)) {kit : List ℕ} (is-kit : kit ≡ wantedRows b) where
+    module _ {memo′ ws′ places′ : List ℕ} {n : ℕ} (G : ListGives b list ws n₀ memo′ ws′ places places′ (Rows n)) {kit : List ℕ} (is-kit : kit ≡ wantedRows b) where
       pub kit-asks : ListAsks b kit memo′ ws′ n (0 ∷ [])
       kit-asks = record {
         draft = laid-draft;
         listed = λ k m. omega (arith, laid-admitted .wellFormed .wantedRows k (subst (λ (ks : List ℕ). List·Memᴰ k ks) is-kit m), draft-rows laid-draft);
+        idle = λ k m. laid-admitted .wellFormed .serving k (asWanted (subst (λ (ks : List ℕ). List·Memᴰ k ks) is-kit m));
         held = G .got .held;
         remembered = G .got .remembered;
         room = omega (arith, ap length is-kit);

@@ -1,4 +1,4 @@
-// The converter of drafts (02, [1]): a draft and one lent area in, a rule file in the area and the answer out.
+// The converter of drafts (02, [1] and [6]): a draft and one lent area in, a rule file in the area and the answer out.
 //
 // In order: the answer; a refusal; a file that fits is written; an accepted draft; the call.
 ghost use mathlib.Core.Path.{_≡_};
@@ -12,6 +12,7 @@ use normalize::Listed;
 use normalize::MOST_ROWS;
 use normalize::NO_PLACE;
 use normalize::SLOTS;
+use normalize::keep_inclusions;
 use normalize::put_list;
 use rulefile::Layout;
 use rulefile::Outcome;
@@ -22,7 +23,7 @@ use rulefile::wanted_of;
 // The refusal's number and 0, or 0 and the length of the file that is written.
 #[repr(C)]
 pub struct Conversion {
-    // 1 to 8: a check refuses the draft; 12: the result is too large. 0 with a file.
+    // 1 to 8 and 16: a check refuses the draft; 12: the result is too large. 0 with a file.
     pub refusal: u32,
     // How many bytes of the area are the file.
     pub length: u32,
@@ -83,7 +84,7 @@ fn finish(
     }
 }
 
-// Converts a draft that passed the checks. Rows are kept aside until all is known to fit.
+// Converts a draft that passed the checks: its inclusions first, then what its rules and its wanted row need. Rows are kept aside until all is known to fit.
 fn convert_accepted(draft: &[u8], layout: Layout, area: &mut [u8]) -> Conversion
     requires { ⌜ Laid draftKinds (now draft) layout ⌝ }
     ensures { λ r. ⌜ Converts (now (draft .entry)) (now (area .entry)) (numbersOf r) (now (area .exit)) ⌝ }
@@ -94,7 +95,8 @@ fn convert_accepted(draft: &[u8], layout: Layout, area: &mut [u8]) -> Conversion
     let mut wanted = [0u8; 1];
     let tbox = rules_of(draft, layout);
     let kit = wanted_of(draft, layout);
-    match put_list(draft, tbox, &mut memo, &mut written, 0, &mut rules) {
+    let inclusions = keep_inclusions(draft, layout.rows, &mut written);
+    match put_list(draft, tbox, &mut memo, &mut written, inclusions, &mut rules) {
         Listed::Rows(n) => {
             match put_list(draft, kit, &mut memo, &mut written, n, &mut wanted) {
                 Listed::Rows(m) => finish(draft, layout, &written, m, &rules, wanted[0], area),

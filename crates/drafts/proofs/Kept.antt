@@ -5,11 +5,12 @@
 use mathlib.Core.Path.{_≡_, refl, sym, ap, _∙_, subst}
 use mathlib.Core.Bool.{Bool, true, false}
 use mathlib.Core.Logic.{_⊎_, inl, inr}
-use Prim.Native.Nat.{ℕ, _≤_}
+use Prim.Native.Nat.{ℕ}
 use native.Mathlib.Omega.{arith}
 use lib.ListN.{length, drop}
 use lib.Seq.{take-at}
 use Rattle.rulefile.specs.Format.{Bytes, RuleFile, Reading, refused, accepted, reading}
+use Rattle.rulefile.specs.Checks.{FileRefusal}
 use Rattle.rulefile.specs.CheckLaws.{refused-number}
 use Rattle.rulefile.specs.FormatLaws.{accepted-admitted}
 use Rattle.decoding.specs.Decoding.{draftKinds}
@@ -33,20 +34,20 @@ conversion-accepted draft room d e = ap (conversionOf room) e
 
 -- ---- the numbers of refusals
 
--- 1 to 8 by a check of the draft, and 12; 0 with a file. 9 is not used again (02, [3])
+-- 1 to 8 or 16 by a check of the draft, and 12; 0 with a file. 9 is not used again (02, [3])
 abbrev pub ConversionRefusal : ℕ → Type 0
-ConversionRefusal n = (n ≤ 8) ⊎ (n ≡ 12)
+ConversionRefusal n = (n ≡ 0) ⊎ (FileRefusal n ⊎ (n ≡ 12))
 
 pub conversion-refusal : (draft : Bytes) (room : ℕ) → ConversionRefusal (numbers (conversion draft room) .refusal)
 unfolding conversion conversionOf writtenOr numbers
 conversion-refusal draft room = go (draftReading draft) refl
   where
     by-size : (large : Bool) (f : RuleFile) → ConversionRefusal (numbers (writtenOr large f) .refusal)
-    by-size true f = inr refl
-    by-size false f = inl (omega arith)
+    by-size true f = inr (inr refl)
+    by-size false f = inl refl
 
     go : (r : Reading) → draftReading draft ≡ r → ConversionRefusal (numbers (conversionOf room r) .refusal)
-    go (refused n) e = inl (refused-number draftKinds draft n e .1)
+    go (refused n) e = inr (inl (refused-number draftKinds draft n e))
     go (accepted d) e = by-size (tooLarge room (normalized d)) (normalized d)
 
 -- ---- the promise

@@ -10,7 +10,7 @@ use native.Mathlib.Omega.{arith}
 use lib.ListN.{length, getD, take}
 use Rattle.concepts.specs.ListLaws.{getD-mem, mem-getD}
 use Rattle.concepts.specs.Concept.{Table}
-use Rattle.meaning.specs.Meaning.{World, finite, Holds, Obeys, Member, Model}
+use Rattle.meaning.specs.Meaning.{World, finite, Holds, Obeys, Member, ObeysInclusions, Model}
 use Rattle.rulefile.specs.Format.{Bytes, RuleFile, accepted, reading}
 use Rattle.procedure.specs.Example.{worldOf}
 use Rattle.run.specs.Run as Run
@@ -19,6 +19,7 @@ use Rattle.run.specs.Promise as Engine
 use Rattle.run.specs.Promise.{NotShort, SaysCannot, SaysCan}
 use Rattle.drafts.specs.Conversion.{Numbers, draftReading}
 use Rattle.drafts.specs.Promise.{Same, Keeps, Promise}
+use Rattle.drafts.specs.InclusionRowLaws.{obeys-inclusions}
 
 -- ---- what is said of the draft
 
@@ -27,7 +28,7 @@ DraftModel d = Model (d .table) (d .tbox) (d .wanted)
 
 -- the engine answered r to the file f, and the example areas hold `after`; d is the draft
 pub record SpeaksOf (d f : RuleFile) (r : Run.Numbers) (after : Run.Areas) : Type 0 where
-  -- unless a record finds no place, "cannot" exactly when no finite world of any size obeys the draft's rules and has a member of its kit
+  -- unless a record finds no place, "cannot" exactly when no finite world of any size obeys the draft's rules and inclusions and has a member of its kit
   pub cannot : SaysCannot r → DraftModel d → ⊥
   pub cannotOnly : NotShort r → (DraftModel d → ⊥) → SaysCannot r
   -- "can" or 11 exactly when one does
@@ -36,7 +37,7 @@ pub record SpeaksOf (d f : RuleFile) (r : Run.Numbers) (after : Run.Areas) : Typ
   -- with "can" the world read from the bytes of the example areas is such a world, and its element 0 a member
   pub example : r .verdict ≡ 1
       → let W = finite (worldOf (f .table) (exampleIn (after .elements) (after .links) (r .elements) (r .links))) in
-      Obeys W (d .table) (d .tbox) × Member W (d .table) (d .wanted) 0
+      Obeys W (d .table) (d .tbox) × ObeysInclusions W (d .table) × Member W (d .table) (d .wanted) 0
 
 -- ---- the rows of a list
 
@@ -64,6 +65,12 @@ module _ {d f : RuleFile} (K : Keeps d f) where
     obeys-back : Obeys (finite W) (f .table) (f .tbox) → Obeys (finite W) (d .table) (d .tbox)
     obeys-back o k m e h = list-back W (d .table) (f .table) (d .tbox) (f .tbox) (K .rules W) (K .ruleCount) e h (λ j n. o j n e h) k m
 
+    includes-there : ObeysInclusions (finite W) (d .table) → ObeysInclusions (finite W) (f .table)
+    includes-there = obeys-inclusions (d .table) (f .table) (K .inclusions) (K .others) (finite W) .0
+
+    includes-back : ObeysInclusions (finite W) (f .table) → ObeysInclusions (finite W) (d .table)
+    includes-back = obeys-inclusions (d .table) (f .table) (K .inclusions) (K .others) (finite W) .1
+
     member-there : {e : ℕ} → Member (finite W) (d .table) (d .wanted) e → Member (finite W) (f .table) (f .wanted) e
     member-there {e} (h, all) = (h, list-there W (d .table) (f .table) (d .wanted) (f .wanted) (K .kit W) (K .kitCount) e h all)
 
@@ -71,10 +78,22 @@ module _ {d f : RuleFile} (K : Keeps d f) where
     member-back {e} (h, all) = (h, list-back W (d .table) (f .table) (d .wanted) (f .wanted) (K .kit W) (K .kitCount) e h all)
 
   model-there : DraftModel d → Model (f .table) (f .tbox) (f .wanted)
-  model-there m = record { world = m .world; obeys = obeys-there (m .world) (m .obeys); element = m .element; member = member-there (m .world) (m .member) }
+  model-there m = record {
+    world = m .world;
+    obeys = obeys-there (m .world) (m .obeys);
+    includes = includes-there (m .world) (m .includes);
+    element = m .element;
+    member = member-there (m .world) (m .member);
+  }
 
   model-back : Model (f .table) (f .tbox) (f .wanted) → DraftModel d
-  model-back m = record { world = m .world; obeys = obeys-back (m .world) (m .obeys); element = m .element; member = member-back (m .world) (m .member) }
+  model-back m = record {
+    world = m .world;
+    obeys = obeys-back (m .world) (m .obeys);
+    includes = includes-back (m .world) (m .includes);
+    element = m .element;
+    member = member-back (m .world) (m .member);
+  }
 
   speaks : {l : Run.Lengths} {r : Run.Numbers} {after : Run.Areas} → Engine.Right f l r after → SpeaksOf d f r after
   speaks {l} {r} {after} E = record {
@@ -84,7 +103,7 @@ module _ {d f : RuleFile} (K : Keeps d f) where
     canOnly = λ n m. E .canOnly n (model-there m);
     example = λ v.
         let W = worldOf (f .table) (exampleIn (after .elements) (after .links) (r .elements) (r .links)) in
-        (obeys-back W (E .example v .obeys), member-back W (E .example v .member));
+        (obeys-back W (E .example v .obeys), includes-back W (E .example v .includes), member-back W (E .example v .member));
   }
 
 -- ---- the theorem

@@ -19,7 +19,7 @@ draftReading b = readingOf draftKinds b
 -- ---- what comes of a draft
 
 pub data Conversion : Type 0 where
-  refusedWith : ℕ → Conversion  -- a check refuses the draft, 1 to 8, or the result is too large, 12
+  refusedWith : ℕ → Conversion  -- a check refuses the draft, 1 to 8 or 16, or the result is too large, 12
   written : Bytes → Conversion  -- a file of document 01
 
 -- "if the result needs more than 64 rows, more than 4,096 bytes or more than the area"

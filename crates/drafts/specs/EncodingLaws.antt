@@ -11,19 +11,20 @@ use mathlib.Core.List.{List, [], _∷_, _++_, append-assoc}
 use mathlib.Core.Option.{some}
 use Prim.Native.Nat.{ℕ, zero, suc, _+_, _-_, _*_, _<_}
 use native.Mathlib.Nat.{not-suc-le-zero, le-of-suc-le-suc, zero-add, mod-add-div}
+use native.Mathlib.Decide.{decLt}
 use native.Mathlib.Omega.{arith}
-use lib.Dec.{leb}
+use lib.Dec.{eqb, ltb, leb}
 use lib.ListN.{length, getD, take, length-append, List·getD-append}
 use lib.Seq.{take-at, getD-append-add}
 use borrow.Author.Tests.{le-ltb, lt-leb, eq-eqb, ne-eqb}
-use Rattle.concepts.specs.Tests.{impossible}
+use Rattle.concepts.specs.Tests.{impossible, and-nothing, as-false}
 use Rattle.concepts.specs.Lists.{NoneBelow}
 use Rattle.concepts.specs.ListLaws.{getD-mem, map-range-whole, any-none, any-range-none, NoneBelow-suc}
-use Rattle.concepts.specs.Concept.{atomic, Table, conceptAt, arguments}
+use Rattle.concepts.specs.Concept.{atomic, Table, conceptAt, arguments, isInclusion, NoInclusion, asArgument, asRule, asWanted}
 use Rattle.decoding.specs.Decoding.{ruleKinds, decode, malformed, conceptOf}
-use Rattle.decoding.specs.RowPartLaws.{decode-own}
+use Rattle.decoding.specs.RowPartLaws.{row-parts, decode-own}
 use Rattle.rulefile.specs.Format.{Bytes, trailerByte, firstRow, rowCount, ruleCount, wantedRow, rowByte, rule, conceptIn, RuleFile, contents, accepted, reading}
-use Rattle.rulefile.specs.Format.{badLength, badMark, badCounts, badPlace, badRow, badArgument, someRow, sameRow, repeated, badRule, checks}
+use Rattle.rulefile.specs.Format.{badLength, badMark, badCounts, badPlace, badRow, badArgument, someRow, sameRow, repeated, badRule, inclusionAt, inclusionNamed, inclusionServes, checks}
 use Rattle.rulefile.specs.Checks.{refusesAt, PassedAll}
 use Rattle.rulefile.specs.CheckLaws.{reading-accepted}
 use Rattle.drafts.specs.Normalize.{sameRow as sameParts}
@@ -195,6 +196,39 @@ module _ (f : RuleFile) (W : Writable f) where
       rw (any-range-none (λ i. leb n (rule (fileBytes f) i)) (ruleCount (fileBytes f)) (λ i h. lt-leb n (rule (fileBytes f) i) (rule-lt i h)))
       (lt-leb n (wantedRow (fileBytes f)) (omega (arith, wanted-lt, rowCount-fileBytes f, wantedRow-fileBytes f)))
 
+  -- what is no inclusion in the table is none by its bytes
+  inclusionAt-fileBytes : (k : ℕ) → NoInclusion (f .table) k → inclusionAt (fileBytes f) k ≡ false
+  unfolding inclusionAt badRow
+  inclusionAt-fileBytes k none = elim (decLt k (length (f .table))) [
+    | yes h ↦
+        let parts = row-parts ruleKinds _ _ _ _ (badRow-fileBytes k h) in
+        let other : eqb (rowByte (fileBytes f) k 0) 7 ≡ false = sym (parts .inclusion-is) ∙ ap isInclusion (conceptIn-fileBytes k h) ∙ as-false _ none in
+        rw other (and-nothing (ltb k (rowCount (fileBytes f))))
+    | no g ↦ rw (le-ltb k (rowCount (fileBytes f)) (omega (arith, rowCount-fileBytes f)))
+  ]
+
+  inclusionNamed-fileBytes : (k : ℕ) → k < length (f .table) → inclusionNamed ruleKinds (fileBytes f) k ≡ false
+  unfolding inclusionNamed
+  inclusionNamed-fileBytes k h =
+      rw (conceptIn-fileBytes k h)
+      (any-none (inclusionAt (fileBytes f)) (arguments (conceptAt (f .table) k)) (λ l m. inclusionAt-fileBytes l (W .serving l (asArgument k m))))
+
+  rule-idle : (i : ℕ) → i < ruleCount (fileBytes f) → inclusionAt (fileBytes f) (rule (fileBytes f) i) ≡ false
+  rule-idle i h =
+      let l : i < length (f .tbox) = omega (arith, ruleCount-fileBytes f) in
+      rw (rule-fileBytes f i l) (inclusionAt-fileBytes (getD (f .tbox) i 0) (W .serving (getD (f .tbox) i 0) (asRule (getD-mem (f .tbox) i 0 l))))
+
+  wanted-idle : inclusionAt (fileBytes f) (wantedRow (fileBytes f)) ≡ false
+  wanted-idle =
+      let wanted = getD (f .wanted) 0 0 in
+      rw (wantedRow-fileBytes f) (inclusionAt-fileBytes wanted (W .serving wanted (asWanted (getD-mem (f .wanted) 0 0 (omega (arith, W .oneWanted))))))
+
+  inclusionServes-fileBytes : inclusionServes ruleKinds (fileBytes f) ≡ false
+  unfolding inclusionServes
+  inclusionServes-fileBytes =
+      rw (someRow-fileBytes (inclusionNamed ruleKinds (fileBytes f)) inclusionNamed-fileBytes)
+      (rw (any-range-none (λ i. inclusionAt (fileBytes f) (rule (fileBytes f) i)) (ruleCount (fileBytes f)) rule-idle) wanted-idle)
+
   passed-fileBytes : PassedAll ruleKinds (fileBytes f)
   unfolding checks
   passed-fileBytes =
@@ -206,7 +240,8 @@ module _ (f : RuleFile) (W : Writable f) where
       let p₅ = next 4 p₄ (someRow-fileBytes (badRow ruleKinds (fileBytes f)) badRow-fileBytes) in
       let p₆ = next 5 p₅ (someRow-fileBytes (badArgument ruleKinds (fileBytes f)) badArgument-fileBytes) in
       let p₇ = next 6 p₆ (someRow-fileBytes (repeated (fileBytes f)) repeated-fileBytes) in
-      next 7 p₇ badRule-fileBytes
+      let p₈ = next 7 p₇ badRule-fileBytes in
+      next 8 p₈ inclusionServes-fileBytes
 
   -- ---- the bytes hold the file
 

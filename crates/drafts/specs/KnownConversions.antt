@@ -3,15 +3,15 @@
 use mathlib.Core.Path.{_≡_, refl}
 use mathlib.Core.List.{List, [], _∷_, map, flatten}
 use Prim.Native.Nat.{ℕ}
-use Rattle.concepts.specs.Lists.{range, any, first}
+use Rattle.concepts.specs.Lists.{range, select, any, first}
 use Rattle.concepts.specs.Concept.{roleOf}
 use Rattle.concepts.specs.RowSet.{mem}
 use Rattle.decoding.specs.Decoding.{ofKind, decode}
 use Rattle.decoding.specs.RowParts.{kindOf, leftOf, rightOf}
-use Rattle.rulefile.specs.Format.{Bytes, badLength, badMark, badCounts, badPlace, badRow, badArgument, repeated, badRule, checks, refusal, readingOf}
+use Rattle.rulefile.specs.Format.{Bytes, badLength, badMark, badCounts, badPlace, badRow, badArgument, repeated, badRule, inclusionAt, inclusionNamed, inclusionServes, checks, refusal, readingOf}
 use Rattle.rulefile.specs.Format as Format
 use Rattle.run.specs.KnownRuns.{written}
-use Rattle.drafts.specs.Normalize.{shape, sameRow, placeOf, share, putShape, putBelow, put, putList, normalized}
+use Rattle.drafts.specs.Normalize.{shape, sameRow, placeOf, share, putShape, putBelow, put, putList, inclusionRows, normalized}
 use Rattle.drafts.specs.Encoding.{tableBytes, trailer, fileBytes}
 use Rattle.drafts.specs.Conversion.{Conversion, refusedWith, tooLarge, writtenOr, conversionOf, conversion}
 use Rattle.drafts.specs.Conversion as Conversion
@@ -48,13 +48,19 @@ knownConversions =
       room = 4096;
       expected = Conversion.written (written (row 2 0 7 0 ∷ row 6 3 0 0 ∷ []) [] 1);
     }
-    -- kind 7 is none of a draft's; a "not" has no right row
-    ∷ record { draft = written (row 1 0 7 0 ∷ row 7 0 0 0 ∷ []) [] 1; room = 4096; expected = refusedWith 5 }
+    -- role inclusions come first, in their order, needed or not
+    ∷ record {
+      draft = written (row 1 0 7 0 ∷ row 7 4 2 0 ∷ row 8 0 0 0 ∷ row 7 2 0 0 ∷ []) [] 2;
+      room = 4096;
+      expected = Conversion.written (written (row 7 4 2 0 ∷ row 7 2 0 0 ∷ row 2 0 7 0 ∷ []) [] 2);
+    }
+    -- none of them can be wanted; a "not" has no right row
+    ∷ record { draft = written (row 1 0 7 0 ∷ row 7 4 2 0 ∷ []) [] 1; room = 4096; expected = refusedWith 16 }
     ∷ record { draft = written (row 1 0 7 0 ∷ row 8 0 0 1 ∷ []) [] 1; room = 4096; expected = refusedWith 5 }
     ∷ []
 
 pub known-conversions : map (λ (k : KnownConversion). conversion (k .draft) (k .room)) knownConversions ≡ map (λ (k : KnownConversion). k .expected) knownConversions
-unfolding knownConversions written flatten conversion conversionOf readingOf refusal checks range any first badLength badMark badCounts badPlace badRow badArgument Format.sameRow
-    repeated badRule decode ofKind mem normalized putList put putBelow putShape shape share placeOf sameRow kindOf roleOf leftOf rightOf fileBytes tableBytes trailer
-    tooLarge writtenOr
+unfolding knownConversions written flatten conversion conversionOf readingOf refusal checks range select any first badLength badMark badCounts badPlace badRow badArgument Format.sameRow
+    repeated badRule inclusionServes inclusionNamed inclusionAt decode ofKind mem normalized inclusionRows putList put putBelow putShape shape share placeOf sameRow kindOf roleOf
+    leftOf rightOf fileBytes tableBytes trailer tooLarge writtenOr
 known-conversions = refl

@@ -9,6 +9,7 @@ pub mod ShapeLaws
 pub mod ShareLaws
 pub mod PutLaws
 pub mod SoundLaws
+pub mod InclusionRowLaws
 pub mod NeededLaws
 pub mod ShapeMeaning
 pub mod MeaningLaws

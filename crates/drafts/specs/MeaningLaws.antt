@@ -1,16 +1,17 @@
--- In every finite world what is put for a row holds at the same elements as the row, or as its opposite.
+-- In every finite world what is put for a row that is no inclusion holds at the same elements as the row, or as its opposite.
 -- Assumes nothing.
 use mathlib.Core.Path.{_≡_, sym, ap, subst, transport}
 use mathlib.Core.Logic.{_↔_, Iff·trans}
 use Prim.Native.Nat.{ℕ}
 use Rattle.concepts.specs.Begins.{Begins, begins-trans}
-use Rattle.concepts.specs.Concept.{Concept, Table, conceptAt, Ordered}
+use Rattle.concepts.specs.Concept.{Concept, Table, conceptAt, Ordered, NoInclusion}
 use Rattle.meaning.specs.Meaning.{World, finite, Means, Holds}
 use Rattle.meaning.specs.MeaningLaws.{holds-clause, holds-as}
 use Rattle.meaning.specs.FiniteLaws.{holds-decided}
 use Rattle.drafts.specs.Normalize.{Sign, Shape, literal, other, unary, binary, shape, Put, put}
+use Rattle.drafts.specs.Sound.{Idle}
 use Rattle.drafts.specs.ShareLaws.{Shared, share-gives, shared-here}
-use Rattle.drafts.specs.PutLaws.{GrownStep, put-grown-induction}
+use Rattle.drafts.specs.PutLaws.{GrownStep, put-idle-induction}
 use Rattle.drafts.specs.ShapeMeaning.{Signed, ShapeMeans, shape-means}
 
 equal-types : {A B : Type 0} → A ≡ B → A ↔ B
@@ -41,8 +42,8 @@ module _ (W : World) (t : Table) (ordered : Ordered t) where
   abbrev Says : Sign → ℕ → Table → Shape → Type 0
   Says s k u σ = ShapeMeans W Row (Holds (finite W) u) (conceptAt t k) s σ
 
-  meant-step : (s : Sign) (k : ℕ) (σ : Shape) → shape (conceptAt t k) s ≡ σ → GrownStep t ordered Meant s k σ
-  meant-step s k σ e = by-shape σ (λ u. subst (Says s k u) e (shape-means W Row (Holds (finite W) u) (holds-decided W t) (conceptAt t k) s))
+  meant-step : (s : Sign) (k : ℕ) (σ : Shape) → NoInclusion t k → shape (conceptAt t k) s ≡ σ → GrownStep t ordered Meant s k σ
+  meant-step s k σ n e = by-shape σ (λ u. subst (Says s k u) e (shape-means W Row (Holds (finite W) u) (holds-decided W t) (conceptAt t k) s n))
     where
       by-shape : (σ : Shape) → ((u : Table) → Says s k u σ) → GrownStep t ordered Meant s k σ
       by-shape (literal c) M = λ out u o b d. Iff·trans (shared-means (share-gives c out) u o b d) (Iff·trans (M u d) (by-clause s k d))
@@ -56,5 +57,6 @@ module _ (W : World) (t : Table) (ordered : Ordered t) where
           let left : Begins (p .rows) u = begins-trans (p .rows) (q .rows) u (F .more) right in
           Iff·trans (shared-means S u o b d) (Iff·trans (M u (p .at) (q .at) (H u o left) (K u o right) d) (by-clause s k d))
 
-  pub put-means : (s : Sign) (k : ℕ) (out u : Table) → Ordered u → Begins (put t s k out .rows) u → MeansRow s k u (put t s k out .at)
-  put-means = put-grown-induction t ordered Meant meant-step
+  pub put-means : Idle t → (s : Sign) (k : ℕ) (out : Table) → NoInclusion t k → (u : Table) → Ordered u → Begins (put t s k out .rows) u
+      → MeansRow s k u (put t s k out .at)
+  put-means idle = put-idle-induction t ordered idle Meant meant-step

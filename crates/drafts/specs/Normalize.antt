@@ -1,6 +1,6 @@
--- Negation normal form: which rows are written for the rules and the wanted rows of a draft (02, [1]).
+-- Negation normal form: which rows are written for the rules and the wanted rows of a draft, behind its role inclusions (02, [1] and [6]).
 --
--- In order: what becomes of a row; where equal rows are shared; a row with all that it needs; a list of rows; the file.
+-- In order: what becomes of a row; where equal rows are shared; a row with all that it needs; a list of rows; the inclusions; the file.
 -- A row that was written before is found again with all that it needs, so the definition need not remember which rows were written; the code does (`Grown` in PutLaws).
 -- Assumes nothing.
 use mathlib.Core.Bool.{Bool, true, false, not, _&&_, cond}
@@ -9,8 +9,8 @@ use mathlib.Core.Option.{Option, none, some}
 use Prim.Native.Nat.{ℕ, zero, suc}
 use lib.Dec.{eqb}
 use lib.ListN.{length}
-use Rattle.concepts.specs.Lists.{range, first}
-use Rattle.concepts.specs.Concept.{Concept, atomic, negated, conj, disj, univ, exist, neg, impl, Table, conceptAt, roleOf}
+use Rattle.concepts.specs.Lists.{range, select, first}
+use Rattle.concepts.specs.Concept.{Concept, atomic, negated, conj, disj, univ, exist, inclusion, neg, impl, Table, conceptAt, roleOf, isInclusion}
 use Rattle.decoding.specs.RowParts.{kindOf, leftOf, rightOf}
 use Rattle.rulefile.specs.Format.{RuleFile}
 
@@ -46,6 +46,8 @@ shape (univ ρ l) true = unary (univ ρ) asIs l
 shape (univ ρ l) false = unary (exist ρ) opposite l
 shape (exist ρ l) true = unary (exist ρ) asIs l
 shape (exist ρ l) false = unary (univ ρ) opposite l
+-- never asked for: no row of kind 7 "serves as an argument, a rule or the wanted row" (02, [6], refusal 16)
+shape (inclusion ρ σ) s = literal (inclusion ρ σ)
 shape (neg l) s = other (not s) l
 shape (impl l r) true = binary disj opposite l asIs r
 shape (impl l r) false = binary conj asIs l opposite r
@@ -105,9 +107,15 @@ putList t (k ∷ ks) out =
     let q = putList t ks (p .rows) in
     record { rows = q .rows; places = p .at ∷ q .places }
 
--- "Only rows needed by the rules, in list order, and then by the wanted row are written .. The rule list keeps its length and order, repeats included"
+-- ---- the file
+
+-- "A converted draft keeps all its kind 7 rows, in their order, before the other rows" (02, [6])
+unfoldable pub inclusionRows : Table → Table
+inclusionRows t = select isInclusion t
+
+-- of the other rows "Only rows needed by the rules, in list order, and then by the wanted row are written .. The rule list keeps its length and order, repeats included"
 unfoldable pub normalized : RuleFile → RuleFile
 normalized draft =
-    let rules = putList (draft .table) (draft .tbox) [] in
+    let rules = putList (draft .table) (draft .tbox) (inclusionRows (draft .table)) in
     let kit = putList (draft .table) (draft .wanted) (rules .rows) in
     record { text = draft .text; table = kit .rows; tbox = rules .places; wanted = kit .places }

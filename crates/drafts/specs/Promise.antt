@@ -1,4 +1,4 @@
--- What the converter's call promises, for every draft and every area (02, [1]).
+-- What the converter's call promises, for every draft and every area (02, [1] and [6]).
 --
 -- In order: when a row is needed; rows that hold of the same elements; what a rule file keeps of a draft; an accepted draft; the whole promise.
 -- It is kept: proofs/Kept. What the engine then says of the file is true of the draft: proofs/Verdict.
@@ -6,13 +6,14 @@
 use mathlib.Core.Path.{_≡_}
 use mathlib.Core.List.{List·Memᴰ}
 use mathlib.Core.Logic.{_↔_}
-use Prim.Native.Nat.{ℕ, _<_}
+use Prim.Native.Nat.{ℕ, _≤_, _<_}
 use lib.Dec.{T}
 use lib.ListN.{length, getD, take}
-use Rattle.concepts.specs.Concept.{Table, conceptAt, arguments}
+use Rattle.concepts.specs.Begins.{Begins}
+use Rattle.concepts.specs.Concept.{Table, conceptAt, arguments, NoInclusion}
 use Rattle.meaning.specs.Meaning.{World, finite, Holds}
 use Rattle.rulefile.specs.Format.{Bytes, RuleFile, refused, accepted, reading}
-use Rattle.drafts.specs.Normalize.{normalized}
+use Rattle.drafts.specs.Normalize.{inclusionRows, normalized}
 use Rattle.drafts.specs.Conversion.{draftReading, tooLarge, Numbers, numbers, conversion, areaAfter}
 
 -- "rows needed by the rules .. and then by the wanted row"
@@ -25,11 +26,13 @@ pub data Needed (f : RuleFile) : ℕ → Type 0 where
 abbrev pub Same : World → Table → ℕ → Table → ℕ → Type 0
 Same W t k u j = (d : ℕ) → d < W .size → Holds (finite W) t k d ↔ Holds (finite W) u j d
 
--- the file has the draft's text, and only rows that a rule or the wanted row needs.
+-- the file has the draft's text, its inclusions in their order, and behind these only rows that a rule or the wanted row needs.
 -- "The rule list keeps its length and order .. Each rule and the kit must hold of the same elements of every finite world as before"
 pub record Keeps (draft file : RuleFile) : Type 0 where
   pub text : file .text ≡ draft .text
-  pub needed : (k : ℕ) → k < length (file .table) → Needed file k
+  pub inclusions : Begins (inclusionRows (draft .table)) (file .table)
+  pub others : (k : ℕ) → length (inclusionRows (draft .table)) ≤ k → NoInclusion (file .table) k
+  pub needed : (k : ℕ) → length (inclusionRows (draft .table)) ≤ k → k < length (file .table) → Needed file k
   pub ruleCount : length (file .tbox) ≡ length (draft .tbox)
   pub rules : (W : World) (i : ℕ) → i < length (draft .tbox) → Same W (draft .table) (getD (draft .tbox) i 0) (file .table) (getD (file .tbox) i 0)
   pub kitCount : length (file .wanted) ≡ length (draft .wanted)

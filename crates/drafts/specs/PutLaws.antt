@@ -1,7 +1,8 @@
 -- Laws of putting a row with all that it needs: its clause without a bound, and induction over it.
 --
 -- In order: the clause (`put-clause`); induction (`put-induction`); growth and settlement
--- (`Grown`, `put-grown`): what is put once is found again, with all that it needs, as the table grows; induction where growth is known (`put-grown-induction`).
+-- (`Grown`, `put-grown`): what is put once is found again, with all that it needs, as the table grows; induction where growth is known
+-- (`put-grown-induction`), and over rows that are no inclusions (`put-idle-induction`).
 -- Assumes nothing.
 use mathlib.Core.Path.{_≡_, refl, sym, ap, _∙_, subst}
 use mathlib.Core.List.{List·Memᴰ, List·Memᴰ·head, List·Memᴰ·tail}
@@ -10,8 +11,9 @@ use native.Mathlib.Nat.{not-suc-le-zero}
 use native.Mathlib.Omega.{arith}
 use lib.ListN.{length}
 use Rattle.concepts.specs.Begins.{Begins, begins-trans}
-use Rattle.concepts.specs.Concept.{Table, conceptAt, Ordered}
+use Rattle.concepts.specs.Concept.{Table, conceptAt, arguments, Ordered, NoInclusion}
 use Rattle.drafts.specs.Normalize.{Sign, Shape, literal, other, unary, binary, shape, Put, stands, share, putShape, putBelow, put}
+use Rattle.drafts.specs.Sound.{Idle}
 use Rattle.drafts.specs.ShapeLaws.{shapeRows, shape-rows}
 use Rattle.drafts.specs.ShareLaws.{share-gives, shared-settled}
 
@@ -27,10 +29,14 @@ putShape-same f g (binary make s k z l) h out =
     ap (λ (p : Put). share (make (p .at) (f z l (p .rows) .at)) (f z l (p .rows) .rows)) (h s k out (List·Memᴰ·head refl))
     ∙ ap (λ (q : Put). share (make (g s k out .at) (q .at)) (q .rows)) (h z l (g s k out .rows) (List·Memᴰ·tail (List·Memᴰ·head refl)))
 
+-- the rows of what becomes of row k are those that it names
+pub rows-named : (t : Table) (s : Sign) (k l : ℕ) {σ : Shape} → shape (conceptAt t k) s ≡ σ → List·Memᴰ l (shapeRows σ) → List·Memᴰ l (arguments (conceptAt t k))
+rows-named t s k l e m = subst (List·Memᴰ l) (ap shapeRows (sym e) ∙ shape-rows (conceptAt t k) s) m
+
 module _ (t : Table) (ordered : Ordered t) where
-  -- the rows of what becomes of row k are lower
-  pub rows-lower : (s : Sign) (k l : ℕ) → List·Memᴰ l (shapeRows (shape (conceptAt t k) s)) → l < k
-  rows-lower s k l m = ordered k l (subst (List·Memᴰ l) (shape-rows (conceptAt t k) s) m)
+  -- so they are lower
+  rows-lower : (s : Sign) (k l : ℕ) → List·Memᴰ l (shapeRows (shape (conceptAt t k) s)) → l < k
+  rows-lower s k l m = ordered k l (rows-named t s k l refl m)
 
   bound-free : (f g : ℕ) (s : Sign) (k : ℕ) (out : Table) → k < f → k < g → putBelow t f s k out ≡ putBelow t g s k out
   unfolding putBelow
@@ -138,3 +144,23 @@ module _ (t : Table) (ordered : Ordered t) where
 
       pub put-grown-induction : (s : Sign) (k : ℕ) (out : Table) → P s k out (put t s k out)
       put-grown-induction s k out = put-induction Both both-step s k out .1
+
+  -- ---- induction over rows that are no inclusions: the rows that they name are none either
+
+  module _ (idle : Idle t) (P : Sign → ℕ → Table → Put → Type 0)
+      (step : (s : Sign) (k : ℕ) (σ : Shape) → NoInclusion t k → shape (conceptAt t k) s ≡ σ → GrownStep P s k σ) where
+    abbrev IfIdle : Sign → ℕ → Table → Put → Type 0
+    IfIdle s k out p = NoInclusion t k → P s k out p
+
+    rows-idle : (s : Sign) (k l : ℕ) {σ : Shape} → shape (conceptAt t k) s ≡ σ → List·Memᴰ l (shapeRows σ) → NoInclusion t l
+    rows-idle s k l e m = idle k l (rows-named t s k l e m)
+
+    idle-step : (s : Sign) (k : ℕ) (σ : Shape) → shape (conceptAt t k) s ≡ σ → GrownStep IfIdle s k σ
+    idle-step s k (literal c) e = λ out n. step s k (literal c) n e out
+    idle-step s k (other z l) e = λ out p H n. step s k (other z l) n e out p (H (rows-idle s k l e (List·Memᴰ·head refl)))
+    idle-step s k (unary make z l) e = λ out p G H n. step s k (unary make z l) n e out p G (H (rows-idle s k l e (List·Memᴰ·head refl)))
+    idle-step s k (binary make z l y r) e = λ out p q G H F K n.
+        step s k (binary make z l y r) n e out p q G (H (rows-idle s k l e (List·Memᴰ·head refl))) F (K (rows-idle s k r e (List·Memᴰ·tail (List·Memᴰ·head refl))))
+
+    pub put-idle-induction : (s : Sign) (k : ℕ) (out : Table) → NoInclusion t k → P s k out (put t s k out)
+    put-idle-induction = put-grown-induction IfIdle idle-step

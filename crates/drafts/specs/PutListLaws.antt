@@ -11,10 +11,10 @@ use native.Mathlib.Omega.{arith}
 use lib.Dec.{T}
 use lib.ListN.{length, getD}
 use Rattle.concepts.specs.Begins.{Begins, begins-refl, begins-trans}
-use Rattle.concepts.specs.Concept.{Table, conceptAt, Ordered}
+use Rattle.concepts.specs.Concept.{Table, conceptAt, Ordered, NoInclusion}
 use Rattle.decoding.specs.RowParts.{inRange}
 use Rattle.drafts.specs.Normalize.{asIs, Put, stands, put, PutList, putList}
-use Rattle.drafts.specs.Sound.{Sound}
+use Rattle.drafts.specs.Sound.{Idle, Sound}
 use Rattle.drafts.specs.PutLaws.{put-grown}
 use Rattle.drafts.specs.SoundLaws.{put-sound}
 use Rattle.drafts.specs.NeededLaws.{Reaches, reaches-grown, put-reaches}
@@ -57,7 +57,9 @@ module _ (t : Table) (ordered : Ordered t) where
       at p q first rest zero h u b = first u b
       at p q first rest (suc i) h u b = rest i (le-of-suc-le-suc h) u b
 
-  pub putList-sound : ((k : ℕ) → T (inRange (conceptAt t k))) → (ks : List ℕ) (out : Table) → Sound out → Sound (putList t ks out .rows)
+  pub putList-sound : Idle t → ((k : ℕ) → T (inRange (conceptAt t k))) → (ks : List ℕ) → ((k : ℕ) → List·Memᴰ k ks → NoInclusion t k) → (out : Table)
+      → Sound out → Sound (putList t ks out .rows)
   unfolding putList
-  putList-sound ranged [] out S = S
-  putList-sound ranged (k ∷ ks) out S = putList-sound ranged ks (put t asIs k out .rows) (put-sound t ordered ranged asIs k out S)
+  putList-sound idle ranged [] none out S = S
+  putList-sound idle ranged (k ∷ ks) none out S =
+      putList-sound idle ranged ks (λ j m. none j (List·Memᴰ·tail m)) (put t asIs k out .rows) (put-sound t ordered idle ranged asIs k out (none k (List·Memᴰ·head refl)) S .0)

@@ -7,7 +7,7 @@ use mathlib.Core.Bool.{Bool, true, false, not}
 use mathlib.Core.Logic.{_↔_, Iff·rfl, Iff·symm, Iff·trans, Iff·and, _⊎_, inl, inr, ⊎-elim, ⊎-map, by-cases, Dec·not-not}
 use Prim.Native.Nat.{ℕ, _<_}
 use lib.Dec.{T, T-not, not-T}
-use Rattle.concepts.specs.Concept.{Concept, atomic, negated, conj, disj, univ, exist, neg, impl}
+use Rattle.concepts.specs.Concept.{Concept, atomic, negated, conj, disj, univ, exist, inclusion, neg, impl, isInclusion}
 use Rattle.meaning.specs.Meaning.{leads, Means, World, finite}
 use Rattle.meaning.specs.FiniteLaws.{T-decided, if-decided, all-or-not}
 use Rattle.drafts.specs.Normalize.{Sign, Shape, literal, other, unary, binary, shape}
@@ -73,21 +73,23 @@ module _ (W : World) (G H : ℕ → ℕ → Type 0) where
       → Means (finite W) H (make i j) d ↔ Signed s (Means (finite W) G c d)
 
   module _ (decided : (l e : ℕ) → Dec (G l e)) where
-    pub shape-means : (c : Concept) (s : Sign) → ShapeMeans c s (shape c s)
+    -- a role inclusion holds at no element, and has no opposite
+    pub shape-means : (c : Concept) (s : Sign) → T (not (isInclusion c)) → ShapeMeans c s (shape c s)
     unfolding shape
-    shape-means (atomic a) true = λ _. Iff·rfl
-    shape-means (atomic a) false = λ d. (T-not (W .named a d), not-T (W .named a d))
-    shape-means (negated a) true = λ _. Iff·rfl
-    shape-means (negated a) false = λ d. not-T-not (W .named a d)
-    shape-means (conj l r) true = λ _ _ p q d. Iff·and (p d) (q d)
-    shape-means (conj l r) false = λ _ _ p q d. Iff·trans (either-same (p d) (q d)) (not-both (decided l d))
-    shape-means (disj l r) true = λ _ _ p q d. either-same (p d) (q d)
-    shape-means (disj l r) false = λ _ _ p q d. Iff·trans (Iff·and (p d) (q d)) not-either
-    shape-means (univ ρ l) true = λ _ p _. all-same p
-    shape-means (univ ρ l) false = λ _ p d. Iff·trans (some-same p) (not-all (W .size) (λ e. T-decided (leads (finite W) ρ d e)) (decided l))
-    shape-means (exist ρ l) true = λ _ p _. some-same p
-    shape-means (exist ρ l) false = λ _ p _. Iff·trans (all-same p) not-some
-    shape-means (neg l) true = λ _. Iff·rfl
-    shape-means (neg l) false = λ d. Iff·symm (Dec·not-not (decided l d))
-    shape-means (impl l r) true = λ _ _ p q d. Iff·trans (either-same (p d) (q d)) (either-if (decided l d))
-    shape-means (impl l r) false = λ _ _ p q d. Iff·trans (Iff·and (p d) (q d)) (not-if (decided l d))
+    shape-means (atomic a) true _ = λ _. Iff·rfl
+    shape-means (atomic a) false _ = λ d. (T-not (W .named a d), not-T (W .named a d))
+    shape-means (negated a) true _ = λ _. Iff·rfl
+    shape-means (negated a) false _ = λ d. not-T-not (W .named a d)
+    shape-means (conj l r) true _ = λ _ _ p q d. Iff·and (p d) (q d)
+    shape-means (conj l r) false _ = λ _ _ p q d. Iff·trans (either-same (p d) (q d)) (not-both (decided l d))
+    shape-means (disj l r) true _ = λ _ _ p q d. either-same (p d) (q d)
+    shape-means (disj l r) false _ = λ _ _ p q d. Iff·trans (Iff·and (p d) (q d)) not-either
+    shape-means (univ ρ l) true _ = λ _ p _. all-same p
+    shape-means (univ ρ l) false _ = λ _ p d. Iff·trans (some-same p) (not-all (W .size) (λ e. T-decided (leads (finite W) ρ d e)) (decided l))
+    shape-means (exist ρ l) true _ = λ _ p _. some-same p
+    shape-means (exist ρ l) false _ = λ _ p _. Iff·trans (all-same p) not-some
+    shape-means (inclusion ρ σ) s i = absurd i
+    shape-means (neg l) true _ = λ _. Iff·rfl
+    shape-means (neg l) false _ = λ d. Iff·symm (Dec·not-not (decided l d))
+    shape-means (impl l r) true _ = λ _ _ p q d. Iff·trans (either-same (p d) (q d)) (either-if (decided l d))
+    shape-means (impl l r) false _ = λ _ _ p q d. Iff·trans (Iff·and (p d) (q d)) (not-if (decided l d))

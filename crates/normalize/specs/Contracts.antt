@@ -1,18 +1,18 @@
 -- What the functions that put rows ask and give. Laws are in PutCases and ListCases.
 --
--- In order: a draft; places that are remembered; a row that is shared; a row with all that it needs; a list of rows.
+-- In order: a draft; places that are remembered; a row that is shared; a row with all that it needs; a list of rows; the inclusions.
 -- Assumes nothing.
 use mathlib.Core.Path.{_≡_}
 use mathlib.Core.List.{List, List·Memᴰ}
 use Prim.Native.Nat.{ℕ, _≤_, _<_}
 use lib.ListN.{length, getD, take}
 use Rattle.concepts.specs.Begins.{Begins}
-use Rattle.concepts.specs.Concept.{Table}
+use Rattle.concepts.specs.Concept.{Table, NoInclusion}
 use Rattle.decoding.specs.Decoding.{draftKinds}
 use Rattle.rulefile.specs.Format.{Bytes, rowCount}
 use Rattle.rulefile.specs.Checks.{PassedAll}
 use Rattle.drafts.specs.Normalize as Normalize
-use Rattle.drafts.specs.Normalize.{Sign, stands, share, put, PutList, putList}
+use Rattle.drafts.specs.Normalize.{Sign, stands, share, put, PutList, putList, inclusionRows}
 use Rattle.normalize.specs.declared.Placement.{Placement}
 use Rattle.normalize.specs.declared.Placement.the-variants.{At, Full}
 use Rattle.normalize.specs.declared.Listed.{Listed}
@@ -61,6 +61,7 @@ pub record SharesRow (ws : List ℕ) (n w : ℕ) (ws′ : List ℕ) (r : Placeme
 pub record PutAsks (b : Bytes) (memo ws : List ℕ) (n k : ℕ) : Type 0 where
   pub draft : Draft b
   pub row : k < rowCount b
+  pub idle : NoInclusion (tableOf b) k
   pub held : Held ws n
   pub remembered : Remembers b (rowsIn ws n) memo
 
@@ -80,6 +81,7 @@ pub record PutGives (b : Bytes) (ws : List ℕ) (n k : ℕ) (s : Sign) (memo′ 
 pub record ListAsks (b list memo ws : List ℕ) (n : ℕ) (places : List ℕ) : Type 0 where
   pub draft : Draft b
   pub listed : (k : ℕ) → List·Memᴰ k list → k < rowCount b
+  pub idle : (k : ℕ) → List·Memᴰ k list → NoInclusion (tableOf b) k
   pub held : Held ws n
   pub remembered : Remembers b (rowsIn ws n) memo
   pub room : length list ≤ length places
@@ -99,3 +101,23 @@ pub record ListGives (b list ws : List ℕ) (n : ℕ) (memo′ ws′ places plac
   pub size : length ws′ ≡ 64
   pub placeSize : length places′ ≡ length places
   pub got : ListGot b (putList (tableOf b) list (rowsIn ws n)) (length list) memo′ ws′ places′ r
+
+-- ---- the inclusions
+
+pub record KeepAsks (b : Bytes) (count : ℕ) (ws : List ℕ) : Type 0 where
+  pub draft : Draft b
+  pub rows : count ≡ rowCount b
+  pub size : length ws ≡ 64
+
+-- the first n words hold those among the first k rows
+pub record Kept (b : Bytes) (k : ℕ) (ws : List ℕ) (n : ℕ) : Type 0 where
+  pub draft : Draft b
+  pub within : k ≤ rowCount b
+  pub few : n ≤ k
+  pub held : Held ws n
+  pub rows : rowsIn ws n ≡ inclusionRows (take k (tableOf b))
+
+-- the first n words hold those of the draft
+pub record KeepGives (b : Bytes) (ws : List ℕ) (n : ℕ) : Type 0 where
+  pub held : Held ws n
+  pub rows : rowsIn ws n ≡ inclusionRows (tableOf b)

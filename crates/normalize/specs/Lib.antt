@@ -6,3 +6,4 @@ pub mod ShapeLaws
 pub mod WordLaws
 pub mod PutCases
 pub mod ListCases
+pub mod KeepCases

@@ -12,14 +12,14 @@ use native.Mathlib.Omega.{arith}
 use lib.ListN.{length, getD, set, replicate, length-set, length-append, getD-replicate}
 use lib.Seq.{getD-set-same, getD-set-other}
 use Rattle.concepts.specs.Begins.{Begins, begins-refl, begins-trans, begins-length}
-use Rattle.concepts.specs.Concept.{Concept, Table}
+use Rattle.concepts.specs.Concept.{Concept, Table, conceptAt, arguments}
 use Rattle.decoding.specs.RowParts.{ofParts}
 use Rattle.rulefile.specs.Format.{Bytes, rowCount}
 use Rattle.drafts.specs.Normalize as Normalize
 use Rattle.drafts.specs.Normalize.{Sign, other, stands, share, putShape, put}
 use Rattle.drafts.specs.ShareLaws.{placeOf-at, placeOf-nowhere, share-found, share-new, share-gives}
 use Rattle.drafts.specs.ShapeLaws.{shapeRows}
-use Rattle.drafts.specs.PutLaws.{rows-lower, put-as, put-grown}
+use Rattle.drafts.specs.PutLaws.{rows-named, put-as, put-grown}
 use Rattle.normalize.specs.declared.Shape.{Shape}
 use Rattle.normalize.specs.declared.Shape.the-variants.{Literal, Other, Unary, Binary}
 use Rattle.normalize.specs.declared.Placement.{Placement}
@@ -27,7 +27,7 @@ use Rattle.normalize.specs.declared.Placement.the-variants.{At, Full}
 use Rattle.normalize.specs.Words.{rowIn, rowsIn, Held, Finds}
 use Rattle.normalize.specs.WordLaws.{IsRow, length-rowsIn, rowsIn-more, held-more, found-none, found-row}
 use Rattle.normalize.specs.Shapes.{shapeOf, tableOf, ShapeAt, slotOf}
-use Rattle.normalize.specs.ShapeLaws.{draft-parted, draft-ordered}
+use Rattle.normalize.specs.ShapeLaws.{draft-parted, draft-ordered, draft-idle}
 use Rattle.normalize.specs.Contracts.{Settled, Remembers, ShareAsks, Gives, SharesRow, PutAsks, Still, PutGives}
 
 -- ---- an answer by its name
@@ -175,21 +175,24 @@ module _ {b : Bytes} {memo ws : List ℕ} {n k : ℕ} (A : PutAsks b memo ws n k
     put-becomes : put t s k (rowsIn ws n) ≡ putShape (put t) (shapeOf σ) (rowsIn ws n)
     put-becomes = put-as t (draft-ordered (A .draft)) s k (sym (S .becomes)) (rowsIn ws n)
 
+    named : (l : ℕ) → List·Memᴰ l (shapeRows (shapeOf σ)) → List·Memᴰ l (arguments (conceptAt t k))
+    named l m = rows-named t s k l (sym (S .becomes)) m
+
     lower : (l : ℕ) → List·Memᴰ l (shapeRows (shapeOf σ)) → l < k
-    lower l m = rows-lower t (draft-ordered (A .draft)) s k l (subst (λ (x : Normalize.Shape). List·Memᴰ l (shapeRows x)) (S .becomes) m)
+    lower l m = draft-ordered (A .draft) k l (named l m)
 
     -- a row that it stands over may be put
     pub first-asks : (l : ℕ) → List·Memᴰ l (shapeRows (shapeOf σ)) → PutAsks b memo ws n l × (l < k)
     first-asks l m =
         let h = lower l m in
-        (record { draft = A .draft; row = omega (arith, A .row); held = A .held; remembered = A .remembered }, h)
+        (record { draft = A .draft; row = omega (arith, A .row); idle = draft-idle (A .draft) k l (named l m); held = A .held; remembered = A .remembered }, h)
 
     -- and after it another one
     pub next-asks : {memo′ ws′ : List ℕ} {l i n′ : ℕ} {z : Sign} → PutGives b ws n l z memo′ ws′ (At i n′) → (j : ℕ) → List·Memᴰ j (shapeRows (shapeOf σ))
         → PutAsks b memo′ ws′ n′ j × (j < k)
     next-asks G j m =
         let h = lower j m in
-        (record { draft = A .draft; row = omega (arith, A .row); held = G .gives .held; remembered = G .still }, h)
+        (record { draft = A .draft; row = omega (arith, A .row); idle = draft-idle (A .draft) k j (named j m); held = G .gives .held; remembered = G .still }, h)
 
   -- a name
   module _ {s : Sign} {kind name w : ℕ} (S : ShapeAt b k s (Literal kind name)) (R : IsRow w (ofParts kind 0 name 0)) where

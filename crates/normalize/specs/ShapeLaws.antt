@@ -7,12 +7,12 @@ use mathlib.Core.Bool.{true, false, not, _||_}
 use mathlib.Core.Logic.{inl, inr}
 use Prim.Native.Nat.{ℕ, zero, suc, _≤_, _<_}
 use native.Mathlib.Omega.{arith}
-use lib.Dec.{eqb, eqb→eq}
+use lib.Dec.{T, eqb, eqb→eq}
 use lib.ListN.{length}
 use borrow.Author.Tests.{le-leb, lt-leb, eq-eqb, ne-eqb}
 use Rattle.concepts.specs.Tests.{impossible, or-cases, from-true}
 use Rattle.concepts.specs.ListLaws.{length-map-range}
-use Rattle.concepts.specs.Concept.{Concept, atomic, negated, conj, disj, univ, exist, neg, impl, conceptAt, roleOf, Ordered}
+use Rattle.concepts.specs.Concept.{Concept, atomic, negated, conj, disj, univ, exist, inclusion, neg, impl, conceptAt, roleOf, Ordered, isInclusion, NoInclusion, asArgument}
 use Rattle.decoding.specs.Decoding.{draftKinds}
 use Rattle.decoding.specs.RowParts.{kindOf, leftOf, rightOf, ofParts}
 use Rattle.decoding.specs.RowPartLaws.{Parts}
@@ -21,30 +21,32 @@ use Rattle.rulefile.specs.Checks.{Parted}
 use Rattle.rulefile.specs.CheckLaws.{parted}
 use Rattle.rulefile.specs.FormatLaws.{contents-parts, contents-admitted}
 use Rattle.drafts.specs.Normalize.{Sign, shape}
+use Rattle.drafts.specs.Sound.{Idle}
 use Rattle.normalize.specs.Shapes.{IsLiteral, IsModal, IsPair, tableOf, ShapeAt, writtenKind, formOf}
 use Rattle.normalize.specs.declared.Shape.the-variants.{Literal, Other, Unary, Binary}
 use Rattle.normalize.specs.Contracts.{Draft}
 
 -- ---- by the parts of a concept
 
-form-shape : (c : Concept) (s : Sign) → formOf (kindOf c) (roleOf c) (leftOf c) (rightOf c) s ≡ shape c s
+form-shape : (c : Concept) (s : Sign) → T (not (isInclusion c)) → formOf (kindOf c) (roleOf c) (leftOf c) (rightOf c) s ≡ shape c s
 unfolding formOf writtenKind ofParts kindOf roleOf leftOf rightOf shape
-form-shape (atomic a) true = refl
-form-shape (atomic a) false = refl
-form-shape (negated a) true = refl
-form-shape (negated a) false = refl
-form-shape (conj l r) true = refl
-form-shape (conj l r) false = refl
-form-shape (disj l r) true = refl
-form-shape (disj l r) false = refl
-form-shape (univ ρ l) true = refl
-form-shape (univ ρ l) false = refl
-form-shape (exist ρ l) true = refl
-form-shape (exist ρ l) false = refl
-form-shape (neg l) true = refl
-form-shape (neg l) false = refl
-form-shape (impl l r) true = refl
-form-shape (impl l r) false = refl
+form-shape (atomic a) true _ = refl
+form-shape (atomic a) false _ = refl
+form-shape (negated a) true _ = refl
+form-shape (negated a) false _ = refl
+form-shape (conj l r) true _ = refl
+form-shape (conj l r) false _ = refl
+form-shape (disj l r) true _ = refl
+form-shape (disj l r) false _ = refl
+form-shape (univ ρ l) true _ = refl
+form-shape (univ ρ l) false _ = refl
+form-shape (exist ρ l) true _ = refl
+form-shape (exist ρ l) false _ = refl
+form-shape (inclusion ρ σ) s i = absurd i
+form-shape (neg l) true _ = refl
+form-shape (neg l) false _ = refl
+form-shape (impl l r) true _ = refl
+form-shape (impl l r) false _ = refl
 
 -- ---- a draft that passed the checks
 
@@ -55,23 +57,27 @@ module _ {b : Bytes} (D : Draft b) where
   pub draft-ordered : Ordered (tableOf b)
   draft-ordered = contents-admitted draftKinds b (D .passed) .wellFormed .ordered
 
+  pub draft-idle : Idle (tableOf b)
+  draft-idle k l m = contents-admitted draftKinds b (D .passed) .wellFormed .serving l (asArgument k m)
+
   pub draft-rows : length (tableOf b) ≡ rowCount b
   draft-rows = length-map-range (conceptIn draftKinds b) 0 (rowCount b)
 
   module _ (k : ℕ) (h : k < rowCount b) where
-    parts-at : Parts (rowByte b k 0) (rowByte b k 1) (rowByte b k 2) (rowByte b k 3) (conceptAt (tableOf b) k)
+    pub parts-at : Parts (rowByte b k 0) (rowByte b k 1) (rowByte b k 2) (rowByte b k 3) (conceptAt (tableOf b) k)
     parts-at = contents-parts draftKinds b (D .passed) k h
 
-    pub shape-bytes : (s : Sign) → formOf (rowByte b k 0) (rowByte b k 1) (rowByte b k 2) (rowByte b k 3) s ≡ shape (conceptAt (tableOf b) k) s
-    shape-bytes s =
+    pub shape-bytes : (s : Sign) → NoInclusion (tableOf b) k → formOf (rowByte b k 0) (rowByte b k 1) (rowByte b k 2) (rowByte b k 3) s ≡ shape (conceptAt (tableOf b) k) s
+    shape-bytes s i =
         let P = parts-at in
-        rw (← P .kind-is, ← P .role-is, ← P .left-is, ← P .right-is) (form-shape (conceptAt (tableOf b) k) s)
+        rw (← P .kind-is, ← P .role-is, ← P .left-is, ← P .right-is) (form-shape (conceptAt (tableOf b) k) s i)
 
 -- ---- the cases of a row whose bytes are read
 
 pub record RowRead (b : Bytes) (k : ℕ) (s : Sign) (kind role left right written : ℕ) : Type 0 where
   pub draft : Draft b
   pub row : k < rowCount b
+  pub idle : NoInclusion (tableOf b) k
   pub kind-is : kind ≡ rowByte b k 0
   pub role-is : role ≡ rowByte b k 1
   pub left-is : left ≡ rowByte b k 2
@@ -115,26 +121,29 @@ kind-pos (conj l r) = omega arith
 kind-pos (disj l r) = omega arith
 kind-pos (univ ρ l) = omega arith
 kind-pos (exist ρ l) = omega arith
+kind-pos (inclusion ρ σ) = omega arith
 kind-pos (neg l) = omega arith
 kind-pos (impl l r) = omega arith
 
-kind-pair : (c : Concept) → 2 < kindOf c → (eqb (kindOf c) 5 || eqb (kindOf c) 6) ≡ false → (kindOf c ≡ 8 → ⊥) → (kindOf c ≡ 9 → ⊥) → IsPair (kindOf c)
+kind-pair : (c : Concept) → T (not (isInclusion c)) → 2 < kindOf c → (eqb (kindOf c) 5 || eqb (kindOf c) 6) ≡ false → (kindOf c ≡ 8 → ⊥) → (kindOf c ≡ 9 → ⊥)
+    → IsPair (kindOf c)
 unfolding kindOf
-kind-pair (atomic a) h m n o = absurd (omega arith)
-kind-pair (negated a) h m n o = absurd (omega arith)
-kind-pair (conj l r) h m n o = inl refl
-kind-pair (disj l r) h m n o = inr refl
-kind-pair (univ ρ l) h m n o = impossible cc
-kind-pair (exist ρ l) h m n o = impossible cc
-kind-pair (neg l) h m n o = absurd (n refl)
-kind-pair (impl l r) h m n o = absurd (o refl)
+kind-pair (atomic a) i h m n o = absurd (omega arith)
+kind-pair (negated a) i h m n o = absurd (omega arith)
+kind-pair (conj l r) i h m n o = inl refl
+kind-pair (disj l r) i h m n o = inr refl
+kind-pair (univ ρ l) i h m n o = impossible cc
+kind-pair (exist ρ l) i h m n o = impossible cc
+kind-pair (inclusion ρ σ) i h m n o = absurd i
+kind-pair (neg l) i h m n o = absurd (n refl)
+kind-pair (impl l r) i h m n o = absurd (o refl)
 
 kind-modal : (kind : ℕ) → (eqb kind 5 || eqb kind 6) ≡ true → IsModal kind
 kind-modal kind e = elim (or-cases (eqb kind 5) (eqb kind 6) (from-true _ e)) [ inl t ↦ inl (eqb→eq kind 5 t) | inr t ↦ inr (eqb→eq kind 6 t) ]
 
 module _ {b : Bytes} {k : ℕ} {s : Sign} {kind role left right written : ℕ} (R : RowRead b k s kind role left right written) where
   by-form : formOf kind role left right s ≡ shape (conceptAt (tableOf b) k) s
-  by-form = rw (R .kind-is, R .role-is, R .left-is, R .right-is) (shape-bytes (R .draft) k (R .row) s)
+  by-form = rw (R .kind-is, R .role-is, R .left-is, R .right-is) (shape-bytes (R .draft) k (R .row) s (R .idle))
 
   kind-at : kindOf (conceptAt (tableOf b) k) ≡ kind
   kind-at = parts-at (R .draft) k (R .row) .kind-is ∙ sym (R .kind-is)
@@ -170,7 +179,7 @@ module _ {b : Bytes} {k : ℕ} {s : Sign} {kind role left right written : ℕ} (
         pub binary-case : (kind ≡ 9 → ⊥) → ShapeAt b k s (Binary written s left s right)
         unfolding formOf
         binary-case n =
-            let pair = kind-pair (conceptAt (tableOf b) k) in
+            let pair = kind-pair (conceptAt (tableOf b) k) (R .idle) in
             record {
               becomes = rw (lt-leb kind 2 other-kind, no-modal, ne-eqb kind 8 no-negation, ne-eqb kind 9 n, ← R .written-is) at by-form;
               fits = rw (R .written-is) (written-pair s (rw kind-at at pair other-kind no-modal no-negation n));

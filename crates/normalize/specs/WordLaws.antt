@@ -1,9 +1,9 @@
 -- Laws of Words.
 --
--- In order: a row as a word, and back (`rowIn-packed`), by its kind (`literal-row`, `modal-row`, `pair-row`), and its bytes (`own-parts`); equal words are
+-- In order: a row as a word, and back (`rowIn-packed`), by its kind (`literal-row`, `modal-row`, `pair-row`, `inclusion-row`), and its bytes (`own-parts`); equal words are
 -- equal rows (`own-same`); the rows in words (`conceptAt-rowsIn`, `rowsIn-more`, `held-more`); the first equal word is the first equal row (`found-row`, `found-none`).
 -- Assumes nothing.
-use mathlib.Core.Path.{_≡_, sym, ap, _∙_}
+use mathlib.Core.Path.{_≡_, refl, sym, ap, _∙_}
 use mathlib.Core.Bool.{Bool, true, false, cond}
 use mathlib.Core.List.{List, [], _∷_, _++_}
 use mathlib.Core.Logic.{inl, inr}
@@ -16,7 +16,7 @@ use lib.Seq.{getD-set-same, getD-set-other}
 use Rattle.concepts.specs.Tests.{as-true, as-false}
 use Rattle.concepts.specs.Lists.{range, NoneBelow}
 use Rattle.concepts.specs.ListLaws.{length-map-range, getD-map-range, range-mem, range-more, map-same}
-use Rattle.concepts.specs.Concept.{Concept, atomic, negated, conj, disj, univ, exist, neg, impl, Table, conceptAt, roleOf}
+use Rattle.concepts.specs.Concept.{Concept, atomic, negated, conj, disj, univ, exist, inclusion, neg, impl, Table, conceptAt, roleOf}
 use Rattle.decoding.specs.RowParts.{kindOf, leftOf, rightOf, ofParts}
 use Rattle.decoding.specs.RowPartLaws.{kindOf-lt}
 use Rattle.drafts.specs.Normalize.{sameRow}
@@ -71,19 +71,23 @@ module _ {w : ℕ} where
   pair-row {kind} {i} {j} (inl k) h l e = is-row kind 0 i j (omega arith) (omega arith) h l e (rw k)
   pair-row {kind} {i} {j} (inr k) h l e = is-row kind 0 i j (omega arith) (omega arith) h l e (rw k)
 
+  pub inclusion-row : {role left : ℕ} → role < 256 → left < 256 → w ≡ 7 + 256 * role + 65536 * left + 16777216 * 0 → IsRow w (inclusion role left)
+  unfolding ofParts kindOf roleOf leftOf rightOf
+  inclusion-row {role} {left} a h e = is-row 7 role left 0 (omega arith) a h (omega arith) e refl
+
 -- ---- the bytes of a word
 
 either-way : (P : Concept → Type 0) (b : Bool) {c d : Concept} → P c → P d → P (cond b c d)
 either-way P true p q = p
 either-way P false p q = q
 
--- a concept of these parts is one of eight
+-- a concept of these parts is one of nine
 ofParts-cases : (P : Concept → Type 0) (kind role left right : ℕ) → P (atomic left) → P (negated left) → P (conj left right) → P (disj left right) → P (univ role left)
-    → P (exist role left) → P (neg left) → P (impl left right) → P (ofParts kind role left right)
+    → P (exist role left) → P (inclusion role left) → P (neg left) → P (impl left right) → P (ofParts kind role left right)
 unfolding ofParts
-ofParts-cases P kind role left right a b c d e f g h =
+ofParts-cases P kind role left right a b c d e f g h i =
     either-way P (eqb kind 1) a (either-way P (eqb kind 2) b (either-way P (eqb kind 3) c (either-way P (eqb kind 4) d
-    (either-way P (eqb kind 5) e (either-way P (eqb kind 6) f (either-way P (eqb kind 8) g h))))))
+    (either-way P (eqb kind 5) e (either-way P (eqb kind 6) f (either-way P (eqb kind 7) g (either-way P (eqb kind 8) h i)))))))
 
 -- its role, left and right part are among them
 abbrev Small : Concept → Type 0
@@ -93,7 +97,7 @@ small-parts : (kind role left right : ℕ) → role < 256 → left < 256 → rig
 unfolding roleOf leftOf rightOf
 small-parts kind role left right o l r =
     ofParts-cases Small kind role left right (omega arith, l, omega arith) (omega arith, l, omega arith) (omega arith, l, r) (omega arith, l, r)
-    (o, l, omega arith) (o, l, omega arith) (omega arith, l, omega arith) (omega arith, l, r)
+    (o, l, omega arith) (o, l, omega arith) (o, l, omega arith) (omega arith, l, omega arith) (omega arith, l, r)
 
 -- the word of a row has the row's four bytes
 pub own-parts : {w : ℕ} → Own w → (w % 256 ≡ kindOf (rowIn w)) × (w / 256 % 256 ≡ roleOf (rowIn w)) × (w / 65536 % 256 ≡ leftOf (rowIn w)) × (w / 16777216 % 256 ≡ rightOf (rowIn w))

@@ -1,14 +1,15 @@
-// The rows of a draft in negation normal form (02, [1]): what its rules and its wanted row need, each row once.
+// The rows of a draft in negation normal form (02, [1] and [6]): its role inclusions, then what its rules and its wanted row need, each row once.
 //
-// In order: what becomes of a row; rows as words, and sharing equal ones; a row with all that it needs; a list of rows.
+// In order: what becomes of a row; rows as words, and sharing equal ones; a row with all that it needs; a list of rows; the inclusions.
 // Rows that are written stand in words, so many at the start of a slice. Which place a row of the draft, or its opposite, has got is remembered, so that each is put once.
 ghost use mathlib.Core.Path.{_≡_};
 ghost use Prim.Native.Nat.{_+_, _*_, _≤_, _<_};
 ghost use lib.ListN.{length};
+ghost use Rattle.concepts.specs.Concept.{NoInclusion};
 ghost use Rattle.rulefile.specs.Format.{rowCount};
 ghost use Rattle.normalize.specs.Words.{Finds};
-ghost use Rattle.normalize.specs.Shapes.{writtenKind, ShapeAt, slotOf};
-ghost use Rattle.normalize.specs.Contracts.{Draft, ShareAsks, SharesRow, PutAsks, PutGives, ListAsks, ListGives};
+ghost use Rattle.normalize.specs.Shapes.{tableOf, writtenKind, ShapeAt, slotOf};
+ghost use Rattle.normalize.specs.Contracts.{Draft, ShareAsks, SharesRow, PutAsks, PutGives, ListAsks, ListGives, KeepAsks, Kept, KeepGives};
 use rulefile::row_byte;
 
 // What becomes of a row: a row without arguments (kind, name); what becomes of another row (sign, row); a row over one (kind, role, sign, row) or over two
@@ -41,6 +42,9 @@ pub const SLOTS: usize = 128;
 // No place yet.
 pub const NO_PLACE: u8 = 255;
 
+// The kind of an inclusion.
+const INCLUSION: u8 = 7;
+
 // The kinds of "both" and "either" over which "if" is written.
 const CONJ: u8 = 3;
 
@@ -67,9 +71,9 @@ fn written_kind(kind: u8, sign: bool) -> u8
     }
 }
 
-// What becomes of row k of the draft, or of its opposite.
+// What becomes of row k of the draft, which is no inclusion, or of its opposite.
 fn shape_of(draft: &[u8], k: usize, sign: bool) -> Shape
-    requires { ⌜ Draft (now draft) × (k < rowCount (now draft)) ⌝ }
+    requires { ⌜ Draft (now draft) × (k < rowCount (now draft)) × NoInclusion (tableOf (now draft)) k ⌝ }
     ensures { λ r. ⌜ ShapeAt (now (draft .entry)) k sign r ⌝ }
 {
     let kind = row_byte(draft, k, 0);
@@ -226,4 +230,30 @@ pub fn put_list(
         i += 1;
     }
     Listed::Rows(n)
+}
+
+// Writes row k of the draft behind the n words, if it is an inclusion, and tells how many words there are then.
+fn keep_row(draft: &[u8], k: usize, written: &mut [u32], n: usize) -> usize
+    requires { ⌜ Kept (now draft) k (now written) n × (k < rowCount (now draft)) ⌝ }
+    ensures { λ r. ⌜ Kept (now (draft .entry)) (k + 1) (now (written .exit)) r ⌝ }
+{
+    if row_byte(draft, k, 0) == INCLUSION {
+        written[n] = row_word(INCLUSION, row_byte(draft, k, 1), row_byte(draft, k, 2), 0);
+        return n + 1;
+    }
+    n
+}
+
+// Writes the inclusions of a draft of so many rows, in their order, and tells how many there are.
+pub fn keep_inclusions(draft: &[u8], rows: usize, written: &mut [u32]) -> usize
+    requires { ⌜ KeepAsks (now draft) rows (now written) ⌝ }
+    ensures { λ r. ⌜ KeepGives (now (draft .entry)) (now (written .exit)) r ⌝ }
+{
+    let mut n: usize = 0;
+    let mut k: usize = 0;
+    while k < rows {
+        n = keep_row(draft, k, written, n);
+        k += 1;
+    }
+    n
 }

@@ -3,22 +3,22 @@
 -- In order: what an accepted file holds (`Admitted`, `accepted-admitted`, `accepted-length`; of a rule file, `accepted-normal`). That it has a row of kind 1 or 2 is in LiteralRowLaws.
 -- Assumes nothing.
 use mathlib.Core.Path.{_≡_, refl, sym, ap, _∙_, subst}
-use mathlib.Core.Bool.{false, not, _||_}
+use mathlib.Core.Bool.{true, false, not, _||_}
 use mathlib.Core.List.{List·Memᴰ, List·Memᴰ·not-nil, List·Memᴰ·eq-of-singleton, Memᴰ·of-map}
 use Prim.Native.Nat.{ℕ, _≤_, _<_}
 use native.Mathlib.Omega.{arith}
 use lib.Dec.{T, eqb, ltb, leb, leb→le, lt→ltb}
 use lib.ListN.{length}
-use borrow.Author.Tests.{leb-false}
-use Rattle.concepts.specs.Tests.{or-neither, and-both, as-true, as-false, from-false}
+use borrow.Author.Tests.{leb-false, eq-eqb}
+use Rattle.concepts.specs.Tests.{impossible, or-neither, and-both, as-true, as-false, from-false}
 use Rattle.concepts.specs.Lists.{range, any}
 use Rattle.concepts.specs.ListLaws.{range-mem, getD-map-range, length-map-range, map-range-cases, not-any, none-any-range}
 use Rattle.concepts.specs.Concept.{Concept, atomic, inclusion, conceptAt, arguments, roleOf, isInclusion, NoInclusion, Serves, asArgument, asRule, asWanted, Ordered, WellFormed, isNormal, Normal}
-use Rattle.rulefile.specs.Format.{Bytes, rowCount, ruleCount, wantedRow, rowByte, rule, someRow, conceptIn, badRow}
+use Rattle.rulefile.specs.Format.{Bytes, rowCount, ruleCount, wantedRow, rowByte, rule, someRow, conceptIn, badRow, sameRow, repeated}
 use Rattle.rulefile.specs.Format.{badArgument, badRule, inclusionAt, inclusionNamed, inclusionServes, checks, RuleFile, contents, accepted, readingOf, reading}
 use Rattle.decoding.specs.Decoding.{Kinds, ruleKinds}
 use Rattle.rulefile.specs.Checks.{PassedAll}
-use Rattle.decoding.specs.RowParts.{inRange}
+use Rattle.decoding.specs.RowParts.{kindOf, leftOf, rightOf, inRange}
 use Rattle.decoding.specs.RowPartLaws.{Parts, row-parts, role-small, rule-kinds-normal}
 use Rattle.rulefile.specs.CheckLaws.{accepted-contents, accepted-passed, accepted-parted, parted}
 
@@ -31,6 +31,7 @@ pub record Admitted (f : RuleFile) : Type 0 where
   pub oneWanted : length (f .wanted) ≡ 1
   pub wellFormed : WellFormed (f .table) (f .tbox) (f .wanted)
   pub inRange : (k : ℕ) → T (inRange (conceptAt (f .table) k))
+  pub distinct : (j k : ℕ) → j < k → k < length (f .table) → conceptAt (f .table) j ≡ conceptAt (f .table) k → ⊥
 
 module _ (kinds : Kinds) (b : Bytes) (passed : PassedAll kinds b) where
   pub row-formed : (k : ℕ) → k < rowCount b → badRow kinds b k ≡ false
@@ -97,6 +98,27 @@ module _ (kinds : Kinds) (b : Bytes) (passed : PassedAll kinds b) where
       row-cases (λ k c. roleOf c < 32)
       (λ k h. role-small kinds (rowByte b k 0) (rowByte b k 1) (rowByte b k 2) (rowByte b k 3) (unfold badRow in row-formed k h))
       (λ k. unfold roleOf in omega arith)
+
+  -- ---- no two rows are equal
+
+  row-fresh : (j k : ℕ) → j < k → k < rowCount b → sameRow b k j ≡ false
+  unfolding checks repeated
+  row-fresh j k l h = none-any-range (sameRow b k) k (none-any-range (repeated b) (rowCount b) (passed 6 (omega arith)) k h) j l
+
+  -- equal rows of the table would have the same four bytes
+  contents-distinct : (j k : ℕ) → j < k → k < length (contents kinds b .table) → conceptAt (contents kinds b .table) j ≡ conceptAt (contents kinds b .table) k → ⊥
+  unfolding sameRow
+  contents-distinct j k l h e =
+      let inside : k < rowCount b = omega (arith, rows-length) in
+      let P = contents-parts j (omega arith) in
+      let Q = contents-parts k inside in
+      let kind : rowByte b k 0 ≡ rowByte b j 0 = sym (Q .kind-is) ∙ ap kindOf (sym e) ∙ P .kind-is in
+      let role : rowByte b k 1 ≡ rowByte b j 1 = sym (Q .role-is) ∙ ap roleOf (sym e) ∙ P .role-is in
+      let left : rowByte b k 2 ≡ rowByte b j 2 = sym (Q .left-is) ∙ ap leftOf (sym e) ∙ P .left-is in
+      let right : rowByte b k 3 ≡ rowByte b j 3 = sym (Q .right-is) ∙ ap rightOf (sym e) ∙ P .right-is in
+      let same : sameRow b k j ≡ true = rw (eq-eqb _ _ kind, eq-eqb _ _ role, eq-eqb _ _ left, eq-eqb _ _ right) in
+      let fresh = row-fresh j k l inside in
+      impossible cc
 
   -- ---- no inclusion serves
 
@@ -169,6 +191,7 @@ module _ (kinds : Kinds) (b : Bytes) (passed : PassedAll kinds b) where
           serving = contents-serving;
         };
         inRange = contents-range;
+        distinct = contents-distinct;
       }
 
 module _ (kinds : Kinds) (b : Bytes) where

@@ -1,9 +1,9 @@
--- `converter::convert_accepted` meets its contract: the rules and then the wanted row are put, and the file is written if it fits.
+-- `converter::convert_accepted` meets its contract: the inclusions are kept, the rules and then the wanted row are put, and the file is written if it fits.
 -- Assumes nothing.
 use mathlib.Core.Path.{refl}
 use borrow.Author.Needs.{needs}
 use Rattle.rulefile.specs.PartLaws.{laid-placed}
-use Rattle.converter.specs.ConvertCases.{list-as, numbers-as, rules-asks, rules-full, kit-asks, kit-full, finish-asks, too-many}
+use Rattle.converter.specs.ConvertCases.{list-as, numbers-as, inclusions-asks, rules-asks, rules-full, kit-asks, kit-full, finish-asks, too-many}
 use Rattle.converter.proofs.convert_accepted.Statement.{statement}
 use Rattle.converter.proofs.convert_accepted.Tie as tie
 
@@ -13,19 +13,26 @@ rules-of-requires c κs = let begun : tie.Start = search in laid-placed (begun .
 wanted-of-requires : tie.Need-wanted-of-requires
 wanted-of-requires c κs = let begun : tie.Start = search in laid-placed (begun .pre)
 
+keep-inclusions-requires : tie.Need-keep-inclusions-requires
+keep-inclusions-requires c κs = let begun : tie.Start = search in inclusions-asks (begun .pre) _ refl
+
 put-list-requires : tie.Need-put-list-requires
 put-list-requires c κs =
     let begun : tie.Start = search in
     let tbox : tie.After-rules-of = search in
-    rules-asks (begun .pre) (tbox .rules-of .ensures) _ _ refl refl
+    let kept : tie.After-keep-inclusions = search in
+    rules-asks (begun .pre) (tbox .rules-of .ensures) (kept .keep-inclusions .ensures) _ refl
 
--- the places that others speak of: where the rules were put, and then the wanted row
+-- the places that others speak of: where the inclusions were kept, the rules put, and then the wanted row
 
 abbrev first-list : tie.After-n → tie.After-put-list
 first-list c = c .before .before .before .before .before
 
-abbrev lists : tie.After-put-list → tie.After-wanted-of
-lists c = c .before .before .before .before
+abbrev inclusions : tie.After-put-list → tie.After-keep-inclusions
+inclusions c = c .before .before .before .before .before
+
+abbrev lists : tie.After-keep-inclusions → tie.After-wanted-of
+lists c = c .before .before
 
 abbrev start : tie.After-wanted-of → tie.Start
 start c = c .before .before .before .before
@@ -37,8 +44,9 @@ put-list-requires-2 : tie.Need-put-list-requires-2
 put-list-requires-2 c κs =
     let n : tie.After-n = search in
     let rules = first-list n in
-    let kit = lists rules in
-    kit-asks (start kit .pre) (kit .before .rules-of .ensures) _ _ refl refl (list-as (rules .put-list .ensures) (n .n .given .1)) (kit .wanted-of .ensures)
+    let kept = inclusions rules in
+    let kit = lists kept in
+    kit-asks (start kit .pre) (kit .before .rules-of .ensures) (kept .keep-inclusions .ensures) _ refl (list-as (rules .put-list .ensures) (n .n .given .1)) (kit .wanted-of .ensures)
 
 finish-requires : tie.Need-finish-requires
 finish-requires c κs =
@@ -46,8 +54,9 @@ finish-requires c κs =
     let second : tie.After-put-list2 = m .before .before .before .before .before in
     let n = the-n second in
     let rules = first-list n in
-    let kit = lists rules in
-    finish-asks (start kit .pre) (kit .before .rules-of .ensures) _ _ refl refl (list-as (rules .put-list .ensures) (n .n .given .1)) (kit .wanted-of .ensures)
+    let kept = inclusions rules in
+    let kit = lists kept in
+    finish-asks (start kit .pre) (kit .before .rules-of .ensures) (kept .keep-inclusions .ensures) _ refl (list-as (rules .put-list .ensures) (n .n .given .1)) (kit .wanted-of .ensures)
     (list-as (second .put-list2 .ensures) (m .m .given .1))
 
 returns-2 : tie.Need-returns-2
@@ -56,24 +65,27 @@ returns-2 c =
     let second : tie.After-put-list2 = search in
     let n = the-n second in
     let rules = first-list n in
-    let kit = lists rules in
+    let kept = inclusions rules in
+    let kit = lists kept in
     numbers-as (too-many (start kit .pre)
-    (kit-full (start kit .pre) (kit .before .rules-of .ensures) _ _ refl refl (list-as (rules .put-list .ensures) (n .n .given .1)) (kit .wanted-of .ensures)
+    (kit-full (start kit .pre) (kit .before .rules-of .ensures) (kept .keep-inclusions .ensures) _ refl (list-as (rules .put-list .ensures) (n .n .given .1)) (kit .wanted-of .ensures)
     (list-as (second .put-list2 .ensures) (told .enum-told .given .1)))) (c .refused .ensures)
 
 returns-3 : tie.Need-returns-3
 returns-3 c =
     let begun : tie.Start = search in
     let tbox : tie.After-rules-of = search in
+    let kept : tie.After-keep-inclusions = search in
     let rules : tie.After-put-list = search in
     let told : tie.After-enum-told2 = search in
-    numbers-as (too-many (begun .pre) (rules-full (begun .pre) (tbox .rules-of .ensures) _ _ refl refl (list-as (rules .put-list .ensures) (told .enum-told2 .given .1))))
+    numbers-as (too-many (begun .pre)
+    (rules-full (begun .pre) (tbox .rules-of .ensures) (kept .keep-inclusions .ensures) _ refl (list-as (rules .put-list .ensures) (told .enum-told2 .given .1))))
     (c .refused2 .ensures)
 
 pub convert-accepted-spec : {M : Type 1} → statement M
 convert-accepted-spec =
     tie.close (tie.spec
-    rules-of-requires wanted-of-requires (λ c. search needs) (λ c. search needs) (λ c. search needs) put-list-requires (λ c. search needs)
-    (λ c. search needs) (λ c. search needs) (λ c. search needs) put-list-requires-2 (λ c. search needs) (λ c. search needs) (λ c. search needs)
+    rules-of-requires wanted-of-requires (λ c. search needs) keep-inclusions-requires (λ c. search needs) (λ c. search needs) (λ c. search needs) put-list-requires
+    (λ c. search needs) (λ c. search needs) (λ c. search needs) (λ c. search needs) put-list-requires-2 (λ c. search needs) (λ c. search needs) (λ c. search needs)
     (λ c. search needs) finish-requires (λ c. search needs) (λ c κs. search needs) (λ c. search needs) (λ c κs. search needs) (λ c. search needs)
     (λ c. search needs) returns-2 returns-3)

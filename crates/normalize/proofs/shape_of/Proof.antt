@@ -29,6 +29,7 @@ row-read r =
     record {
       draft = begun .pre .0;
       row = begun .pre .1;
+      idle = begun .pre .2;
       kind-is = r .before .before .before .before .row-byte .ensures;
       role-is = r .before .before .before .row-byte2 .ensures;
       left-is = r .before .before .row-byte3 .ensures;
