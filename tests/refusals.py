@@ -12,7 +12,7 @@ import pathlib
 import sys
 
 ROOT = pathlib.Path(__file__).resolve().parent.parent
-VECTORS = ROOT / "tests" / "vectors" / "level-05.txt"
+VECTORS = ROOT / "tests" / "vectors" / "level-06.txt"
 CRATE = ROOT / "crates" / "refusals"
 LAST_FILE_CHECK = 8
 TRAILER = 8
