@@ -10,6 +10,8 @@ use crate::Prng;
 pub const CODES: u8 = 32;
 /// The kind of such a row.
 pub const INCLUSION: u8 = 7;
+const LONGEST_FILE: usize = 4096;
+const MOST_ROWS: usize = 64;
 
 /// The code of the same role the other way.
 pub fn turned(code: u8) -> u8 {
@@ -90,6 +92,18 @@ fn with_arguments(row: Row, number: impl Fn(u8) -> u8) -> Row {
         [kind @ (5 | 6 | 8), role, left, right] => [kind, role, number(left), right],
         literal_or_inclusion => literal_or_inclusion,
     }
+}
+
+/// The same file or draft with kind 7 rows over these roles among its own, half as many as these or fewer: about a third of its rows then. Its
+/// text is cut if it would be longer than a file can be.
+pub fn with_inclusions(prng: &mut Prng, file: &[u8], roles: usize) -> Vec<u8> {
+    let parts = Parts::of(file);
+    let most = parts.rows.len().div_ceil(2).min(MOST_ROWS - parts.rows.len());
+    let inclusions = random_inclusions(prng, roles, most);
+    let mut parts = parts.among(prng, &inclusions);
+    let excess = parts.bytes().len().saturating_sub(LONGEST_FILE);
+    parts.text.truncate(parts.text.len() - excess);
+    parts.bytes()
 }
 
 /// Up to so many kind 7 rows over these roles, no two equal, in no order: chains and circles whose rows are turned round here and there,
