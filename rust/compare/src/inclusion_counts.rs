@@ -24,7 +24,7 @@ impl InclusionCounts {
         let parts = Parts::of(bytes);
         let graph = tableau::run(&file, Lent::by_program().capacity()).ok();
         let reaches = graph.iter().flat_map(|graph| reaches(&file, graph, &parts)).collect();
-        let graph_roles = graph.iter().flat_map(|graph| roles_taken(graph)).collect();
+        let graph_roles = graph.iter().flat_map(roles_taken).collect();
         let seen = Seen { bytes, parts, answer, reaches, graph_roles };
         let cases = [seen.cases_of_file(), seen.cases_of_reaches(), seen.cases_of_example()].concat();
         self.files += 1;

@@ -1,10 +1,11 @@
 //! Kind 7 rows (document 02, [6]) for the tests of them.
 //!
-//! In order: a file or draft in its parts; kind 7 rows at random; a table with such rows among its own, and one without them; which code
-//! is narrower than which, found by going from row to row.
+//! In order: a file or draft in its parts, with such rows and without; kind 7 rows at random, and in one long chain; which code is narrower
+//! than which, found by going from row to row.
 
 use crate::files::{encode, Row};
 use crate::Prng;
+use std::ops::Range;
 
 /// Role codes, "0 to 31".
 pub const CODES: u8 = 32;
@@ -144,6 +145,18 @@ fn random_chain(prng: &mut Prng, codes: usize, is_circle: bool) -> Vec<[u8; 2]> 
         _ => [turned(pair[0]), turned(pair[1])],
     };
     chain.windows(2).map(said).collect()
+}
+
+/// So many kind 7 rows in one long chain of these roles, of which every third is taken backwards. Each step is said twice, once turned round;
+/// where more rows are asked for, so are steps of two, of three and so on.
+pub fn long_chain(roles: Range<u8>, count: usize) -> Vec<Row> {
+    let chain: Vec<u8> = roles.map(|role| 2 * role + u8::from(role % 3 == 0)).collect();
+    let steps = (1..chain.len()).flat_map(|by| (by..chain.len()).map(move |k| (k - by, k)));
+    let both_ways = |(narrow, wide): (usize, usize)| {
+        let (narrow, wide) = (chain[narrow], chain[wide]);
+        [[INCLUSION, narrow, wide, 0], [INCLUSION, turned(narrow), turned(wide), 0]]
+    };
+    steps.flat_map(both_ways).take(count).collect()
 }
 
 /// How far rows are followed.

@@ -26,8 +26,8 @@ pub trait Kinds: Copy {
     /// above 63.
     fn of_row(row: Row) -> Option<Self>;
 
-    /// The rows that it names as arguments: left, right.
-    fn arguments(self) -> [Option<usize>; 2];
+    /// Does every row pass that it names as an argument?
+    fn arguments_pass(self, passes: impl Fn(usize) -> bool) -> bool;
 
     /// The two roles of a kind 7 row, the narrower first.
     fn inclusion(self) -> Option<(Role, Role)>;
@@ -67,11 +67,11 @@ impl Kinds for Concept {
         }
     }
 
-    fn arguments(self) -> [Option<usize>; 2] {
+    fn arguments_pass(self, passes: impl Fn(usize) -> bool) -> bool {
         match self {
-            Concept::Atomic(_) | Concept::Negated(_) | Concept::Inclusion(..) => [None, None],
-            Concept::Conj(l, r) | Concept::Disj(l, r) => [Some(l), Some(r)],
-            Concept::Univ(_, l) | Concept::Exist(_, l) => [Some(l), None],
+            Concept::Atomic(_) | Concept::Negated(_) | Concept::Inclusion(..) => true,
+            Concept::Conj(l, r) | Concept::Disj(l, r) => passes(l) && passes(r),
+            Concept::Univ(_, l) | Concept::Exist(_, l) => passes(l),
         }
     }
 

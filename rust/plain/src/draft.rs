@@ -22,11 +22,11 @@ impl Kinds for DraftConcept {
         }
     }
 
-    fn arguments(self) -> [Option<usize>; 2] {
+    fn arguments_pass(self, passes: impl Fn(usize) -> bool) -> bool {
         match self {
-            DraftConcept::Plain(concept) => concept.arguments(),
-            DraftConcept::Not(l) => [Some(l), None],
-            DraftConcept::If(l, r) => [Some(l), Some(r)],
+            DraftConcept::Plain(concept) => concept.arguments_pass(passes),
+            DraftConcept::Not(l) => passes(l),
+            DraftConcept::If(l, r) => passes(l) && passes(r),
         }
     }
 

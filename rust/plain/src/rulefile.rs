@@ -89,7 +89,7 @@ impl<'a> Parts<'a> {
 fn check_rows<C: Kinds>(rows: &[Row]) -> Result<Vec<C>, u8> {
     let concepts: Option<Vec<C>> = rows.iter().map(|&row| C::of_row(row)).collect();
     let concepts = concepts.ok_or(5)?;
-    let lower = |(k, c): (usize, &C)| c.arguments().into_iter().flatten().all(|argument| argument < k);
+    let lower = |(k, c): (usize, &C)| c.arguments_pass(|argument| argument < k);
     require(concepts.iter().enumerate().all(lower), 6)?;
     require(rows.iter().enumerate().all(|(k, row)| !rows[..k].contains(row)), 7)?;
     Ok(concepts)
@@ -103,9 +103,10 @@ fn check_rules(parts: &Parts, rows: usize) -> Result<(), u8> {
 
 /// Check 16: no argument, no rule and no wanted row is of kind 7. All of them are rows by now.
 fn check_inclusions<C: Kinds>(parts: &Parts, concepts: &[C]) -> Result<(), u8> {
-    let arguments = concepts.iter().flat_map(|c| c.arguments()).flatten();
-    let rules = parts.rules.iter().chain([&parts.wanted]).map(|&row| usize::from(row));
-    require(arguments.chain(rules).all(|row| concepts[row].inclusion().is_none()), 16)
+    let may_serve = |row: usize| concepts[row].inclusion().is_none();
+    let arguments = concepts.iter().all(|c| c.arguments_pass(may_serve));
+    let rules = parts.rules.iter().all(|&rule| may_serve(rule.into()));
+    require(arguments && rules && may_serve(parts.wanted.into()), 16)
 }
 
 /// Refuses with the number unless the condition holds.
