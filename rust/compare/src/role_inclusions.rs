@@ -184,21 +184,24 @@ fn check_reached(
 
 /// Checks the verdict of each kind 7 row with "some c" and "all d", for the row's codes, the same turned round and those of another role.
 pub fn check_single_verdicts(mut answer: impl Answering) {
-    let mut cannot = 0;
+    let (mut kits, mut cannot) = (0, 0);
     for single in Single::all() {
-        let other =
-            (0..CODES).find(|code| ![single.narrow / 2, single.wide / 2].contains(&(code / 2))).expect("16 roles");
+        let roles = [single.narrow / 2, single.wide / 2];
+        let other = (0..CODES).find(|code| !roles.contains(&(code / 2))).expect("16 roles");
         let mut codes: Vec<u8> = [single.narrow, single.wide, other].into_iter().flat_map(|c| [c, turned(c)]).collect();
         codes.sort();
         codes.dedup();
-        for &c in &codes {
-            for &d in &codes {
-                cannot += check_verdict(&mut answer, single, c, d, false);
-                cannot += check_verdict(&mut answer, single, c, d, true);
+        for (&c, &d) in codes.iter().flat_map(|c| codes.iter().map(move |d| (c, d))) {
+            for from_below in [false, true] {
+                kits += 1;
+                cannot += check_verdict(&mut answer, single, c, d, from_below);
             }
         }
     }
-    println!("kits that a single kind 7 row or one role forbids: {cannot}");
+    println!("{kits} kits, of which a single kind 7 row or one role forbids {cannot}");
+    // Of 960 rows there are six codes to try, and eight pairs of them; of 64 rows, between a role and itself or its inverse, four codes, and
+    // four pairs or six. Each is tried twice.
+    assert_eq!((kits, cannot), (2 * (960 * 36 + 64 * 16), 2 * (960 * 8 + 32 * 4 + 32 * 6)));
 }
 
 /// "Some c: A" and "all d: not A" cannot be exactly if c is narrower than d or equal. From below: "some c: all d: A" and "not A" cannot be
