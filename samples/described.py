@@ -1,15 +1,19 @@
-"""The samples in words: what make.py builds the rule files and drafts from.
+"""The samples in words: what make.py builds the rule files and drafts from. Those with narrower roles are in ways.py.
 
 In order: the kinds of row; the samples; which file each is in.
 
 A row is called by what it says, and other rows, the rules and the wanted row refer to it by these words. Its number is its place in
-the list. Nothing here checks a file: that is the engine's work, and four of the samples are to be refused by a check. One needs more
-nodes than the program `fit` lends.
+the list. Nothing here checks a file: that is the engine's work, and four of the samples here are to be refused by a check. One needs
+more nodes than the program `fit` lends.
 """
 from dataclasses import dataclass
 
 
-# ---- the kinds of row: kind, role, left, right (document 01, "The rule file"); the last two in drafts only (document 02, [1])
+# ---- the kinds of row: kind, role, left, right (document 01, "The rule file"); `within` is of roles (document 02, [6]), and the last two
+# are in drafts only (document 02, [1])
+
+INCLUSION = 7
+
 
 def name(word):
     return 1, None, word, None
@@ -33,6 +37,10 @@ def all_along(role, row):
 
 def some_along(role, row):
     return 6, role, row, None
+
+
+def within(narrower, wider):
+    return INCLUSION, narrower, wider, None
 
 
 def negation(row):
@@ -164,6 +172,8 @@ ACID_ROWS = {
     "has only acid-proof parts fitted to it": all_along("has fitted to it", "is acid-proof"),
     "an acid pump has only acid-proof parts fitted to it": either("is no acid pump", "has only acid-proof parts fitted to it"),
     "what has rubber seals is not acid-proof": either("has no rubber seals", "is not acid-proof"),
+}
+ACID_FITTED = {
     "is fitted to some acid pump": some_along("is fitted to", "is an acid pump"),
     "is a flush valve fitted to some acid pump": both("is a flush valve", "is fitted to some acid pump"),
 }
@@ -173,7 +183,7 @@ ACID = Sample(
     title="A flush valve with rubber seals on an acid pump.",
     names=ACID_NAMES,
     roles=[FITTED],
-    rows=ACID_ROWS | {
+    rows=ACID_ROWS | ACID_FITTED | {
         "is a flush valve with rubber seals fitted to some acid pump":
             both("is a flush valve fitted to some acid pump", "has rubber seals"),
     },
@@ -185,7 +195,7 @@ SEAL = Sample(
     title="A flush valve on an acid pump, its seals left open.",
     names=ACID_NAMES,
     roles=[FITTED],
-    rows=ACID_ROWS,
+    rows=ACID_ROWS | ACID_FITTED,
     rules=ACID_RULES,
     wanted="is a flush valve fitted to some acid pump",
 )

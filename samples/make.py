@@ -1,5 +1,5 @@
 #!/usr/bin/env python3
-"""The sample rule files and drafts, built from the descriptions in described.py.
+"""The sample rule files and drafts, built from the descriptions in described.py and ways.py.
 
     samples/make.py             writes the .fit and .draft files
     samples/make.py --check     says whether these files and the tables of README.md are what it would write; exit status 1 if not
@@ -14,7 +14,10 @@ import pathlib
 import sys
 
 sys.dont_write_bytecode = True  # no folder of Python's own beside the samples
-from described import SAMPLES
+from described import INCLUSION, SAMPLES
+from ways import WAYS_SAMPLES
+
+ALL_SAMPLES = SAMPLES | WAYS_SAMPLES
 
 HERE = pathlib.Path(__file__).resolve().parent
 
@@ -34,7 +37,12 @@ def row_bytes(sample, row):
     """The four bytes of a row; an unused one is zero."""
     kind, role, left, right = row
     role = 0 if role is None else role_code(sample, role)
-    left = sample.names.index(left) if kind in (1, 2) else row_number(sample, left)
+    if kind in (1, 2):
+        left = sample.names.index(left)
+    elif kind == INCLUSION:
+        left = role_code(sample, left)
+    else:
+        left = row_number(sample, left)
     right = 0 if right is None else row_number(sample, right)
     return bytes([kind, role, left, right])
 
@@ -42,7 +50,7 @@ def row_bytes(sample, row):
 def text(sample):
     """The text part: plain words that name each role, row and rule. A draft's text goes into its result as it is, so it says whose
     numbers these are."""
-    of_draft, in_draft = (" of the draft", " in the draft") if any(row[0] > 6 for row in sample.rows.values()) else ("", "")
+    of_draft, in_draft = (" of the draft", " in the draft") if any(row[0] > INCLUSION for row in sample.rows.values()) else ("", "")
     lines = [sample.title] + ["Role codes:"] * (sample.roles != [])
     for k, (forwards, backwards) in enumerate(sample.roles):
         lines += [f"{2 * k} {forwards}", f"{2 * k + 1} {backwards}"]
@@ -64,15 +72,15 @@ def file_bytes(sample):
     return sample.added_later.encode("ascii") + file
 
 
-# ---- what becomes of a draft (document 02, [1])
+# ---- what becomes of a draft (document 02, [1] and [6])
 
 class Converted:
     """The rows of the result by their bytes, each with the number of the draft's row that it was first written for, and whether for
-    its opposite. The drafts here are small: a row is gone through as often as it is named."""
+    its opposite; those of kind 7 first. The drafts here are small: a row is gone through as often as it is named."""
 
     def __init__(self, sample):
         self.draft = [row_bytes(sample, row) for row in sample.rows.values()]
-        self.rows = {}
+        self.rows = {row: (number, False) for number, row in enumerate(self.draft) if row[0] == INCLUSION}
         self.rules = [self.write(row_number(sample, says)) for says in sample.rules]
         self.wanted = self.write(row_number(sample, sample.wanted))
         self.bytes = encode(text(sample), list(self.rows), self.rules, self.wanted)
@@ -113,6 +121,7 @@ def made_of(row):
         4: f"{left} or {right}",
         5: f"all along {role}: {left}",
         6: f"some along {role}: {left}",
+        7: f"{role} within {left}",
         8: f"not {left}",
         9: f"if {left} then {right}",
     }[kind]
@@ -162,12 +171,12 @@ def stale():
             yield f"README.md lacks the table of {file}"
     for path in sorted([*HERE.glob("*.fit"), *HERE.glob("*.draft")]):
         if path.name not in everything(files):
-            yield f"{path.name} is not described in described.py"
+            yield f"{path.name} is described nowhere"
 
 
 def everything(of_sample):
     """The files, or the tables, of all samples."""
-    return {file: made for name, sample in SAMPLES.items() for file, made in of_sample(name, sample).items()}
+    return {file: made for name, sample in ALL_SAMPLES.items() for file, made in of_sample(name, sample).items()}
 
 
 def main():

@@ -5,7 +5,7 @@ use plain::Lent;
 use std::path::PathBuf;
 
 /// The vectors that are in force.
-const VECTORS: &str = "../../tests/vectors/level-05.txt";
+const VECTORS: &str = "../../tests/vectors/level-06.txt";
 
 /// A question `fit` with its answer.
 pub struct Case {

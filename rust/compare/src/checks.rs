@@ -58,21 +58,21 @@ pub fn whole_answer(answer: &mut impl Answering, file: &[u8], lent: &Lent, first
     whole
 }
 
-/// Only files that the meaning of ALCI can read get past the file checks, their tables begin with a name or the negation of one, and
-/// every example is judged. `worlds` reads files apart from `plain`, so this compares the two readers as well.
+/// Only files that the meaning of ALCI can read get past the file checks, their tables hold a name or the negation of one, and every
+/// example is judged. `worlds` reads files apart from `plain`, so this compares the two readers as well.
 pub fn check_example(file: &[u8], answer: &Answer) {
     let ontology = Ontology::decode(file);
     assert_eq!(ontology.is_none(), matches!(answer, Answer::Refused(_)), "{answer:?} to {file:02x?}");
     let literal = |row: &Concept| matches!(row, Concept::Name(_) | Concept::NotName(_));
-    assert!(ontology.iter().all(|ontology| literal(&ontology.rows[0])), "accepted: {file:02x?}");
+    assert!(ontology.iter().all(|ontology| ontology.rows.iter().any(literal)), "accepted: {file:02x?}");
     if let (Answer::Can { elements, links, .. }, Some(ontology)) = (answer, ontology) {
         let [elements, links] = records(elements, links);
         check_records(file, &ontology, &Example::read(&elements, &links).expect("whole records"));
     }
 }
 
-/// The world of an example obeys every rule, with element 0 a member; every bit of every element's record is as the meaning of ALCI
-/// says, of every row of the table, and the bits past the table are 0. Gives the world.
+/// The world of an example obeys every rule and every kind 7 row, with element 0 a member; every bit of every element's record is as the
+/// meaning of ALCI says, of every row of the table, and the bits past the table and those of kind 7 rows are 0. Gives the world.
 pub fn check_records(file: &[u8], ontology: &Ontology, example: &Example) -> World {
     let world = example.world(ontology);
     assert!(world.is_model(ontology, 0), "the example is no model: {file:02x?}");

@@ -1,12 +1,13 @@
 //! Checks of a converting function on random drafts (document 02, [1]): what it writes is a rule file of only the rows that are
-//! needed, and in random worlds each rule and the wanted row hold where the draft's do.
+//! needed, and in random worlds each rule and the wanted row hold where the draft's do. Drafts with kind 7 rows are in
+//! `inclusion_drafts`.
 
 use crate::drafts::{random_area, random_draft, tower};
 use crate::needs::needs;
 use crate::{encode, Converting, DraftCounts, Prng, Shape};
 use plain::{Draft, RuleFile};
 use std::time::{Duration, Instant};
-use worlds::{Ontology, World};
+use worlds::{Concept, Ontology, World};
 
 /// Small drafts and large ones, and how many of them.
 const SHAPES: [(Shape, usize); 4] = [
@@ -44,18 +45,21 @@ pub fn check_random_drafts(mut convert: impl Converting) {
     assert!(telling >= 5000, "few worlds have elements where the wanted row holds and others");
 }
 
-/// Checks that the result is a rule file with the draft's text, as many rules, and only rows that are needed.
-fn check_result(draft: &[u8], file: &[u8]) {
+/// Checks that the result is a rule file with the draft's text, as many rules, and only rows that are needed or of kind 7.
+pub(crate) fn check_result(draft: &[u8], file: &[u8]) {
     let (read, written) = (Draft::read(draft).expect("a draft"), RuleFile::read(file).expect("a rule file"));
     assert_eq!(written.text, read.text, "{draft:02x?}");
     assert_eq!(written.tbox.len(), read.tbox.len(), "{draft:02x?}");
     let ontology = Ontology::decode(file).expect("a rule file");
-    assert!(needs(&ontology).iter().all(|&needs| needs == [true, false]), "a row without need: {draft:02x?}");
+    let is_kept = |row: &Concept| matches!(row, Concept::Narrower(..));
+    let needed =
+        needs(&ontology).into_iter().zip(&ontology.rows).all(|(needs, row)| is_kept(row) || needs == [true, false]);
+    assert!(needed, "a row without need: {draft:02x?}");
 }
 
 /// Checks that in some random worlds each rule and the wanted row hold at the same elements in the draft and in the result. Gives
 /// in how many of them the wanted row holds somewhere, but not everywhere.
-fn check_meaning(draft: &[u8], file: &[u8], shape: Shape, prng: &mut Prng) -> usize {
+pub(crate) fn check_meaning(draft: &[u8], file: &[u8], shape: Shape, prng: &mut Prng) -> usize {
     let (meant, written) =
         (Ontology::decode_draft(draft).expect("a draft"), Ontology::decode(file).expect("a rule file"));
     let mut telling = 0;
@@ -79,7 +83,9 @@ fn random_world(prng: &mut Prng, shape: Shape) -> World {
     for d in 0..size {
         (0..shape.names).filter(|_| prng.below(2) == 0).for_each(|name| world.set_name(name, d));
         for role in 0..shape.roles {
-            (0..size).filter(|_| prng.below(3) == 0).for_each(|e| world.set_pair(role, d, e));
+            for e in (0..size).filter(|_| prng.below(3) == 0) {
+                world.set_pair(role, d, e);
+            }
         }
     }
     world

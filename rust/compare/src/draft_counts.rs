@@ -13,7 +13,7 @@ const LONGEST_FILE: usize = 4096;
 pub struct DraftCounts {
     converted: usize,
     /// By number; of 12 see the next three.
-    refusals: [usize; 13],
+    refusals: [usize; 17],
     too_many_rows: usize,
     too_many_bytes: usize,
     too_short_area: usize,
@@ -25,6 +25,8 @@ pub struct DraftCounts {
     opposites: [usize; 10],
     without_not_and_if: usize,
     dropped_rows: usize,
+    /// With kind 7 rows, which are kept.
+    pub inclusions: usize,
     /// 4,096 bytes, with a text.
     longest_drafts: usize,
     longest_results: usize,
@@ -64,7 +66,8 @@ impl DraftCounts {
         let kinds: Vec<usize> = ontology.rows.iter().map(|&concept| kind(concept)).collect();
         let rows_needed = needs.iter().zip(&kinds).filter(|&(_, &kind)| kind != 8);
         let places: usize = rows_needed.map(|(needs, _)| needs.iter().filter(|&&needed| needed).count()).sum();
-        let written = RuleFile::read(file).expect("a rule file").concepts.len();
+        let is_inclusion = |row: usize| kinds[row] == 7;
+        let written = RuleFile::read(file).expect("a rule file").concepts.len() - ontology.inclusions().count();
         let add = |count: &mut usize, happened: bool| *count += usize::from(happened);
         self.converted += 1;
         add(&mut self.shared, written < places);
@@ -73,7 +76,8 @@ impl DraftCounts {
             add(times, needs.iter().zip(&kinds).any(|(needs, &of_row)| of_row == kind && needs[1]));
         }
         add(&mut self.without_not_and_if, kinds.iter().all(|&kind| kind < 8));
-        add(&mut self.dropped_rows, needs.contains(&[false, false]));
+        add(&mut self.dropped_rows, (0..needs.len()).any(|row| needs[row] == [false, false] && !is_inclusion(row)));
+        add(&mut self.inclusions, ontology.inclusions().next().is_some());
         add(&mut self.longest_drafts, draft.len() == LONGEST_FILE);
         add(&mut self.longest_results, file.len() == LONGEST_FILE);
         add(&mut self.repeated_rules, (1..ontology.tbox.len()).any(|k| ontology.tbox[..k].contains(&ontology.tbox[k])));
@@ -81,9 +85,9 @@ impl DraftCounts {
         add(&mut self.just_enough, area == file.len());
     }
 
-    /// Fails if one of refusals 1 to 8 and 12 was rare, or if another came: a conversion has no others.
+    /// Fails if one of refusals 1 to 8, 12 and 16 was rare, or if another came: a conversion has no others.
     pub fn assert_each_refusal(&self, least: usize) {
-        let came = [1, 2, 3, 4, 5, 6, 7, 8, 12].map(|number| self.refusals[number]);
+        let came = [1, 2, 3, 4, 5, 6, 7, 8, 12, 16].map(|number| self.refusals[number]);
         let only_these = came.iter().sum::<usize>() == self.refusals.iter().sum();
         assert!(came.iter().all(|&times| times >= least) && only_these, "{:?}", self.refusals);
         assert!(self.converted >= least, "only {} drafts are converted", self.converted);
@@ -122,6 +126,7 @@ fn kind(concept: Concept) -> usize {
         Concept::Either(..) => 4,
         Concept::All(..) => 5,
         Concept::Some(..) => 6,
+        Concept::Narrower(..) => 7,
         Concept::Not(_) => 8,
         Concept::IfThen(..) => 9,
     }

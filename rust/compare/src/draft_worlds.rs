@@ -20,7 +20,7 @@ const SHAPES: [(Shape, usize); 3] = [
 
 /// How often things happened.
 #[derive(Default, Debug)]
-struct Counts {
+pub(crate) struct Counts {
     not_or_if: usize,
     world_found: usize,
     can: usize,
@@ -33,23 +33,37 @@ struct Counts {
 /// Checks what the engine says of random drafts once they are converted, prints how often things happened and fails if one of them
 /// was rare.
 pub fn check_draft_worlds(mut convert: impl Converting, mut answer: impl Answering) {
-    let whole = Lent::just(Used { nodes: 200, edges: 300, alternatives: 50 }, 100, 150);
     let mut counts = Counts::default();
     for (seed, (shape, drafts)) in SHAPES.into_iter().enumerate() {
         let mut prng = Prng::new(61 + seed as u64);
         for _ in 0..drafts {
             let draft = random_draft(&mut prng, shape);
-            let lent = if prng.below(4) == 0 { whole.with_example(1, 1) } else { whole };
             // Refusal 12 comes for a few whose text leaves no room.
             if let Ok(file) = convert(&draft, 4096) {
-                let first = answer(&file, &lent);
-                counts.too_long += usize::from(matches!(first, Answer::TooLong { .. }));
-                check(&draft, &file, &whole_answer(&mut answer, &file, &lent, first), &mut counts);
+                check_converted(&mut answer, &draft, &file, &mut prng, &mut counts);
             }
         }
     }
     println!("{counts:?}");
-    assert_often(&counts);
+    counts.assert_often();
+}
+
+/// Checks what the engine says of the file that a draft became, in areas that hold nearly every run, now and then with example areas
+/// that are too short. Gives the answer.
+pub(crate) fn check_converted(
+    answer: &mut impl Answering,
+    draft: &[u8],
+    file: &[u8],
+    prng: &mut Prng,
+    counts: &mut Counts,
+) -> Answer {
+    let whole = Lent::just(Used { nodes: 200, edges: 300, alternatives: 50 }, 100, 150);
+    let lent = if prng.below(4) == 0 { whole.with_example(1, 1) } else { whole };
+    let first = answer(file, &lent);
+    counts.too_long += usize::from(matches!(first, Answer::TooLong { .. }));
+    let whole = whole_answer(answer, file, &lent, first);
+    check(draft, file, &whole, counts);
+    whole
 }
 
 fn check(draft: &[u8], file: &[u8], answer: &Answer, counts: &mut Counts) {
@@ -77,16 +91,19 @@ fn check(draft: &[u8], file: &[u8], answer: &Answer, counts: &mut Counts) {
     }
 }
 
-fn assert_often(counts: &Counts) {
-    let often = [
-        ("not or if", counts.not_or_if),
-        ("world found", counts.world_found),
-        ("can at once", counts.can - counts.too_long),
-        ("cannot", counts.cannot),
-        ("too long", counts.too_long),
-    ];
-    for (what, times) in often {
-        assert!(times >= 500, "{what}: only {times} times");
+impl Counts {
+    /// Fails if something was rare.
+    pub(crate) fn assert_often(&self) {
+        let often = [
+            ("not or if", self.not_or_if),
+            ("world found", self.world_found),
+            ("can at once", self.can - self.too_long),
+            ("cannot", self.cannot),
+            ("too long", self.too_long),
+        ];
+        for (what, times) in often {
+            assert!(times >= 500, "{what}: only {times} times");
+        }
+        assert!(self.example_over_three >= 50, "few examples with more than three elements");
     }
-    assert!(counts.example_over_three >= 50, "few examples with more than three elements");
 }

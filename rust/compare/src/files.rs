@@ -41,4 +41,8 @@ impl Table {
     pub fn some(&mut self, role: u8, left: u8) -> u8 {
         self.row([6, role, left, 0])
     }
+
+    pub fn inclusion(&mut self, narrow: u8, wide: u8) -> u8 {
+        self.row([7, narrow, wide, 0])
+    }
 }

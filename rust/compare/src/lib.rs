@@ -1,8 +1,8 @@
 //! What the tests share: the questions of tests/vectors and the words they are in, rule files written row by row, random and
 //! damaged rule files and drafts, long chains, large examples, orders of records; and checks of an answering function against the
 //! vectors, against itself in other areas, against orders by hand and against the meaning of ALCI, every bit of its examples too, and
-//! of a converting function against the vectors and the meaning of drafts; of both, what a table can begin with; and every pair of
-//! role codes.
+//! of a converting function against the vectors and the meaning of drafts; of both, what a table can begin with; every pair of role
+//! codes; and roles that are narrower than others, in files and in drafts.
 
 pub mod areas;
 pub mod cases;
@@ -14,16 +14,22 @@ pub mod draft_counts;
 pub mod draft_worlds;
 pub mod drafts;
 pub mod files;
+pub mod inclusion_counts;
+pub mod inclusion_drafts;
+pub mod inclusion_files;
+pub mod inclusions;
 pub mod listing_counts;
 pub mod listings;
 pub mod long_orders;
 pub mod long_runs;
+pub mod misplaced_inclusions;
 pub mod needs;
 pub mod orders;
 pub mod questions;
 pub mod random;
 pub mod record_order;
 pub mod role_codes;
+pub mod role_inclusions;
 pub mod row_zero;
 pub mod samples;
 pub mod small_drafts;

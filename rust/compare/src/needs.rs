@@ -19,7 +19,7 @@ pub fn needs(ontology: &Ontology) -> Vec<[bool; 2]> {
 /// The arguments of a row, and whether the row needs their opposites. The opposite of the row then needs the opposites of these.
 fn arguments(concept: Concept) -> Vec<(usize, bool)> {
     match concept {
-        Concept::Name(_) | Concept::NotName(_) => vec![],
+        Concept::Name(_) | Concept::NotName(_) | Concept::Narrower(..) => vec![],
         Concept::Both(l, r) | Concept::Either(l, r) => vec![(l, false), (r, false)],
         Concept::All(_, l) | Concept::Some(_, l) => vec![(l, false)],
         Concept::Not(l) => vec![(l, true)],

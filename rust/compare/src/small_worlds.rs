@@ -10,7 +10,7 @@ use plain::status::Status;
 use plain::{tableau, Answer, Lent, RuleFile, Used};
 use worlds::{search, Ontology};
 
-const MAX_ELEMENTS: usize = 3;
+pub(crate) const MAX_ELEMENTS: usize = 3;
 
 /// How often things happened; a property that never came up was not tested. What the graph did is counted in the graph of
 /// `plain`.
@@ -59,7 +59,7 @@ pub fn check_random_files(mut answer: impl Answering) {
 }
 
 /// Room for nearly every run, now and then the areas of the printing program, now and then example areas that are too short.
-fn random_areas(prng: &mut Prng) -> Lent {
+pub(crate) fn random_areas(prng: &mut Prng) -> Lent {
     let whole = Lent::just(Used { nodes: 200, edges: 300, alternatives: 50 }, 100, 150);
     match prng.below(16) {
         0 => Lent::by_program(),

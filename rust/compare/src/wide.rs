@@ -1,4 +1,4 @@
-//! Files of 64 rows whose examples are large, so that there is much to list.
+//! Files of 64 rows whose examples are large, so that there is much to list; also with half of the rows of kind 7.
 //!
 //! In order: two lines of signals; the rows that nothing needs; the files.
 //!
@@ -6,6 +6,7 @@
 //! and only if no set has to be branched over.
 
 use crate::files::{encode, Table};
+use crate::inclusions::{long_chain, Parts};
 use plain::text;
 
 const MOST_ROWS: usize = 64;
@@ -36,14 +37,14 @@ fn line_with_pause(places: usize, pause: usize) -> Vec<u8> {
     encode(b"", &table.rows, &[name, next], name)
 }
 
-/// The same file, with rows that nothing needs up to the most that a file may have: "some" and "all" along role 0, role 1 and their
-/// inverses, about all lower rows by turns.
-fn padded(file: &[u8]) -> Vec<u8> {
+/// The same file, with rows that nothing needs until it has so many: "some" and "all" along role 0, role 1 and their inverses, about all
+/// lower rows by turns.
+fn padded(file: &[u8], most: usize) -> Vec<u8> {
     let (text, count) = (text(file), usize::from(file[file.len() - ROWS_FROM_END]));
     let (rows, rest) = file[text.len()..].split_at(4 * count);
     let mut table = Table { rows: rows.as_chunks().0.to_vec() };
     for step in 0u8.. {
-        if table.rows.len() == MOST_ROWS {
+        if table.rows.len() == most {
             break;
         }
         let argument = 5 * step % table.rows.len() as u8;
@@ -61,5 +62,13 @@ fn padded(file: &[u8]) -> Vec<u8> {
 /// and 1,920; 64 and 1,984.
 pub fn wide() -> Vec<Vec<u8>> {
     let lines = [line_with_pause(13, 5), line(9, 1), line(8, 5), line(7, 13), line(6, 29)];
-    lines.iter().map(|file| padded(file)).collect()
+    lines.iter().map(|file| padded(file, MOST_ROWS)).collect()
+}
+
+/// Files of 64 rows, half of them of kind 7 in one long chain of all roles, so that a pair belongs to up to 16 roles. Their examples have 256
+/// elements and 1,792 links; 128 and 1,920.
+pub fn wide_with_inclusions() -> Vec<Vec<u8>> {
+    let chain = long_chain(0..16, MOST_ROWS / 2);
+    let lines = [line(8, 5), line(7, 13)];
+    lines.iter().map(|file| Parts::of(&padded(file, MOST_ROWS / 2)).after(&chain).bytes()).collect()
 }

@@ -1,5 +1,6 @@
 //! Damaged files get an answer, never a panic; and a file that is accepted all the same gets a right one. The same with drafts.
 
+use compare::inclusions::with_inclusions;
 use compare::{
     cases, check_example, damage, draft_cases, random_bytes, random_draft, random_file, DraftCounts, Prng, Shape,
 };
@@ -8,20 +9,27 @@ use worlds::Ontology;
 
 const SHAPE: Shape = Shape { names: 2, roles: 2, compound: 12, rules: 4, text: 8 };
 
-/// How often each refusal by a check came, by its number; 0 counts accepted files.
-type Refusals = [usize; 9];
+/// How often each refusal by a check came, in their order; the first counts accepted files.
+type Refusals = [usize; CHECKS.len()];
+const CHECKS: [u8; 10] = [0, 1, 2, 3, 4, 5, 6, 7, 8, 16];
 
 fn check(file: &[u8], lent: &Lent, refusals: &mut Refusals) {
     let answer = answer(file, lent);
     assert!(print(&answer).ends_with('\n'));
     check_example(file, &answer);
-    refusals[usize::from(RuleFile::read(file).err().unwrap_or(0))] += 1;
+    let number = RuleFile::read(file).err().unwrap_or(0);
+    refusals[CHECKS.iter().position(|&check| check == number).expect("a file check")] += 1;
 }
 
-/// Accepted files and refusals 1 to 8 came each so often.
+/// Accepted files and refusals 1 to 8 and 16 came each so often.
 fn assert_often(refusals: &Refusals, least: usize) {
-    println!("accepted, then refusals 1 to 8: {refusals:?}");
+    println!("accepted, then refusals 1 to 8 and 16: {refusals:?}");
     assert!(refusals.iter().all(|&times| times >= least), "{refusals:?}");
+}
+
+fn random_file_with_inclusions(prng: &mut Prng) -> Vec<u8> {
+    let file = random_file(prng, SHAPE);
+    with_inclusions(prng, &file, SHAPE.roles)
 }
 
 #[test]
@@ -32,6 +40,7 @@ fn damaged_files_never_panic() {
     for round in 0..40_000 {
         let mut file = match round % 4 {
             0 => vectors[prng.below(vectors.len())].clone(),
+            1 => random_file_with_inclusions(&mut prng),
             _ => random_file(&mut prng, SHAPE),
         };
         damage(&mut prng, &mut file);
@@ -64,6 +73,10 @@ fn damaged_drafts_never_panic() {
     for round in 0..40_000 {
         let mut draft = match round % 4 {
             0 => vectors[prng.below(vectors.len())].clone(),
+            1 => {
+                let draft = random_draft(&mut prng, SHAPE);
+                with_inclusions(&mut prng, &draft, SHAPE.roles)
+            }
             _ => random_draft(&mut prng, SHAPE),
         };
         damage(&mut prng, &mut draft);

@@ -3,7 +3,7 @@
 use compare::chains::{
     clocked_line, delay_line, ladder, shift_register, CONTENTS, DEEPEST, RUNGS, RUNGS_AGAIN, THOUSAND_STATES,
 };
-use compare::wide::wide;
+use compare::wide::{wide, wide_with_inclusions};
 use compare::{check_example, on_stack};
 use plain::graph::{Edge, Graph, Link, Node};
 use plain::status::Status;
@@ -61,11 +61,15 @@ fn a_line_with_a_clock() {
 /// What the largest examples list is judged; so many elements and links they have.
 #[test]
 fn large_examples_of_64_rows() {
-    let sizes = wide().into_iter().map(|file| match answer_on_small_stack(file) {
-        Answer::Can { elements, links, .. } => (elements.len(), links.len()),
-        other => panic!("{other:?}"),
-    });
-    assert_eq!(sizes.collect::<Vec<_>>(), [(1221, 2031), (512, 1536), (256, 1792), (128, 1920), (64, 1984)]);
+    let sizes = |files: Vec<Vec<u8>>| -> Vec<(usize, usize)> {
+        let size = |file| match answer_on_small_stack(file) {
+            Answer::Can { elements, links, .. } => (elements.len(), links.len()),
+            other => panic!("{other:?}"),
+        };
+        files.into_iter().map(size).collect()
+    };
+    assert_eq!(sizes(wide()), [(1221, 2031), (512, 1536), (256, 1792), (128, 1920), (64, 1984)]);
+    assert_eq!(sizes(wide_with_inclusions()), [(256, 1792), (128, 1920)]);
 }
 
 #[test]

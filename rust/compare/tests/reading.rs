@@ -1,7 +1,7 @@
 //! The text of a file, the order of the checks, the kinds of a draft, and what a table can begin with.
 
 use compare::encode;
-use compare::row_zero::{check_first_rows, check_tables_without_names};
+use compare::row_zero::{check_first_rows, check_tables_of_inclusions, check_tables_without_names};
 use plain::{answer, convert, text, Draft, RuleFile};
 
 const ROWS: [[u8; 4]; 3] = [[1, 0, 0, 0], [5, 31, 0, 0], [6, 0, 1, 0]];
@@ -28,11 +28,13 @@ fn each_check_covers_all_rows_before_the_next() {
     let refusal = |rows: &[[u8; 4]], rules: &[u8], wanted: u8| RuleFile::read(&encode(b"", rows, rules, wanted)).err();
     let name = [1, 0, 0, 0];
     // An argument that isn't lower in row 0, but a bad kind in row 1; a repeat before an argument that isn't lower; and so on.
-    assert_eq!(refusal(&[[3, 0, 0, 0], [7, 0, 0, 0]], &[9], 9), Some(5));
+    assert_eq!(refusal(&[[3, 0, 0, 0], [7, 0, 0, 1]], &[9], 9), Some(5));
     assert_eq!(refusal(&[name, name, [3, 0, 2, 0]], &[9], 9), Some(6));
     assert_eq!(refusal(&[name, name], &[9], 9), Some(7));
     assert_eq!(refusal(&[name], &[1], 0), Some(8));
     assert_eq!(refusal(&[name], &[0], 1), Some(8));
+    assert_eq!(refusal(&[name, [7, 0, 0, 0]], &[1], 2), Some(8));
+    assert_eq!(refusal(&[name, [7, 0, 0, 0]], &[1], 0), Some(16));
     assert_eq!(refusal(&[name], &[0], 0), None);
 }
 
@@ -47,7 +49,7 @@ fn a_draft_has_two_kinds_more() {
     assert_eq!(refusals([8, 0, 0, 0]), (Some(5), None));
     assert_eq!(refusals([9, 0, 0, 0]), (Some(5), None));
     // An unused byte, an argument that isn't lower: check 6 follows check 5.
-    for row in [[7, 0, 0, 0], [10, 0, 0, 0], [0, 0, 0, 0], [8, 1, 0, 0], [8, 0, 0, 1], [9, 1, 0, 0]] {
+    for row in [[10, 0, 0, 0], [0, 0, 0, 0], [8, 1, 0, 0], [8, 0, 0, 1], [9, 1, 0, 0]] {
         assert_eq!(refusals(row), (Some(5), Some(5)), "{row:?}");
     }
     for row in [[8, 0, 1, 0], [9, 0, 1, 0], [9, 0, 0, 1]] {
@@ -63,4 +65,9 @@ fn every_first_row() {
 #[test]
 fn tables_without_names() {
     check_tables_without_names(answer, convert);
+}
+
+#[test]
+fn tables_of_inclusions() {
+    check_tables_of_inclusions(answer, convert);
 }

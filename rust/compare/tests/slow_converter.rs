@@ -1,7 +1,8 @@
 //! The plain converter against a slow one: it writes each rule out as one expression, turns its parts round where "not" and "if" ask
-//! for it, and then numbers the parts as they end, equal parts once.
+//! for it, and then numbers the parts as they end, equal parts once, after the kind 7 rows.
 
 use compare::files::{encode, Row};
+use compare::inclusions::with_inclusions;
 use compare::{random_draft, Conversion, Prng, Shape};
 use worlds::ontology::RoleUse;
 use worlds::{Concept, Ontology};
@@ -23,9 +24,18 @@ fn pair(kind: u8, left: Term, right: Term) -> Term {
     Term { kind, role: 0, name: 0, arguments: vec![left, right] }
 }
 
+fn code(role: RoleUse) -> u8 {
+    2 * role.role as u8 + u8::from(role.inverse)
+}
+
 fn along(kind: u8, role: RoleUse, argument: Term) -> Term {
-    let role = 2 * role.role as u8 + u8::from(role.inverse);
-    Term { kind, role, name: 0, arguments: vec![argument] }
+    Term { kind, role: code(role), name: 0, arguments: vec![argument] }
+}
+
+/// A kind 7 row, with the wider role in the place of a name.
+fn inclusion((narrow, wide): (RoleUse, RoleUse)) -> (Term, Row) {
+    let (role, name) = (code(narrow), code(wide));
+    (Term { kind: 7, role, name, arguments: Vec::new() }, [7, role, name, 0])
 }
 
 /// A row of a draft written out.
@@ -37,6 +47,7 @@ fn term(draft: &Ontology, row: usize) -> Term {
         Concept::Either(l, r) => pair(4, term(draft, l), term(draft, r)),
         Concept::All(role, l) => along(5, role, term(draft, l)),
         Concept::Some(role, l) => along(6, role, term(draft, l)),
+        Concept::Narrower(..) => panic!("nothing needs such a row"),
         Concept::Not(l) => opposite(term(draft, l)),
         Concept::IfThen(l, r) => pair(4, opposite(term(draft, l)), term(draft, r)),
     }
@@ -66,7 +77,7 @@ fn number(term: &Term, rows: &mut Vec<(Term, Row)>) -> u8 {
 /// What becomes of an accepted draft.
 fn convert_slowly(draft: &[u8]) -> Conversion {
     let ontology = Ontology::decode_draft(draft).expect("a draft");
-    let mut rows = Vec::new();
+    let mut rows: Vec<(Term, Row)> = ontology.inclusions().map(inclusion).collect();
     let rules: Vec<u8> = ontology.tbox.iter().map(|&rule| number(&term(&ontology, rule), &mut rows)).collect();
     let wanted = number(&term(&ontology, ontology.wanted), &mut rows);
     let rows: Vec<Row> = rows.into_iter().map(|(_, row)| row).collect();
@@ -89,7 +100,11 @@ fn both_converters_agree() {
     let mut prng = Prng::new(71);
     let (mut converted, mut refused) = (0, 0);
     for round in 0..30_000 {
-        let draft = random_draft(&mut prng, shapes[round % shapes.len()]);
+        let shape = shapes[round % shapes.len()];
+        let mut draft = random_draft(&mut prng, shape);
+        if round % 2 == 0 {
+            draft = with_inclusions(&mut prng, &draft, shape.roles);
+        }
         let conversion = plain::convert(&draft, usize::MAX);
         assert_eq!(conversion, convert_slowly(&draft), "{draft:02x?}");
         match conversion {

@@ -1,5 +1,5 @@
 /* The fit engine: two calls on a rule file, and one that makes a rule file of a draft. Link with libgumbyra.a, which is for
-   x86-64 Linux only. examples/eight_nodes.c, examples/enlarge.c and examples/draft.c are whole programs.
+   x86-64 Linux only. examples/eight_nodes.c, examples/enlarge.c, examples/draft.c and examples/fitted.c are whole programs.
 
    In all calls a pointer may not be null, even with length 0. Nothing is kept after a call, and there is no state: threads may
    call at the same time, with areas of their own. For a call of this build a stack of 1 MiB suffices. */
@@ -31,8 +31,8 @@ enum { GUMBYRA_REFUSED = 0, GUMBYRA_CAN = 1, GUMBYRA_CANNOT = 2 };
 
 typedef struct {
     uint32_t verdict;                    /* GUMBYRA_CAN, GUMBYRA_CANNOT or GUMBYRA_REFUSED */
-    uint32_t refusal;                    /* 0 with a verdict; else 1 to 8: the file; 11: an example area is short; 13, 14, 15: a
-                                            work area is */
+    uint32_t refusal;                    /* 0 with a verdict; else 1 to 8, 16: the file; 11: an example area is short; 13, 14, 15:
+                                            a work area is */
     uint32_t nodes, edges, alternatives; /* records used; zero with a refusal */
     uint32_t elements, links;            /* the example's, with GUMBYRA_CAN or refusal 11; else zero */
     uint32_t lent;                       /* with 13, 14, 15: how many records of that kind counted as lent; else zero */
@@ -42,10 +42,16 @@ typedef struct {
    but lent is GUMBYRA_MOST_RECORDS at most, and then no larger area helps. */
 enum { GUMBYRA_NODES_SHORT = 13, GUMBYRA_EDGES_SHORT = 14, GUMBYRA_ALTERNATIVES_SHORT = 15 };
 
+/* A row of kind 7 says that every pair of one role (role byte, a code) is also a pair of another (left byte, a code up to 31); its
+   right byte is zero. It speaks of roles, so no element lists it, and this refusal comes if it serves as an argument, a rule or the
+   wanted row. */
+enum { GUMBYRA_INCLUSION = 16 };
+
 /* Decides a rule file. The areas may be of any length and hold anything; no two may overlap, nor one the file. After a verdict,
-   11, 13, 14 or 15 every byte of nodes, edges and alternatives is zero, after 1 to 8 they are as they were. elements and links
-   change with GUMBYRA_CAN only, in the first GUMBYRA_ELEMENT * answer.elements and GUMBYRA_LINK * answer.links bytes. An element
-   lists a row of the file exactly if the row holds there in the example, whether a rule or the kit needs the row or not. */
+   11, 13, 14 or 15 every byte of nodes, edges and alternatives is zero, after 1 to 8 and 16 they are as they were. elements and
+   links change with GUMBYRA_CAN only, in the first GUMBYRA_ELEMENT * answer.elements and GUMBYRA_LINK * answer.links bytes. An
+   element lists a row of the file exactly if the row holds there in the example, whether a rule or the kit needs the row or not. A
+   link has the code that a row asked for; its pair belongs to every wider role too. */
 gumbyra_answer gumbyra_fit(const uint8_t *file, size_t file_len,
                            uint8_t *nodes, size_t nodes_len,
                            uint8_t *edges, size_t edges_len,
@@ -53,17 +59,17 @@ gumbyra_answer gumbyra_fit(const uint8_t *file, size_t file_len,
                            uint8_t *elements, size_t elements_len,
                            uint8_t *links, size_t links_len);
 
-/* How many leading bytes of a rule file are its text; 0 for a file that is refused with 1 to 8. */
+/* How many leading bytes of a rule file are its text; 0 for a file that is refused with 1 to 8 or 16. */
 size_t gumbyra_text(const uint8_t *file, size_t file_len);
 
 typedef struct {
-    uint32_t refusal; /* 0 if a file was written; else 1 to 8: the draft; 12: the result is too long for a file or for the area */
+    uint32_t refusal; /* 0 if a file was written; else 1 to 8, 16: the draft; 12: the result is too long for a file or for the area */
     uint32_t length;  /* how many bytes at the start of the area are the file; 0 with a refusal */
 } gumbyra_conversion;
 
 /* Converts a draft, a rule file with two more kinds of row (8: not the left row; 9: if left then right), into a rule file of the
-   same text and the same meaning. The area may be of any length and hold anything; it may not overlap the draft. Its bytes past
-   the result are kept, and after a refusal it is as it was. */
+   same text and the same meaning. Rows of kind 7 are kept, before the others. The area may be of any length and hold anything; it may
+   not overlap the draft. Its bytes past the result are kept, and after a refusal it is as it was. */
 gumbyra_conversion gumbyra_convert(const uint8_t *draft, size_t draft_len, uint8_t *area, size_t area_len);
 
 #ifdef __cplusplus

@@ -32,15 +32,16 @@ mod tests {
         assert_eq!(of_numbers(0, 4096, &area), Some(Ok(&area[..4096])));
         assert_eq!(of_numbers(8, 0, &area), Some(Err(Refusal::NoSuchRow)));
         assert_eq!(of_numbers(12, 0, b""), Some(Err(Refusal::ResultTooLong)));
+        assert_eq!(of_numbers(16, 0, &area), Some(Err(Refusal::Inclusion)));
     }
 
     #[test]
     fn other_numbers_are_no_answer() {
         let area = [7; LONGEST_FILE + 1];
-        for (refusal, length) in [(0, 0), (1, 1), (9, 0), (12, 12), (0, 4097), (0, u32::MAX)] {
+        for (refusal, length) in [(0, 0), (1, 1), (9, 0), (12, 12), (16, 12), (0, 4097), (0, u32::MAX)] {
             assert_eq!(of_numbers(refusal, length, &area), None, "{refusal} {length}");
         }
-        for refusal in [10, 11, 13, 14, 15, 16] {
+        for refusal in [10, 11, 13, 14, 15, 17] {
             assert_eq!(of_numbers(refusal, 0, &area), None, "{refusal}: of a run, or none");
         }
         assert_eq!(of_numbers(0, 12, &area[..11]), None, "longer than the area");

@@ -13,7 +13,7 @@ pub struct Example<'a> {
     links: &'a [[u8; LINK_BYTES]],
 }
 
-/// A link of an example. Role code 2k is role k, 2k + 1 its inverse.
+/// A link of an example. Role code 2k is role k, 2k + 1 its inverse. The pair belongs to that role and to every wider one.
 #[derive(Clone, Copy, Debug, PartialEq, Eq, Hash)]
 pub struct Link {
     pub from: u16,
@@ -33,8 +33,8 @@ impl<'a> Example<'a> {
 
     /// The row set of each element; `len` tells how many there are. Element 0 is a member of the kit.
     ///
-    /// An element lists a row of the rule file exactly if the row holds there, whether a rule or the kit needs it or not. So a page
-    /// can read a missing row as "no":
+    /// An element lists a row of the rule file exactly if the row holds there, whether a rule or the kit needs it or not; a row of
+    /// kind 7 speaks of roles and is never listed. So a page can read a missing row as "no":
     ///
     /// ```
     /// use gumbyra::{Space, Verdict};

@@ -60,6 +60,38 @@ pub use verdict::{Used, Verdict};
 /// # Ok::<(), gumbyra::Refusal>(())
 /// ```
 ///
+/// A row of kind 7 says that every pair of one role is also a pair of another, so that a rule about the wider role need not be written
+/// again for each narrower one:
+///
+/// ```
+/// use gumbyra::{Link, Refusal, Space, Verdict};
+///
+/// // Codes: 0 is fitted to, 2 is screwed to, 4 is glued to; an odd code is the way back. Rows: what is screwed is fitted; what is glued
+/// // is fitted; is a pump; is acid-proof; is not acid-proof; has only acid-proof parts fitted to it.
+/// let ways = [[7, 2, 0, 0], [7, 4, 0, 0]];
+/// let rows = [[1, 0, 0, 0], [1, 0, 1, 0], [2, 0, 1, 0], [5, 1, 3, 0]];
+/// // Then: is a pump with such parts only; is glued to some of these, the wanted row.
+/// let kit = [[3, 0, 2, 5], [6, 4, 6, 0]];
+/// let table = [ways.as_flattened(), rows.as_flattened(), kit.as_flattened()].concat();
+/// let file = [&table, [0, 0, 8, 0, 7].as_slice(), b"FIT"].concat();
+///
+/// let mut space = Space::usual();
+/// let Verdict::Can { example, .. } = space.fit(&file)? else { panic!("the kit can exist") };
+/// let rows: Vec<Vec<usize>> = example.elements().map(|rows| rows.rows().collect()).collect();
+/// assert_eq!(rows[0], [3, 5, 7], "the part is acid-proof, since what is glued to the pump is fitted to it");
+/// assert!(rows.iter().flatten().all(|&row| row > 1), "no element lists rows 0 and 1: they speak of roles");
+/// assert_eq!(example.links().collect::<Vec<_>>(), [Link { from: 0, role: 4, to: 1 }], "a link has its own role");
+///
+/// // A part that is not acid-proof: one more row, both row 4 and row 7, wanted.
+/// let file = [&table, [3, 0, 4, 7].as_slice(), &[0, 0, 9, 0, 8], b"FIT"].concat();
+/// assert!(matches!(space.fit(&file)?, Verdict::Cannot { .. }));
+///
+/// // Such a row is no rule: it holds without being one.
+/// let file = [&table, [0].as_slice(), &[0, 0, 8, 1, 7], b"FIT"].concat();
+/// assert_eq!(space.fit(&file), Err(Refusal::Inclusion));
+/// # Ok::<(), gumbyra::Refusal>(())
+/// ```
+///
 /// # Panics
 /// If the numbers that come back are of no answer: then the archive is not the engine that this crate was written for.
 pub fn fit<'a>(file: &[u8], mut areas: Areas<'a>) -> Result<Verdict<'a>, Refusal> {
@@ -68,7 +100,7 @@ pub fn fit<'a>(file: &[u8], mut areas: Areas<'a>) -> Result<Verdict<'a>, Refusal
         .unwrap_or_else(|| panic!("no answer of the engine: {answer:?}"))
 }
 
-/// The text of a rule file: the part of the file before its rows, uncopied. Of a file that a file check refuses (1 to 8) it is
+/// The text of a rule file: the part of the file before its rows, uncopied. Of a file that a file check refuses (1 to 8 and 16) it is
 /// the empty part at the file's start.
 ///
 /// ```
@@ -87,8 +119,8 @@ pub fn text(file: &[u8]) -> &[u8] {
 /// Converts a draft, a rule file with two more kinds of row: 8, not the left row, and 9, if left then right. Gives the part of
 /// the area that is the file, a rule file of the same text and the same meaning without these kinds.
 ///
-/// Bytes of the area past the result are kept, and after a refusal it is as it was. It may be of any length and hold anything;
-/// [`LONGEST_FILE`] bytes suffice.
+/// Rows of kind 7 are kept, all of them, before the other rows. Bytes of the area past the result are kept, and after a refusal it is as
+/// it was. It may be of any length and hold anything; [`LONGEST_FILE`] bytes suffice.
 ///
 /// ```
 /// use gumbyra::{convert, Refusal, Space, Verdict, LONGEST_FILE};

@@ -1,4 +1,4 @@
-//! Refusals: their numbers and their sentences (document 01, "Refusals, in checking order"; document 02, [1] and [4]).
+//! Refusals: their numbers and their sentences (document 01, "Refusals, in checking order"; document 02, [1], [4] and [6]).
 
 use crate::space::MOST_RECORDS;
 use std::fmt;
@@ -39,10 +39,12 @@ pub enum Refusal {
     EdgesShort { lent: usize },
     /// 15: the work area for alternatives is short.
     AlternativesShort { lent: usize },
+    /// 16: a row of kind 7, which speaks of roles, in a place for a row that speaks of elements. The check comes after that of 8.
+    Inclusion,
 }
 
-/// The refusals by a check of the file or the draft.
-const CHECKS: [Refusal; 8] = [
+/// The refusals by a check of the file or the draft, in checking order.
+const CHECKS: [Refusal; 9] = [
     Refusal::Length,
     Refusal::Mark,
     Refusal::Counts,
@@ -51,6 +53,7 @@ const CHECKS: [Refusal; 8] = [
     Refusal::Argument,
     Refusal::Repeat,
     Refusal::NoSuchRow,
+    Refusal::Inclusion,
 ];
 
 impl Refusal {
@@ -98,7 +101,7 @@ impl Refusal {
             Refusal::Extent => (4, "The first row's place + 4 × rows + rules + 8 is not the file's length."),
             Refusal::Row => (
                 5,
-                "A row has a kind outside 1 to 6 (in a draft 8 and 9 are kinds too), a non-zero unused byte, a role above 31 or \
+                "A row has a kind outside 1 to 7 (in a draft 8 and 9 are kinds too), a non-zero unused byte, a role above 31 or \
                  a name above 63.",
             ),
             Refusal::Argument => (6, "A row names an argument row that isn't lower than itself."),
@@ -111,6 +114,7 @@ impl Refusal {
             Refusal::NodesShort { .. } => (13, "The procedure's next node has no place in its area."),
             Refusal::EdgesShort { .. } => (14, "The procedure's next edge has no place in its area."),
             Refusal::AlternativesShort { .. } => (15, "The procedure's next alternative has no place in its area."),
+            Refusal::Inclusion => (16, "A row of kind 7 serves as an argument, a rule or the wanted row."),
         }
     }
 }
@@ -139,7 +143,7 @@ mod tests {
     #[test]
     fn each_number_has_its_refusal() {
         let numbers: Vec<u8> = CHECKS.iter().map(Refusal::number).collect();
-        assert_eq!(numbers, [1, 2, 3, 4, 5, 6, 7, 8]);
+        assert_eq!(numbers, [1, 2, 3, 4, 5, 6, 7, 8, 16]);
         for check in CHECKS {
             assert_eq!(Refusal::of_run(check.number().into(), [0, 0], 0), Some(check));
             assert_eq!(Refusal::of_conversion(check.number().into()), Some(check));
@@ -163,11 +167,13 @@ mod tests {
 
     #[test]
     fn other_numbers_have_none() {
-        for number in [0, 9, 10, 12, 16] {
+        for number in [0, 9, 10, 12, 17] {
             assert_eq!(Refusal::of_run(number, [0, 0], 0), None, "{number}");
             assert_eq!(Refusal::of_run(number, [0, 0], 7), None, "{number}");
         }
-        for (number, counts, lent) in [(1, [1, 0], 0), (1, [0, 0], 1), (10, [0, 1], 0), (11, [2, 1], 1)] {
+        let others =
+            [(1, [1, 0], 0), (1, [0, 0], 1), (10, [0, 1], 0), (11, [2, 1], 1), (16, [1, 0], 0), (16, [0, 0], 1)];
+        for (number, counts, lent) in others {
             assert_eq!(Refusal::of_run(number, counts, lent), None, "{number} {counts:?} {lent}");
         }
         for number in 13..=15 {
@@ -175,10 +181,10 @@ mod tests {
                 assert_eq!(Refusal::of_run(number, counts, lent), None, "{number} {counts:?} {lent}");
             }
         }
-        assert!([0, 9, 10, 11, 13, 14, 15].into_iter().all(|number| Refusal::of_conversion(number).is_none()));
+        assert!([0, 9, 10, 11, 13, 14, 15, 17].into_iter().all(|number| Refusal::of_conversion(number).is_none()));
     }
 
-    /// For translators: samples/README.md has each number with its sentence, and no other.
+    /// For translators: samples/README.md has each number with its sentence, rising, and no other.
     #[test]
     fn the_list_of_messages_is_complete() {
         let path = concat!(env!("CARGO_MANIFEST_DIR"), "/../../samples/README.md");
@@ -186,7 +192,8 @@ mod tests {
         let (_, list) = readme.split_once("| number | sentence |\n|---|---|\n").expect("the list of messages");
         let listed: Vec<&str> = list.lines().take_while(|line| line.starts_with('|')).collect();
         let others = [Refusal::ExampleTooLong { elements: 0, links: 0 }, Refusal::ResultTooLong];
-        let all = [CHECKS.as_slice(), &others, &short(0)].concat();
+        let mut all = [CHECKS.as_slice(), &others, &short(0)].concat();
+        all.sort_by_key(Refusal::number);
         let lines: Vec<String> = all.iter().map(|r| format!("| {} | {} |", r.number(), r.sentence())).collect();
         assert_eq!(listed, lines);
     }
@@ -194,6 +201,8 @@ mod tests {
     #[test]
     fn a_refusal_prints_its_number_and_its_sentence() {
         assert_eq!(Refusal::Repeat.to_string(), "refusal 7: Two rows have the same four bytes.");
+        let inclusion = "refusal 16: A row of kind 7 serves as an argument, a rule or the wanted row.";
+        assert_eq!(Refusal::Inclusion.to_string(), inclusion);
         let too_long = Refusal::ExampleTooLong { elements: 2, links: 1 };
         assert!(too_long.to_string().starts_with("refusal 11: The verdict is \"can\" and"));
         assert!(too_long.to_string().ends_with("too short. Elements needed: 2, links: 1."));

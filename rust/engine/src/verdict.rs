@@ -65,6 +65,7 @@ mod tests {
         assert_eq!(example.links().collect::<Vec<_>>(), [Link { from: 256, role: 2, to: 1 }]);
         assert_eq!(of_numbers([2, 0, 8, 7, 1, 0, 0, 0]), Some(Ok(Verdict::Cannot { used })));
         assert_eq!(of_numbers([0, 8, 0, 0, 0, 0, 0, 0]), Some(Err(Refusal::NoSuchRow)));
+        assert_eq!(of_numbers([0, 16, 0, 0, 0, 0, 0, 0]), Some(Err(Refusal::Inclusion)));
         let too_long = Refusal::ExampleTooLong { elements: 2, links: 1 };
         assert_eq!(of_numbers([0, 11, 0, 0, 0, 2, 1, 0]), Some(Err(too_long)));
         assert_eq!(of_numbers([0, 13, 0, 0, 0, 0, 0, 7]), Some(Err(Refusal::NodesShort { lent: 7 })));
@@ -99,6 +100,9 @@ mod tests {
             [1, 13, 0, 0, 0, 0, 0, 7],
             [2, 14, 0, 0, 0, 0, 0, 7],
             [0, 16, 0, 0, 0, 0, 0, 7],
+            [0, 16, 0, 1, 0, 0, 0, 0],
+            [1, 16, 0, 0, 0, 0, 0, 0],
+            [0, 17, 0, 0, 0, 0, 0, 0],
         ];
         for numbers in no_answers {
             assert_eq!(of_numbers(numbers), None, "{numbers:?}");

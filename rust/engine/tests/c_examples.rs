@@ -32,6 +32,13 @@ row 3 0 3 4
 verdict 2
 ";
 
+/// What is screwed on is acid-proof (row 2), so it lists rows 2, 4 and 5: nothing is fitted to it. What is glued on can't be without that.
+const FITTED: &str = "\
+row 5 wanted: verdict 1, refusal 0; element 0 has rows 34, the link has code 2
+row 7 wanted: verdict 2, refusal 0
+row 0 wanted: verdict 0, refusal 16
+";
+
 /// What an example prints.
 fn output(example: &str) -> String {
     let crate_dir = Path::new(env!("CARGO_MANIFEST_DIR"));
@@ -63,4 +70,9 @@ fn the_c_example_enlarges_what_was_short() {
 #[test]
 fn the_c_example_converts_a_draft() {
     assert_eq!(output("draft"), DRAFT);
+}
+
+#[test]
+fn the_c_example_goes_by_narrower_roles() {
+    assert_eq!(output("fitted"), FITTED);
 }

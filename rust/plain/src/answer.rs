@@ -83,7 +83,7 @@ pub struct Used {
 /// What a run answers.
 #[derive(Clone, Debug, PartialEq, Eq)]
 pub enum Answer {
-    /// A file check refuses the file: 1 to 8.
+    /// A file check refuses the file: 1 to 8 or 16.
     Refused(u8),
     /// Refusal 13, 14 or 15: the procedure's next record has no place in this area, of which so many records count as lent.
     Short { area: Area, lent: usize },

@@ -1,4 +1,4 @@
-//! Concepts (document 01's rows) and role codes.
+//! Concepts (document 01's rows), role inclusions (document 02, [6]) and role codes.
 
 /// A role code: 2k is role k, 2k + 1 its inverse.
 pub type Role = u16;
@@ -26,8 +26,11 @@ pub trait Kinds: Copy {
     /// above 63.
     fn of_row(row: Row) -> Option<Self>;
 
-    /// The highest row that it names as an argument.
-    fn highest_argument(self) -> Option<usize>;
+    /// Does every row pass that it names as an argument?
+    fn arguments_pass(self, passes: impl Fn(usize) -> bool) -> bool;
+
+    /// The two roles of a kind 7 row, the narrower first.
+    fn inclusion(self) -> Option<(Role, Role)>;
 }
 
 /// What a row of a rule file says; arguments are numbers of lower rows.
@@ -45,6 +48,8 @@ pub enum Concept {
     Univ(Role, usize),
     /// Kind 6: some along the role.
     Exist(Role, usize),
+    /// Kind 7: every pair of the first role is a pair of the second. It says nothing of an element, so it stands in no set.
+    Inclusion(Role, Role),
 }
 
 impl Kinds for Concept {
@@ -57,15 +62,23 @@ impl Kinds for Concept {
             4 if role == 0 => Some(Concept::Disj(l, r)),
             5 if right == 0 && role <= 31 => Some(Concept::Univ(Role::from(role), l)),
             6 if right == 0 && role <= 31 => Some(Concept::Exist(Role::from(role), l)),
+            7 if right == 0 && role <= 31 && left <= 31 => Some(Concept::Inclusion(Role::from(role), Role::from(left))),
             _ => None,
         }
     }
 
-    fn highest_argument(self) -> Option<usize> {
+    fn arguments_pass(self, passes: impl Fn(usize) -> bool) -> bool {
         match self {
-            Concept::Atomic(_) | Concept::Negated(_) => None,
-            Concept::Conj(l, r) | Concept::Disj(l, r) => Some(l.max(r)),
-            Concept::Univ(_, l) | Concept::Exist(_, l) => Some(l),
+            Concept::Atomic(_) | Concept::Negated(_) | Concept::Inclusion(..) => true,
+            Concept::Conj(l, r) | Concept::Disj(l, r) => passes(l) && passes(r),
+            Concept::Univ(_, l) | Concept::Exist(_, l) => passes(l),
+        }
+    }
+
+    fn inclusion(self) -> Option<(Role, Role)> {
+        match self {
+            Concept::Inclusion(narrow, wide) => Some((narrow, wide)),
+            _ => None,
         }
     }
 }

@@ -1,16 +1,17 @@
-//! The converter (document 02, [1]): a draft becomes a rule file in which "not" stands before names only and there is no "if".
+//! The converter (document 02, [1]): a draft becomes a rule file in which "not" stands before names only and there is no "if". Its
+//! kind 7 rows are kept, all of them, before the other rows (document 02, [6]).
 
-use crate::concept::{Concept, Role, Row};
+use crate::concept::{Concept, Kinds, Role, Row};
 use crate::draft::DraftConcept;
 use crate::rulefile::{encode, Draft, LONGEST_FILE, MOST_ROWS};
 
 /// The refusal of a result that needs more than 64 rows, more than 4,096 bytes or more than the area.
 const TOO_LONG: u8 = 12;
 
-/// The file that a draft becomes in an area of so many bytes, or the number of the refusal: 1 to 8 or 12.
+/// The file that a draft becomes in an area of so many bytes, or the number of the refusal: 1 to 8, 16 or 12.
 pub fn convert(draft: &[u8], area: usize) -> Result<Vec<u8>, u8> {
     let draft = Draft::read(draft)?;
-    let mut table = Table { draft: &draft.concepts, written: vec![[None; 2]; draft.concepts.len()], rows: Vec::new() };
+    let mut table = Table::new(&draft.concepts);
     let rules: Vec<u8> = draft.tbox.iter().map(|&rule| table.write(rule, Sign::Itself)).collect();
     let wanted = table.write(draft.wanted, Sign::Itself);
     let file = encode(draft.text, &table.rows, &rules, wanted);
@@ -36,7 +37,7 @@ impl Sign {
     }
 }
 
-/// The rows of the result, in the order in which they are first needed.
+/// The rows of the result: those of kind 7 as in the draft, then the others in the order in which they are first needed.
 struct Table<'a> {
     draft: &'a [DraftConcept],
     /// For each row of the draft the row written for itself and for its opposite. Without it a row would be gone through once
@@ -45,7 +46,15 @@ struct Table<'a> {
     rows: Vec<Row>,
 }
 
-impl Table<'_> {
+impl<'a> Table<'a> {
+    /// The kind 7 rows only.
+    fn new(draft: &'a [DraftConcept]) -> Table<'a> {
+        let code = |role: Role| u8::try_from(role).expect("a role code of a row");
+        let inclusions = draft.iter().filter_map(|row| row.inclusion());
+        let rows = inclusions.map(|(narrow, wide)| [7, code(narrow), code(wide), 0]).collect();
+        Table { draft, written: vec![[None; 2]; draft.len()], rows }
+    }
+
     /// The row of the result that says what a row of the draft says, or the opposite.
     fn write(&mut self, row: usize, sign: Sign) -> u8 {
         if let Some(number) = self.written[row][sign as usize] {
@@ -76,6 +85,7 @@ impl Table<'_> {
             Concept::Disj(l, r) => self.write_pair(kind(4, 3), (l, sign), (r, sign)),
             Concept::Univ(role, l) => self.write_along(kind(5, 6), role, (l, sign)),
             Concept::Exist(role, l) => self.write_along(kind(6, 5), role, (l, sign)),
+            Concept::Inclusion(..) => unreachable!("check 16: nothing needs such a row"),
         }
     }
 

@@ -1,11 +1,11 @@
 //! Drafts: rule files with "not" and "if" (document 02, [1]).
 
-use crate::concept::{Concept, Kinds, Row};
+use crate::concept::{Concept, Kinds, Role, Row};
 
 /// What a row of a draft says; arguments are numbers of lower rows.
 #[derive(Clone, Copy, Debug, PartialEq, Eq)]
 pub enum DraftConcept {
-    /// Kinds 1 to 6: as in a rule file.
+    /// Kinds 1 to 7: as in a rule file.
     Plain(Concept),
     /// Kind 8: not the left row.
     Not(usize),
@@ -22,11 +22,18 @@ impl Kinds for DraftConcept {
         }
     }
 
-    fn highest_argument(self) -> Option<usize> {
+    fn arguments_pass(self, passes: impl Fn(usize) -> bool) -> bool {
         match self {
-            DraftConcept::Plain(concept) => concept.highest_argument(),
-            DraftConcept::Not(l) => Some(l),
-            DraftConcept::If(l, r) => Some(l.max(r)),
+            DraftConcept::Plain(concept) => concept.arguments_pass(passes),
+            DraftConcept::Not(l) => passes(l),
+            DraftConcept::If(l, r) => passes(l) && passes(r),
+        }
+    }
+
+    fn inclusion(self) -> Option<(Role, Role)> {
+        match self {
+            DraftConcept::Plain(concept) => concept.inclusion(),
+            DraftConcept::Not(_) | DraftConcept::If(..) => None,
         }
     }
 }

@@ -1,9 +1,10 @@
-//! Where each row holds in a finite world (document 01, "The meaning of ALCI"). Nothing here knows of graphs: names and links come
-//! in, row sets go out.
+//! Where each row holds in a finite world (document 01, "The meaning of ALCI"; document 02, [6]). Nothing here knows of graphs: names
+//! and links come in, row sets go out.
 //!
-//! In order: the pairs of a role; the rows, each at all elements before the next; worlds by hand.
+//! In order: the rows, each at all elements before the next; the pairs of a role; worlds by hand.
 
 use crate::concept::{inverse, Concept, Role};
+use crate::hierarchy::RoleHierarchy;
 use crate::row_set::RowSet;
 
 /// A link: from, role code, to.
@@ -13,8 +14,9 @@ pub type RoleLink = (u16, Role, u16);
 pub type Names = u64;
 
 /// The rows that hold at each element, given the names that hold there and the links. Arguments are lower rows, so one pass over
-/// the rows settles all; a row takes as many steps as there are elements and links.
+/// the rows settles all; a row takes as many steps as there are elements and links. A kind 7 row is never listed.
 pub fn evaluate(concepts: &[Concept], names: &[Names], links: &[RoleLink]) -> Vec<RowSet> {
+    let links = Links { links, hierarchy: RoleHierarchy::of(concepts) };
     let mut elements = vec![RowSet::EMPTY; names.len()];
     for (row, &concept) in concepts.iter().enumerate() {
         match concept {
@@ -22,8 +24,9 @@ pub fn evaluate(concepts: &[Concept], names: &[Names], links: &[RoleLink]) -> Ve
             Concept::Negated(name) => list_where(&mut elements, row, |d, _| names[d] >> name & 1 == 0),
             Concept::Conj(l, r) => list_where(&mut elements, row, |_, rows| rows.contains(l) && rows.contains(r)),
             Concept::Disj(l, r) => list_where(&mut elements, row, |_, rows| rows.contains(l) || rows.contains(r)),
-            Concept::Univ(role, l) => list_all(&mut elements, row, links, role, l),
-            Concept::Exist(role, l) => list_some(&mut elements, row, links, role, l),
+            Concept::Univ(role, l) => list_all(&mut elements, row, &links, role, l),
+            Concept::Exist(role, l) => list_some(&mut elements, row, &links, role, l),
+            Concept::Inclusion(..) => (),
         }
     }
     elements
@@ -39,43 +42,51 @@ fn list_where(elements: &mut [RowSet], row: usize, passes: impl Fn(usize, RowSet
 }
 
 /// Lists a kind 5 row: everywhere but where the role leads to an element without the argument.
-fn list_all(elements: &mut [RowSet], row: usize, links: &[RoleLink], role: Role, argument: usize) {
+fn list_all(elements: &mut [RowSet], row: usize, links: &Links, role: Role, argument: usize) {
     list_where(elements, row, |_, _| true);
-    for (d, e) in pairs(links, role) {
+    links.for_each_pair(role, |d, e| {
         if !elements[e].contains(argument) {
             elements[d] = elements[d].without(row);
         }
-    }
+    });
 }
 
 /// Lists a kind 6 row: where the role leads to an element with the argument.
-fn list_some(elements: &mut [RowSet], row: usize, links: &[RoleLink], role: Role, argument: usize) {
-    for (d, e) in pairs(links, role) {
+fn list_some(elements: &mut [RowSet], row: usize, links: &Links, role: Role, argument: usize) {
+    links.for_each_pair(role, |d, e| {
         if elements[e].contains(argument) {
             elements[d] = elements[d].with(row);
         }
-    }
+    });
 }
 
-/// The pairs (d, e) such that the role leads from d to e: a link of its code, or one of the code turned round, read backwards.
-fn pairs(links: &[RoleLink], role: Role) -> impl Iterator<Item = (usize, usize)> + '_ {
-    let turned = inverse(role);
-    links.iter().filter_map(move |&(from, code, to)| {
-        let (from, to) = (usize::from(from), usize::from(to));
-        if code == role {
-            Some((from, to))
-        } else if code == turned {
-            Some((to, from))
-        } else {
-            None
+/// The links, and which roles are narrower than which.
+struct Links<'a> {
+    links: &'a [RoleLink],
+    hierarchy: RoleHierarchy,
+}
+
+impl Links<'_> {
+    /// The pairs (d, e) such that the role leads from d to e: a link of its code or a narrower one, and one of the code turned round or
+    /// narrower than that, read backwards. A link can be both.
+    fn for_each_pair(&self, role: Role, mut pair: impl FnMut(usize, usize)) {
+        let turned = inverse(role);
+        for &(from, code, to) in self.links {
+            let (from, to) = (usize::from(from), usize::from(to));
+            if self.hierarchy.is_narrower(code, role) {
+                pair(from, to);
+            }
+            if self.hierarchy.is_narrower(code, turned) {
+                pair(to, from);
+            }
         }
-    })
+    }
 }
 
 #[cfg(test)]
 mod tests {
     use super::*;
-    use Concept::{Atomic, Conj, Disj, Exist, Negated, Univ};
+    use Concept::{Atomic, Conj, Disj, Exist, Inclusion, Negated, Univ};
 
     /// The rows that hold at each element, rising.
     fn rows(concepts: &[Concept], names: &[Names], links: &[RoleLink]) -> Vec<Vec<usize>> {
@@ -156,6 +167,25 @@ mod tests {
         let once = evaluate(&concepts, &[1, 0], &[(0, 0, 1)]);
         assert_eq!(evaluate(&concepts, &[1, 0], &[(0, 0, 1), (1, 1, 0)]), once);
         assert_eq!(evaluate(&concepts, &[1, 0], &[(0, 0, 1), (0, 0, 1)]), once);
+    }
+
+    #[test]
+    fn a_link_is_one_of_every_wider_role() {
+        // Row 0 is never listed. Code 2 leads from 0 to 1, and so does code 5; back lead 3 and 4.
+        let concepts =
+            [Inclusion(2, 5), Atomic(0), Exist(2, 1), Exist(3, 1), Exist(4, 1), Exist(5, 1), Univ(5, 1), Univ(4, 1)];
+        assert_eq!(rows(&concepts, &[1, 0], &[(0, 2, 1)]), [vec![1, 7], vec![3, 4, 6, 7]]);
+        assert_eq!(rows(&concepts, &[0, 1], &[(0, 2, 1)]), [vec![2, 5, 6, 7], vec![1, 6]]);
+        // A link of the wider role is none of the narrower.
+        assert_eq!(rows(&concepts, &[0, 1], &[(0, 5, 1)]), [vec![5, 6, 7], vec![1, 6]]);
+    }
+
+    #[test]
+    fn a_symmetric_role_leads_both_ways() {
+        let concepts = [Inclusion(0, 1), Atomic(0), Exist(0, 1), Exist(1, 1), Univ(0, 1), Univ(1, 1)];
+        for code in [0, 1] {
+            assert_eq!(rows(&concepts, &[1, 0], &[(0, code, 1)]), [vec![1], vec![2, 3, 4, 5]]);
+        }
     }
 
     #[test]

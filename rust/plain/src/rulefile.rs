@@ -1,5 +1,5 @@
-//! The rule file and its checks, refusals 1 to 8 (document 01, "The rule file" and "Refusals, in checking order"). A draft passes
-//! the same checks with two kinds of row more (document 02, [1]), so what a row can say is a parameter.
+//! The rule file and its checks, refusals 1 to 8 and then 16 (document 01, "The rule file" and "Refusals, in checking order"; document
+//! 02, [6]). A draft passes the same checks with two kinds of row more (document 02, [1]), so what a row can say is a parameter.
 
 use crate::concept::{Concept, Kinds, Row, ROW};
 use crate::draft::DraftConcept;
@@ -23,7 +23,7 @@ pub struct Accepted<'a, C> {
     pub wanted: usize,
 }
 
-/// An accepted rule file: kinds 1 to 6.
+/// An accepted rule file: kinds 1 to 7.
 pub type RuleFile<'a> = Accepted<'a, Concept>;
 
 /// An accepted draft: kinds 8 and 9 too.
@@ -35,6 +35,7 @@ impl<'a, C: Kinds> Accepted<'a, C> {
         let parts = Parts::of(bytes)?;
         let concepts = check_rows::<C>(&parts.rows)?;
         check_rules(&parts, concepts.len())?;
+        check_inclusions(&parts, &concepts)?;
         Ok(Accepted {
             text: parts.text,
             concepts,
@@ -88,7 +89,7 @@ impl<'a> Parts<'a> {
 fn check_rows<C: Kinds>(rows: &[Row]) -> Result<Vec<C>, u8> {
     let concepts: Option<Vec<C>> = rows.iter().map(|&row| C::of_row(row)).collect();
     let concepts = concepts.ok_or(5)?;
-    let lower = |(k, c): (usize, &C)| c.highest_argument().is_none_or(|argument| argument < k);
+    let lower = |(k, c): (usize, &C)| c.arguments_pass(|argument| argument < k);
     require(concepts.iter().enumerate().all(lower), 6)?;
     require(rows.iter().enumerate().all(|(k, row)| !rows[..k].contains(row)), 7)?;
     Ok(concepts)
@@ -98,6 +99,14 @@ fn check_rows<C: Kinds>(rows: &[Row]) -> Result<Vec<C>, u8> {
 fn check_rules(parts: &Parts, rows: usize) -> Result<(), u8> {
     let is_row = |&row: &u8| usize::from(row) < rows;
     require(parts.rules.iter().all(is_row) && is_row(&parts.wanted), 8)
+}
+
+/// Check 16: no argument, no rule and no wanted row is of kind 7. All of them are rows by now.
+fn check_inclusions<C: Kinds>(parts: &Parts, concepts: &[C]) -> Result<(), u8> {
+    let may_serve = |row: usize| concepts[row].inclusion().is_none();
+    let arguments = concepts.iter().all(|c| c.arguments_pass(may_serve));
+    let rules = parts.rules.iter().all(|&rule| may_serve(rule.into()));
+    require(arguments && rules && may_serve(parts.wanted.into()), 16)
 }
 
 /// Refuses with the number unless the condition holds.

@@ -1,6 +1,7 @@
 //! What the procedure asks of a set of rows. Rows are looked at from row 0 on, rising.
 
 use crate::concept::{Concept, Role};
+use crate::hierarchy::RoleHierarchy;
 use crate::row_set::RowSet;
 
 /// The concepts of a set, rising.
@@ -37,19 +38,14 @@ pub fn unfinished(concepts: &[Concept], set: RowSet) -> bool {
     lowest_conj(concepts, set).is_some() || lowest_disj(concepts, set).is_some()
 }
 
-/// The arguments of the set's kind 5 rows along the role.
-pub fn universal_arguments(concepts: &[Concept], set: RowSet, role: Role) -> RowSet {
+/// The arguments of the set's kind 5 rows along the role or a wider one.
+pub fn universal_arguments(concepts: &[Concept], hierarchy: &RoleHierarchy, set: RowSet, role: Role) -> RowSet {
     members(concepts, set)
         .filter_map(|c| match c {
-            Concept::Univ(along, l) if along == role => Some(l),
+            Concept::Univ(along, l) if hierarchy.is_narrower(role, along) => Some(l),
             _ => None,
         })
         .collect()
-}
-
-/// Those of them that the other set lacks.
-pub fn lacking(concepts: &[Concept], set: RowSet, role: Role, other: RowSet) -> RowSet {
-    universal_arguments(concepts, set, role).difference(other)
 }
 
 /// Role and argument of the set's kind 6 rows, rising.

@@ -4,6 +4,7 @@
 
 use crate::concept::{inverse, Concept, NO_ROLE};
 use crate::graph::{Above, Area, Capacity, Graph, Link, Node};
+use crate::hierarchy::RoleHierarchy;
 use crate::row_set::RowSet;
 use crate::rulefile::RuleFile;
 use crate::set_tests;
@@ -19,6 +20,7 @@ pub const ROOT: usize = 0;
 pub fn run(file: &RuleFile, capacity: Capacity) -> Result<Graph, Area> {
     let mut tableau = Tableau {
         concepts: &file.concepts,
+        hierarchy: RoleHierarchy::of(&file.concepts),
         tbox: file.tbox.iter().copied().collect(),
         wanted: file.wanted,
         graph: Graph::new(capacity),
@@ -30,6 +32,7 @@ pub fn run(file: &RuleFile, capacity: Capacity) -> Result<Graph, Area> {
 
 struct Tableau<'a> {
     concepts: &'a [Concept],
+    hierarchy: RoleHierarchy,
     tbox: RowSet,
     wanted: usize,
     graph: Graph,
@@ -77,10 +80,10 @@ impl Tableau<'_> {
         self.put(ROOT, Above { state: ROOT, role: NO_ROLE }, self.tbox.with(self.wanted))
     }
 
-    /// For each kind 6 row, rising: its argument, the arguments of kind 5 rows with the same role, and all rules.
+    /// For each kind 6 row, rising: its argument, the arguments of kind 5 rows with the same role or a wider one, and all rules.
     fn put_successors(&mut self, state: usize, rows: RowSet) -> Step {
         for (role, argument) in set_tests::existentials(self.concepts, rows) {
-            let reached = set_tests::universal_arguments(self.concepts, rows, role);
+            let reached = set_tests::universal_arguments(self.concepts, &self.hierarchy, rows, role);
             self.put(state, Above { state, role }, reached.with(argument).union(self.tbox))?;
         }
         Ok(())
@@ -107,8 +110,8 @@ impl Tableau<'_> {
 
     /// A special node: what its kind 5 rows say of the state above must be there already.
     fn put_special(&mut self, above: Above, rows: RowSet) -> Result<usize, Area> {
-        let rows_above = self.graph.nodes[above.state].rows;
-        let lacking = set_tests::lacking(self.concepts, rows, inverse(above.role), rows_above);
+        let asked = set_tests::universal_arguments(self.concepts, &self.hierarchy, rows, inverse(above.role));
+        let lacking = asked.difference(self.graph.nodes[above.state].rows);
         if lacking == RowSet::EMPTY {
             self.put_linked(above, rows)
         } else {

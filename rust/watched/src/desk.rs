@@ -76,6 +76,8 @@ mod tests {
     const CANNOT: &[u8] = b"fit 0100000002000000030000010000030002464954 9 9 9 99 99";
     const REFUSED: &[u8] = b"fit - 9 9 9 99 99";
     const SHORT: &[u8] = b"fit 010000000000010000464954 2 9 9 99 99";
+    /// A row of kind 7, wanted.
+    const INCLUSION: &[u8] = b"fit 070000000000010000464954 9 9 9 99 99";
 
     fn answer(engine: Engine, question: &[u8]) -> String {
         Desk::new(Lending::to(engine), Converter::new()).answer(question)
@@ -87,6 +89,7 @@ mod tests {
         assert_eq!(answer(fit, CANNOT), "CANNOT;USED 3 2 0");
         assert_eq!(answer(fit, REFUSED), "REFUSED 1");
         assert_eq!(answer(fit, SHORT), "REFUSED 13 2");
+        assert_eq!(answer(fit, INCLUSION), "REFUSED 16");
     }
 
     /// Touches the last byte of a work area and of an example area.
@@ -103,6 +106,7 @@ mod tests {
         assert_eq!(answer(touching, CAN), "BROKEN elements: bytes past the result changed");
         assert_eq!(answer(touching, CANNOT), "BROKEN elements: the area changed");
         assert_eq!(answer(touching, REFUSED), "BROKEN edges: the area changed");
+        assert_eq!(answer(touching, INCLUSION), "BROKEN edges: the area changed");
         assert_eq!(answer(touching, SHORT), "BROKEN elements: the area changed");
     }
 
@@ -158,6 +162,7 @@ mod tests {
     const CONVERTED: &[u8] = b"convert 01000000080000000000020001464954 20";
     const TOO_LONG: &[u8] = b"convert 01000000080000000000020001464954 11";
     const NO_DRAFT: &[u8] = b"convert - 20";
+    const OF_INCLUSION: &[u8] = b"convert 070000000000010000464954 20";
 
     fn answer_draft(converter: Call, question: &[u8]) -> String {
         Desk::new(Lending::new(), Converter::to(converter)).answer(question)
@@ -168,6 +173,7 @@ mod tests {
         assert_eq!(answer_draft(convert, CONVERTED), "OK 020000000000010000464954");
         assert_eq!(answer_draft(convert, TOO_LONG), "REFUSED 12");
         assert_eq!(answer_draft(convert, NO_DRAFT), "REFUSED 1");
+        assert_eq!(answer_draft(convert, OF_INCLUSION), "REFUSED 16");
     }
 
     /// Touches the last byte of the area.
@@ -182,6 +188,7 @@ mod tests {
         assert_eq!(answer_draft(touching_last, CONVERTED), "BROKEN area: bytes past the result changed");
         assert_eq!(answer_draft(touching_last, TOO_LONG), "BROKEN area: the area changed");
         assert_eq!(answer_draft(touching_last, NO_DRAFT), "BROKEN area: the area changed");
+        assert_eq!(answer_draft(touching_last, OF_INCLUSION), "BROKEN area: the area changed");
     }
 
     /// Writes one byte further on and gives that part.

@@ -119,7 +119,7 @@ pub(crate) fn reason(panic: Box<dyn Any + Send>) -> String {
 }
 
 /// After a verdict, 11, 13, 14 or 15 every byte of the work areas is zero. The example areas change only with "can", and only in the
-/// bytes that the example fills. After refusals 1 to 8 all areas are as they were.
+/// bytes that the example fills. After refusals 1 to 8 and 16 all areas are as they were.
 fn fates(answer: &Answer) -> [Fate; 5] {
     match answer {
         Answer::Refused(_) => [Fate::Kept, Fate::Kept, Fate::Kept, Fate::Kept, Fate::Kept],

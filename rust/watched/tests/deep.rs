@@ -3,7 +3,7 @@
 use compare::chains::{clocked_line, delay_line, ladder, shift_register, DEEPEST, RUNGS, RUNGS_AGAIN, THOUSAND_STATES};
 use compare::checks::STACK;
 use compare::on_stack;
-use compare::wide::wide;
+use compare::wide::{wide, wide_with_inclusions};
 use plain::{print, Lent};
 use watched::Lending;
 
@@ -36,7 +36,7 @@ fn updates_nest_deep() {
 
 #[test]
 fn large_examples_of_64_rows() {
-    wide().into_iter().for_each(|file| check(file, "CAN "));
+    wide().into_iter().chain(wide_with_inclusions()).for_each(|file| check(file, "CAN "));
 }
 
 #[test]

@@ -1,18 +1,18 @@
 //! The engine against the plain program: the answer and every byte of all five areas, on valid and damaged files in areas of
 //! random lengths.
 
+use compare::inclusions::with_inclusions;
 use compare::{cases, check_example, damage, random_bytes, random_file, random_lent, Prng, Shape};
 use gumbyra::{ALTERNATIVE_BYTES, EDGE_BYTES, NODE_BYTES};
 use plain::{Answer, Lent};
-use std::ops::RangeInclusive;
 use watched::Lending;
 
 /// How often each kind of answer came: refusals by their number, then "cannot", "can".
 type Kinds = [usize; CAN + 1];
-const CANNOT: usize = 16;
-const CAN: usize = 17;
+const CANNOT: usize = 17;
+const CAN: usize = 18;
 /// The file checks, and the kinds of answer to a file that passes them.
-const CHECKS: RangeInclusive<usize> = 1..=8;
+const CHECKS: [usize; 9] = [1, 2, 3, 4, 5, 6, 7, 8, 16];
 const RUNS: [usize; 6] = [11, 13, 14, 15, CANNOT, CAN];
 
 fn kind(answer: &Answer) -> usize {
@@ -79,13 +79,17 @@ fn damaged_files() {
     for round in 0..40_000 {
         let mut file = match round % 4 {
             0 => vectors[prng.below(vectors.len())].clone(),
+            1 => {
+                let file = random_file(&mut prng, shape);
+                with_inclusions(&mut prng, &file, shape.roles)
+            }
             _ => random_file(&mut prng, shape),
         };
         damage(&mut prng, &mut file);
         let lent = lent(&mut prng);
         check(&mut lending, &file, &lent, &mut kinds);
     }
-    assert_often("damaged files", &kinds, CHECKS.chain(RUNS), 100);
+    assert_often("damaged files", &kinds, CHECKS.into_iter().chain(RUNS), 100);
 }
 
 #[test]
@@ -96,7 +100,7 @@ fn bytes_at_random() {
         let (file, lent) = (random_bytes(&mut prng), lent(&mut prng));
         check(&mut lending, &file, &lent, &mut kinds);
     }
-    assert_often("random bytes", &kinds, CHECKS, 20);
+    assert_often("random bytes", &kinds, CHECKS.into_iter(), 20);
 }
 
 #[test]

@@ -4,6 +4,7 @@
 use compare::checks::STACK;
 use compare::conversions::{check_bounds, check_random_drafts, check_towers};
 use compare::draft_worlds::check_draft_worlds;
+use compare::inclusions::with_inclusions;
 use compare::small_drafts::check_small_drafts;
 use compare::{damage, draft_cases, on_stack, random_area, random_bytes, random_draft, DraftCounts, Prng, Shape};
 use watched::{Converter, Lending};
@@ -47,6 +48,10 @@ fn damaged_drafts() {
     for round in 0..40_000 {
         let mut draft = match round % 4 {
             0 => vectors[prng.below(vectors.len())].clone(),
+            1 => {
+                let draft = random_draft(&mut prng, shape);
+                with_inclusions(&mut prng, &draft, shape.roles)
+            }
             _ => random_draft(&mut prng, shape),
         };
         damage(&mut prng, &mut draft);

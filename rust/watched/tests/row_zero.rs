@@ -1,6 +1,6 @@
 //! What a table can begin with, of the engine and the converter.
 
-use compare::row_zero::{check_first_rows, check_tables_without_names};
+use compare::row_zero::{check_first_rows, check_tables_of_inclusions, check_tables_without_names};
 use watched::{Converter, Lending};
 
 #[test]
@@ -13,4 +13,10 @@ fn every_first_row() {
 fn tables_without_names() {
     let (mut lending, mut converter) = (Lending::new(), Converter::new());
     check_tables_without_names(|file, lent| lending.answer(file, lent), |draft, area| converter.convert(draft, area));
+}
+
+#[test]
+fn tables_of_inclusions() {
+    let (mut lending, mut converter) = (Lending::new(), Converter::new());
+    check_tables_of_inclusions(|file, lent| lending.answer(file, lent), |draft, area| converter.convert(draft, area));
 }

@@ -1,5 +1,5 @@
-//! An example as the bytes of its two areas (document 01, "Areas" and "The example"): the rows that each element lists, the links,
-//! and the world that is read from both.
+//! An example as the bytes of its two areas (document 01, "Areas" and "The example"; document 02, [6]): the rows that each element
+//! lists, the links, and the world that is read from both.
 
 use crate::ontology::{Concept, Ontology};
 use crate::world::{Truth, World};
@@ -46,8 +46,15 @@ impl<'a> Example<'a> {
         self.links.iter().map(move |&[a, b, c, d, e, f]| [number(a, b), number(c, d), number(e, f)])
     }
 
-    /// The world. A name holds where its kind 1 row is listed; (d, e) belongs to role k if (d, 2k, e) or (e, 2k + 1, d) is listed.
+    /// The world. A name holds where its kind 1 row is listed; (d, e) belongs to role k if it is listed for it or for a narrower one.
     pub fn world(&self, ontology: &Ontology) -> World {
+        let mut world = self.world_as_listed(ontology);
+        world.widen(ontology);
+        world
+    }
+
+    /// The same without the pairs that kind 7 rows add: (d, e) belongs to role k if (d, 2k, e) or (e, 2k + 1, d) is listed.
+    pub fn world_as_listed(&self, ontology: &Ontology) -> World {
         let mut world = World::new(self.size());
         for (row, concept) in ontology.rows.iter().enumerate() {
             if let Concept::Name(name) = *concept {

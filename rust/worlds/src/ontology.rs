@@ -12,6 +12,15 @@ impl RoleUse {
     fn of_code(code: u8) -> RoleUse {
         RoleUse { role: usize::from(code / 2), inverse: code % 2 == 1 }
     }
+
+    /// The pair of the role that leads this way from `d` to `e`; the other way round it gives the way back.
+    pub fn pair(self, d: usize, e: usize) -> (usize, usize) {
+        if self.inverse {
+            (e, d)
+        } else {
+            (d, e)
+        }
+    }
 }
 
 /// What a row says; arguments are numbers of lower rows.
@@ -23,13 +32,15 @@ pub enum Concept {
     Either(usize, usize),
     All(RoleUse, usize),
     Some(RoleUse, usize),
+    /// Of roles, not of elements: where the first leads, the second does too.
+    Narrower(RoleUse, RoleUse),
     /// In drafts only.
     Not(usize),
     /// In drafts only.
     IfThen(usize, usize),
 }
 
-/// An accepted rule file or draft: every row of `tbox` must hold everywhere, `wanted` somewhere.
+/// An accepted rule file or draft: every row of `tbox` must hold everywhere, `wanted` somewhere. Neither is of kind 7, and no argument is.
 #[derive(Clone, Debug, PartialEq, Eq)]
 pub struct Ontology {
     pub rows: Vec<Concept>,
@@ -40,12 +51,12 @@ pub struct Ontology {
 impl Ontology {
     /// Decodes a file; `None` if document 01's checks refuse it, whichever does.
     pub fn decode(file: &[u8]) -> Option<Ontology> {
-        Ontology::decode_kinds(file, &[1, 2, 3, 4, 5, 6])
+        Ontology::decode_kinds(file, &[1, 2, 3, 4, 5, 6, 7])
     }
 
     /// Decodes a draft (document 02, [1]): kinds 8 and 9 pass too.
     pub fn decode_draft(draft: &[u8]) -> Option<Ontology> {
-        Ontology::decode_kinds(draft, &[1, 2, 3, 4, 5, 6, 8, 9])
+        Ontology::decode_kinds(draft, &[1, 2, 3, 4, 5, 6, 7, 8, 9])
     }
 
     fn decode_kinds(file: &[u8], kinds: &[u8]) -> Option<Ontology> {
@@ -62,16 +73,30 @@ impl Ontology {
         let (table, tbox) = table.split_at(4 * rows);
         let rows = decode_rows(table, kinds)?;
         let tbox: Vec<usize> = tbox.iter().map(|&rule| usize::from(rule)).collect();
-        tbox.iter().all(|&rule| rule < rows.len()).then_some(Ontology { rows, tbox, wanted })
+        let serves = tbox.iter().chain([&wanted]).all(|&row| speaks_of_elements(&rows, row));
+        serves.then_some(Ontology { rows, tbox, wanted })
+    }
+
+    /// The kind 7 rows: narrower role, wider role.
+    pub fn inclusions(&self) -> impl Iterator<Item = (RoleUse, RoleUse)> + '_ {
+        self.rows.iter().filter_map(|&row| match row {
+            Concept::Narrower(narrow, wide) => Some((narrow, wide)),
+            _ => None,
+        })
     }
 }
 
-/// All rows; `None` if one has another kind or is malformed, names a row that isn't lower, or repeats another. Different bytes
-/// are different concepts, so repeats show in the concepts.
+/// Is there such a row, and can it hold at an element?
+fn speaks_of_elements(rows: &[Concept], row: usize) -> bool {
+    rows.get(row).is_some_and(|concept| !matches!(concept, Concept::Narrower(..)))
+}
+
+/// All rows; `None` if one has another kind or is malformed, names a row that isn't lower or is of kind 7, or repeats another.
+/// Different bytes are different concepts, so repeats show in the concepts.
 fn decode_rows(table: &[u8], kinds: &[u8]) -> Option<Vec<Concept>> {
     let mut rows = Vec::new();
     for row in table.chunks_exact(4) {
-        let concept = decode_row(row[0], row[1], row[2], row[3], rows.len())?;
+        let concept = decode_row(row[0], row[1], row[2], row[3], &rows)?;
         if !kinds.contains(&row[0]) || rows.contains(&concept) {
             return None;
         }
@@ -80,8 +105,8 @@ fn decode_rows(table: &[u8], kinds: &[u8]) -> Option<Vec<Concept>> {
     Some(rows)
 }
 
-/// Row `number`, whose arguments must be lower.
-fn decode_row(kind: u8, role: u8, left: u8, right: u8, number: usize) -> Option<Concept> {
+/// The row after these, which its arguments must be among.
+fn decode_row(kind: u8, role: u8, left: u8, right: u8, lower: &[Concept]) -> Option<Concept> {
     let unused = match kind {
         1 | 2 | 8 => role == 0 && right == 0,
         3 | 4 | 9 => role == 0,
@@ -89,15 +114,17 @@ fn decode_row(kind: u8, role: u8, left: u8, right: u8, number: usize) -> Option<
     };
     let along = RoleUse::of_code(role);
     let (l, r) = (usize::from(left), usize::from(right));
+    let [of_left, of_right] = [l, r].map(|row| speaks_of_elements(lower, row));
     let concept = match kind {
         1 if l < 64 => Concept::Name(l),
         2 if l < 64 => Concept::NotName(l),
-        3 if l < number && r < number => Concept::Both(l, r),
-        4 if l < number && r < number => Concept::Either(l, r),
-        5 if l < number && role < 32 => Concept::All(along, l),
-        6 if l < number && role < 32 => Concept::Some(along, l),
-        8 if l < number => Concept::Not(l),
-        9 if l < number && r < number => Concept::IfThen(l, r),
+        3 if of_left && of_right => Concept::Both(l, r),
+        4 if of_left && of_right => Concept::Either(l, r),
+        5 if of_left && role < 32 => Concept::All(along, l),
+        6 if of_left && role < 32 => Concept::Some(along, l),
+        7 if role < 32 && left < 32 => Concept::Narrower(along, RoleUse::of_code(left)),
+        8 if of_left => Concept::Not(l),
+        9 if of_left && of_right => Concept::IfThen(l, r),
         _ => return None,
     };
     unused.then_some(concept)

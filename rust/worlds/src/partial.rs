@@ -1,6 +1,7 @@
 //! Worlds in which only some names and pairs are settled, with bounds on where each row holds.
 //!
-//! Sets of elements are the bits of a byte: these worlds have at most eight elements.
+//! Sets of elements are the bits of a byte: these worlds have at most eight elements. What kind 7 rows say of a pair that is settled is
+//! settled with it, so every completion in which open pairs belong to no role obeys these rows.
 
 use crate::ontology::{Concept, Ontology, RoleUse};
 use crate::world::{World, ROLES};
@@ -61,17 +62,34 @@ impl PartialWorld {
         PartialWorld { size, names: [open; NAMES], forward: [role; ROLES], backward: [role; ROLES] }
     }
 
-    /// The same with one question settled.
-    pub fn settled(&self, question: Question, answer: bool) -> PartialWorld {
+    /// The same with one question settled, and all that follows by the kind 7 rows: a pair of the narrower role is one of the wider,
+    /// and what is no pair of the wider is none of the narrower. A question that is open can be settled either way.
+    pub fn settled(&self, ontology: &Ontology, question: Question, answer: bool) -> PartialWorld {
         let mut world = self.clone();
         match question {
             Question::Name(name, d) => settle(&mut world.names[name], d, answer),
-            Question::Pair(role, d, e) => {
-                settle(&mut world.forward[role][d], e, answer);
-                settle(&mut world.backward[role][e], d, answer);
-            }
+            Question::Pair(role, d, e) => world.settle_pair(ontology, RoleUse { role, inverse: false }, d, e, answer),
         }
         world
+    }
+
+    /// Settles whether the role leads from `d` to `e`, and then the same of every role of which a kind 7 row says so. The way back is
+    /// the same pair of the role, so rows turned round need no look of their own.
+    fn settle_pair(&mut self, ontology: &Ontology, along: RoleUse, d: usize, e: usize, answer: bool) {
+        let (from, to) = along.pair(d, e);
+        let bounds = &mut self.forward[along.role][from];
+        if bounds.must_at(to) || !bounds.may_at(to) {
+            return;
+        }
+        settle(bounds, to, answer);
+        settle(&mut self.backward[along.role][to], from, answer);
+        for (narrow, wide) in ontology.inclusions() {
+            let (given, follows) = if answer { (narrow, wide) } else { (wide, narrow) };
+            if given.role == along.role {
+                let (d, e) = given.pair(from, to);
+                self.settle_pair(ontology, follows, d, e, answer);
+            }
+        }
     }
 
     /// The world in which open questions are answered no.
@@ -80,8 +98,9 @@ impl PartialWorld {
         for d in 0..self.size {
             (0..NAMES).filter(|&name| self.names[name].must_at(d)).for_each(|name| world.set_name(name, d));
             for role in 0..ROLES {
-                let ends = (0..self.size).filter(|&e| self.forward[role][d].must_at(e));
-                ends.for_each(|e| world.set_pair(role, d, e));
+                for e in (0..self.size).filter(|&e| self.forward[role][d].must_at(e)) {
+                    world.set_pair(role, d, e);
+                }
             }
         }
         world
@@ -118,6 +137,7 @@ impl PartialWorld {
                 let ends = self.led_to(along, d);
                 (ends.must & rows[l].must != 0, ends.may & rows[l].may != 0)
             }),
+            Concept::Narrower(..) => Bounds { must: 0, may: 0 },
             Concept::Not(l) => self.outside(rows[l]),
             Concept::IfThen(l, r) => self.outside(rows[l]).or(rows[r]),
         }
@@ -142,6 +162,7 @@ impl PartialWorld {
         let is_open = |l: &usize| bounds[*l].may_at(d) && !bounds[*l].must_at(d);
         match ontology.rows[row] {
             Concept::Name(name) | Concept::NotName(name) => Question::Name(name, d),
+            Concept::Narrower(..) => unreachable!("a kind 7 row is no goal and no argument"),
             Concept::Not(l) => self.open_question(ontology, bounds, l, d),
             Concept::Both(l, r) | Concept::Either(l, r) | Concept::IfThen(l, r) => {
                 let argument = [l, r].into_iter().find(is_open).expect("an open row has an open argument");
@@ -172,10 +193,9 @@ impl PartialWorld {
         let e = (0..self.size).find(|&e| ends.may_at(e) && matters(e)).expect("an open row has an end that matters");
         if ends.must_at(e) {
             self.open_question(ontology, bounds, argument, e)
-        } else if along.inverse {
-            Question::Pair(along.role, e, d)
         } else {
-            Question::Pair(along.role, d, e)
+            let (from, to) = along.pair(d, e);
+            Question::Pair(along.role, from, to)
         }
     }
 }

@@ -1,10 +1,11 @@
-//! Is there a small world that obeys every rule and has a member of the kit?
+//! Is there a small world that obeys every rule and every kind 7 row and has a member of the kit?
 
 use crate::ontology::Ontology;
 use crate::partial::{Bounds, PartialWorld};
 use crate::world::World;
 
-/// A world of up to `max_elements` elements (at most 8) that obeys every rule and whose element 0 is a member of the kit.
+/// A world of up to `max_elements` elements (at most 8) that obeys every rule and every kind 7 row and whose element 0 is a member of the
+/// kit.
 /// Elements can be renumbered, so asking this of element 0 leaves out no size. `None` if there is no such world.
 pub fn search(ontology: &Ontology, max_elements: usize) -> Option<World> {
     (1..=max_elements).find_map(|size| extend(ontology, &PartialWorld::new(size), size))
@@ -21,7 +22,8 @@ fn extend(ontology: &Ontology, partial: &PartialWorld, size: usize) -> Option<Wo
         None => Some(partial.completed()),
         Some((row, d)) => {
             let question = partial.open_question(ontology, &bounds, row, d);
-            [true, false].into_iter().find_map(|yes| extend(ontology, &partial.settled(question, yes), size))
+            let settled = |yes| partial.settled(ontology, question, yes);
+            [true, false].into_iter().find_map(|yes| extend(ontology, &settled(yes), size))
         }
     }
 }

@@ -2,9 +2,11 @@
 //! converted.
 
 use compare::chains::{alternatives, delay_line, shift_register, Delay, THOUSAND_STATES};
+use compare::inclusions::{long_chain, Parts};
 use compare::wide::wide;
 use compare::{random_draft, random_file, Prng, Shape};
 use plain::{answer, Answer, Lent, Used};
+use std::ops::Range;
 
 /// A file with areas that are just enough for it.
 pub struct Subject {
@@ -36,12 +38,17 @@ pub struct Group {
 pub fn groups() -> Vec<Group> {
     let (by_program, most) = (Lent::by_program(), Lent::most());
     let group = |name, lent, subjects| Group { name, lent, subjects };
+    let half = random(40, HALF, &by_program, |subject| usize::from(rows(&subject.file)) == HALF_ROWS);
+    let (apart, in_use) = (with_chain(&half, HALF.roles as u8..16, &by_program), with_chain(&half, 0..16, &by_program));
     vec![
         group("small", by_program, random(100, SMALL, &by_program, |_| true)),
         group("40 to 64 rows", by_program, random(40, LARGE, &by_program, is_large)),
         group("thousand states", most, thousand_states(&most)),
         group("many alternatives", by_program, many_alternatives(&by_program)),
         group("large examples", most, large_examples(&most)),
+        group("32 rows", by_program, half),
+        group("and a chain apart", by_program, apart),
+        group("and one in use", by_program, in_use),
     ]
 }
 
@@ -69,6 +76,9 @@ pub fn rising() -> Vec<Subject> {
 const SMALL: Shape = Shape { names: 2, roles: 2, compound: 10, rules: 3, text: 0 };
 const LARGE: Shape = Shape { names: 6, roles: 3, compound: 52, rules: 12, text: 0 };
 const INVERSE: Shape = Shape { names: 3, roles: 1, compound: 30, rules: 3, text: 0 };
+/// Half as many rows as a file can have, and room for as many of kind 7.
+const HALF: Shape = Shape { names: 4, roles: 3, compound: 24, rules: 6, text: 0 };
+const HALF_ROWS: usize = 32;
 
 /// The place of the number of rows, from a file's end.
 const ROWS_FROM_END: usize = 6;
@@ -109,4 +119,11 @@ fn many_alternatives(lent: &Lent) -> Vec<Subject> {
 /// 64 rows, 64 to 1,221 elements and some 2,000 links: more links cannot be had in 4,096 edges.
 fn large_examples(lent: &Lent) -> Vec<Subject> {
     wide().into_iter().filter_map(|file| Subject::new(file, lent)).collect()
+}
+
+/// The same files with 32 kind 7 rows more, in one long chain of these roles. Roles that no other row has change nothing in the runs.
+fn with_chain(subjects: &[Subject], roles: Range<u8>, lent: &Lent) -> Vec<Subject> {
+    let chain = long_chain(roles, HALF_ROWS);
+    let file = |subject: &Subject| Parts::of(&subject.file).after(&chain).bytes();
+    subjects.iter().filter_map(|subject| Subject::new(file(subject), lent)).collect()
 }

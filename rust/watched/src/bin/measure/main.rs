@@ -17,6 +17,8 @@ before left. It leaves its work areas zero, all of them, and that is in its time
 Areas: what a program lends (1,024 nodes, 4,096 edges and alternatives; for a thousand states and for large examples 4,096 of each),
 or just enough.
 A draft is converted in an area of 4,096 bytes.
+32 rows: then the same files with 32 rows of kind 7 more, in one long chain: of roles that no other row has, so that the runs are the same
+and only their table is longer; and of all roles.
 Times are the least of all rounds, the mean of the group's files. ratio: engine over plain; rounds, files: its lowest and highest over them.
 ";
 

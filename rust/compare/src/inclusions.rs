@@ -1,0 +1,205 @@
+//! Kind 7 rows (document 02, [6]) for the tests of them.
+//!
+//! In order: a file or draft in its parts, with such rows and without; kind 7 rows at random, and in one long chain; which code is narrower
+//! than which, found by going from row to row.
+
+use crate::files::{encode, Row};
+use crate::Prng;
+use std::ops::Range;
+
+/// Role codes, "0 to 31".
+pub const CODES: u8 = 32;
+/// The kind of such a row.
+pub const INCLUSION: u8 = 7;
+const LONGEST_FILE: usize = 4096;
+const MOST_ROWS: usize = 64;
+
+/// The code of the same role the other way.
+pub fn turned(code: u8) -> u8 {
+    code ^ 1
+}
+
+/// A file or draft whose trailer points back to its rows.
+#[derive(Clone, Debug, PartialEq, Eq)]
+pub struct Parts {
+    pub text: Vec<u8>,
+    pub rows: Vec<Row>,
+    pub rules: Vec<u8>,
+    pub wanted: u8,
+}
+
+impl Parts {
+    /// The parts of a file or draft that passes checks 1 to 4.
+    pub fn of(file: &[u8]) -> Parts {
+        let (body, trailer) = file.split_last_chunk::<8>().expect("a trailer");
+        let text = usize::from(trailer[0]) + 256 * usize::from(trailer[1]);
+        let (text, rest) = body.split_at(text);
+        let (rows, rules) = rest.split_at(4 * usize::from(trailer[2]));
+        Parts { text: text.to_vec(), rows: rows.as_chunks().0.to_vec(), rules: rules.to_vec(), wanted: trailer[4] }
+    }
+
+    /// Its bytes.
+    pub fn bytes(&self) -> Vec<u8> {
+        encode(&self.text, &self.rows, &self.rules, self.wanted)
+    }
+
+    /// The kind 7 rows.
+    pub fn inclusions(&self) -> Vec<Row> {
+        self.rows.iter().copied().filter(|row| row[0] == INCLUSION).collect()
+    }
+
+    /// The same, with the numbers of rows that it names changed.
+    fn renumbered(&self, rows: Vec<Row>, number: impl Fn(u8) -> u8) -> Parts {
+        let rules = self.rules.iter().map(|&rule| number(rule)).collect();
+        Parts { text: self.text.clone(), rows, rules, wanted: number(self.wanted) }
+    }
+
+    /// The same with these kind 7 rows before all others.
+    pub fn after(&self, inclusions: &[Row]) -> Parts {
+        let number = |row: u8| row + inclusions.len() as u8;
+        let own = self.rows.iter().map(|&row| with_arguments(row, number));
+        self.renumbered(inclusions.iter().copied().chain(own).collect(), number)
+    }
+
+    /// The same with these kind 7 rows among its own, at random places and in their order.
+    pub fn among(&self, prng: &mut Prng, inclusions: &[Row]) -> Parts {
+        let (mut own, mut others) = (self.rows.iter(), inclusions.iter());
+        let (mut merged, mut places) = (Vec::new(), Vec::new());
+        while own.len() + others.len() > 0 {
+            if prng.below(own.len() + others.len()) < others.len() {
+                merged.extend(others.next());
+            } else {
+                places.push(merged.len() as u8);
+                merged.extend(own.next());
+            }
+        }
+        let number = |row: u8| places[usize::from(row)];
+        self.renumbered(merged.iter().map(|&row| with_arguments(row, number)).collect(), number)
+    }
+
+    /// The same without its kind 7 rows, which serve as nothing.
+    pub fn without_inclusions(&self) -> Parts {
+        let is_own = |row: &&Row| row[0] != INCLUSION;
+        let number = |row: u8| self.rows[..usize::from(row)].iter().filter(is_own).count() as u8;
+        let own = self.rows.iter().filter(is_own).map(|&row| with_arguments(row, number));
+        self.renumbered(own.collect(), number)
+    }
+}
+
+/// The row with other numbers for its arguments.
+fn with_arguments(row: Row, number: impl Fn(u8) -> u8) -> Row {
+    match row {
+        [kind @ (3 | 4 | 9), role, left, right] => [kind, role, number(left), number(right)],
+        [kind @ (5 | 6 | 8), role, left, right] => [kind, role, number(left), right],
+        literal_or_inclusion => literal_or_inclusion,
+    }
+}
+
+/// The same file or draft with kind 7 rows over these roles among its own, half as many as these or fewer: about a third of its rows then. Its
+/// text is cut if it would be longer than a file can be.
+pub fn with_inclusions(prng: &mut Prng, file: &[u8], roles: usize) -> Vec<u8> {
+    let parts = Parts::of(file);
+    let most = parts.rows.len().div_ceil(2).min(MOST_ROWS - parts.rows.len());
+    let inclusions = random_inclusions(prng, roles, most);
+    let mut parts = parts.among(prng, &inclusions);
+    let excess = parts.bytes().len().saturating_sub(LONGEST_FILE);
+    parts.text.truncate(parts.text.len() - excess);
+    parts.bytes()
+}
+
+/// Up to so many kind 7 rows over these roles, no two equal, in no order: chains and circles whose rows are turned round here and there,
+/// roles narrower than their own inverse or than themselves, and any two codes.
+pub fn random_inclusions(prng: &mut Prng, roles: usize, most: usize) -> Vec<Row> {
+    let mut rows: Vec<Row> = Vec::new();
+    for _ in 0..4 * most {
+        for [narrow, wide] in random_pattern(prng, 2 * roles) {
+            let row = [INCLUSION, narrow, wide, 0];
+            if rows.len() < most && !rows.contains(&row) {
+                rows.insert(prng.below(rows.len() + 1), row);
+            }
+        }
+    }
+    rows
+}
+
+fn random_pattern(prng: &mut Prng, codes: usize) -> Vec<[u8; 2]> {
+    let code = prng.byte_below(codes);
+    match prng.below(8) {
+        0..3 => random_chain(prng, codes, false),
+        3 => random_chain(prng, codes, true),
+        4 => vec![[code, turned(code)]],
+        5 => vec![[code, code]],
+        _ => vec![[code, prng.byte_below(codes)]],
+    }
+}
+
+/// Three to five codes, each narrower than the next, in a circle the last than the first. A row says so of two of them, or of both turned
+/// round.
+fn random_chain(prng: &mut Prng, codes: usize, is_circle: bool) -> Vec<[u8; 2]> {
+    let mut chain: Vec<u8> = (0..3 + prng.below(3)).map(|_| prng.byte_below(codes)).collect();
+    if is_circle {
+        chain.push(chain[0]);
+    }
+    let said = |pair: &[u8]| match prng.below(2) {
+        0 => [pair[0], pair[1]],
+        _ => [turned(pair[0]), turned(pair[1])],
+    };
+    chain.windows(2).map(said).collect()
+}
+
+/// So many kind 7 rows in one long chain of these roles, of which every third is taken backwards. Each step is said twice, once turned round;
+/// where more rows are asked for, so are steps of two, of three and so on.
+pub fn long_chain(roles: Range<u8>, count: usize) -> Vec<Row> {
+    let chain: Vec<u8> = roles.map(|role| 2 * role + u8::from(role % 3 == 0)).collect();
+    let steps = (1..chain.len()).flat_map(|by| (by..chain.len()).map(move |k| (k - by, k)));
+    let both_ways = |(narrow, wide): (usize, usize)| {
+        let (narrow, wide) = (chain[narrow], chain[wide]);
+        [[INCLUSION, narrow, wide, 0], [INCLUSION, turned(narrow), turned(wide), 0]]
+    };
+    steps.flat_map(both_ways).take(count).collect()
+}
+
+/// How far rows are followed.
+#[derive(Clone, Copy, PartialEq, Eq)]
+pub enum Follow {
+    /// From row to row, each as it is or turned round: what narrower means.
+    All,
+    /// One row only, as it is or turned round.
+    One,
+    /// From row to row, each as it is.
+    Unturned,
+}
+
+/// For each code the codes that are wider or equal, by the kind 7 rows among these.
+pub struct Wider([Vec<u8>; CODES as usize]);
+
+impl Wider {
+    pub fn of(rows: &[Row], follow: Follow) -> Wider {
+        Wider(std::array::from_fn(|code| reached(rows, code as u8, follow)))
+    }
+
+    /// Is the one code narrower than the other, or equal?
+    pub fn has(&self, narrow: u8, wide: u8) -> bool {
+        self.0[usize::from(narrow)].contains(&wide)
+    }
+}
+
+/// The codes that rows lead to from a code.
+fn reached(rows: &[Row], from: u8, follow: Follow) -> Vec<u8> {
+    let mut met = vec![from];
+    let mut next = 0;
+    while next < met.len() {
+        let code = met[next];
+        let steps = rows.iter().filter(|row| row[0] == INCLUSION).flat_map(|&[_, narrow, wide, _]| {
+            let turned_row = (turned(narrow) == code && follow != Follow::Unturned).then(|| turned(wide));
+            [(narrow == code).then_some(wide), turned_row].into_iter().flatten()
+        });
+        let new: Vec<u8> = steps.filter(|step| !met.contains(step)).collect();
+        met.extend(new);
+        next += 1;
+        if follow == Follow::One {
+            break;
+        }
+    }
+    met
+}
