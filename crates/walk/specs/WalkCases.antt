@@ -71,7 +71,7 @@ module _ {ws : List ℕ} {w : Work} {c : Counts} (A : WalkAsks ws w c) where
         record {
           ends = ends;
           usable = W .right .usable;
-          fewStates = omega (arith, right-few t g (A .good) v (W .right), count-nodes w c);
+          fewStates = omega (arith, right-few P g (A .good) v (W .right), count-nodes w c);
           fewLinks = omega (arith, W .few, share-le (λ u. u .from) (g .edges) (v .states) (W .right .distinct), all, count-edges w c);
         },
       )

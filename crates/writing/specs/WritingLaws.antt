@@ -9,6 +9,7 @@ use native.Mathlib.Omega.{arith}
 use lib.ListN.{length, getD, length-append}
 use Rattle.concepts.specs.Lists.{range}
 use Rattle.concepts.specs.ListLaws.{length-map-range, getD-map-range, range-more, range-mem, map-mem, map-same}
+use Rattle.concepts.specs.Inclusion.{narrower}
 use Rattle.concepts.specs.RowSet.{RowSet}
 use Rattle.meaning.specs.Meaning.{World}
 use Rattle.meaning.specs.Given.{RoleLink, given}
@@ -154,14 +155,15 @@ module _ {ws : List ℕ} {n e : Bytes} {s : Sizes} {elements links : Bytes} (A :
   }
 
   -- the world that is evaluated is that of the example
-  world-read : worldIn elements₁ (s .elements) links₁ (s .links) ≡ worldOf (tableOf ws) x
+  world-read : worldIn (narrower (tableOf ws)) elements₁ (s .elements) links₁ (s .links) ≡ worldOf (tableOf ws) x
   world-read =
       let m = s .elements in
       let named : map (elementAt elements₁) (range 0 m) ≡ map (namesOf (tableOf ws)) (x .elements) =
       map-same (elementAt elements₁) (namesIn (tableOf ws) n) (range 0 m) (λ d r. hold-get N (omega (arith, range-mem 0 m d r .1))) ∙ sym (map-map (namesOf (tableOf ws)) (setIn n) (range 0 m)) in
-      ap₂ given named links-read ∙ sym (world-given (tableOf ws) x)
+      ap₂ (given (narrower (tableOf ws))) named links-read ∙ sym (world-given (tableOf ws) x)
 
-  pub all-written : {elements₂ : Bytes} → elements₂ ≡ overwrite (elementBytes (evaluated (worldIn elements₁ (s .elements) links₁ (s .links)) (tableOf ws))) elements₁
+  pub all-written : {elements₂ : Bytes}
+      → elements₂ ≡ overwrite (elementBytes (evaluated (worldIn (narrower (tableOf ws)) elements₁ (s .elements) links₁ (s .links)) (tableOf ws))) elements₁
       → WriteGives ws n e s elements elements₂ links links₁
   unfolding listing worldOf
   all-written {elements₂} E =
