@@ -108,6 +108,9 @@ pub record CodeRead (links : Bytes) (i : ℕ) (ways : Ways) (on back : Bool) : T
   pub on-is : on ≡ codes (ways .onward) (linkAt links i .role)
   pub back-is : back ≡ codes (ways .backward) (linkAt links i .role)
 
+pub code-read : (links : Bytes) (i : ℕ) (ways : Ways) → CodeRead links i ways (codes (ways .onward) (linkAt links i .role)) (codes (ways .backward) (linkAt links i .role))
+code-read links i ways = record { on-is = refl; back-is = refl }
+
 module _ {links : Bytes} {i k left : ℕ} {ways : Ways} (hl : left < k) {on back : Bool} (R : CodeRead links i ways on back) where
   -- what the links and one more give
   more : (all : Bool) (f : ℕ → RowSet) (d : ℕ)

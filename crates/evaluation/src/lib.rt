@@ -190,11 +190,11 @@ fn follow_link(
 {
     let at = LINK_BYTES * i;
     let code = get2(links, at + 2) as usize;
-    let onward = has(ways.onward, code);
-    let backward = has(ways.backward, code);
-    if !(onward | backward) {
+    if !has(ways.onward | ways.backward, code) {
         return;
     }
+    let onward = has(ways.onward, code);
+    let backward = has(ways.backward, code);
     let from = get2(links, at) as usize;
     let to = get2(links, at + 4) as usize;
     if onward {

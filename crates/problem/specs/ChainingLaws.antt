@@ -7,7 +7,7 @@ use mathlib.Core.Bool.{Bool, true, false, _&&_, _||_, cond}
 use mathlib.Core.List.{List, map}
 use mathlib.Core.Logic.{_⊎_, inl, inr}
 use mathlib.Core.Option.{none, some}
-use Prim.Native.Nat.{ℕ, suc, _+_, _/_, _%_, _^_, _≤_, _<_}
+use Prim.Native.Nat.{ℕ, suc, _+_, _≤_, _<_}
 use native.Mathlib.Decide.{ℕ-discrete, decLt}
 use native.Mathlib.Omega.{arith}
 use lib.Dec.{T, eqb, ltb}
@@ -22,8 +22,8 @@ use Rattle.concepts.specs.Concept.{asInclusion, Table, conceptAt, roleOf}
 use Rattle.concepts.specs.ConceptLaws.{asInclusion-some}
 use Rattle.concepts.specs.Inclusion.{Relation, chained, including, narrowerBy, narrower}
 use Rattle.concepts.specs.InclusionLaws.{by-inclusion, by-other, by-none, narrower-all}
-use Rattle.concepts.specs.RowSet.{mem, union, single}
-use Rattle.concepts.specs.RowSetLaws.{mem-union, mem-single}
+use Rattle.concepts.specs.RowSet.{mem, empty, union, single}
+use Rattle.concepts.specs.RowSetLaws.{mem-union, mem-single, union-empty}
 use Rattle.decoding.specs.RowParts.{kindOf}
 use Rattle.decoding.specs.RowPartLaws.{views-by-parts}
 use Rattle.problem.specs.Layout.{countAt, rulesAt, wantedAt, kindsAt, universalsAt, rowsAt, narrowsAt}
@@ -42,7 +42,7 @@ module _ {at n : ℕ} {f : ℕ → ℕ → ℕ} {w v : List ℕ} (R : Remade at 
   pub next-word : getD v (at + n) 0 ≡ getD w (at + n) 0
   next-word = R .beside .others (at + n) (inr (omega arith))
 
-  -- it is written
+  -- and is written
   pub remade-written : {x : ℕ} → at + n < length w → x ≡ f n (getD v (at + n) 0) → Remade at (n + 1) f w (set v (at + n) x)
   remade-written {x} h e = record {
     beside = record {
@@ -61,20 +61,6 @@ module _ {at n : ℕ} {f : ℕ → ℕ → ℕ} {w v : List ℕ} (R : Remade at 
       outside i (inl l) z = omega arith
       outside i (inr g) z = omega arith
 
-      beyond : (i : ℕ) → (i < at) ⊎ (at + (n + 1) ≤ i) → (i < at) ⊎ (at + n ≤ i)
-      beyond i (inl l) = inl l
-      beyond i (inr g) = inr (omega arith)
-
-  -- or is what f makes of it already
-  pub remade-kept : getD v (at + n) 0 ≡ f n (getD v (at + n) 0) → Remade at (n + 1) f w v
-  remade-kept e = record {
-    beside = record { longs = R .beside .longs; others = λ i o. R .beside .others i (beyond i o) };
-    made = λ c l. elim (ℕ-discrete c n) [
-      | yes q ↦ ap (λ (y : ℕ). getD v (at + y) 0) q ∙ e ∙ ap (f n) next-word ∙ sym (ap (λ (y : ℕ). f y (getD w (at + y) 0)) q)
-      | no d ↦ R .made c (omega arith)
-    ];
-  }
-    where
       beyond : (i : ℕ) → (i < at) ⊎ (at + (n + 1) ≤ i) → (i < at) ⊎ (at + n ≤ i)
       beyond i (inl l) = inl l
       beyond i (inr g) = inr (omega arith)
@@ -117,14 +103,10 @@ module _ {w v : List ℕ} (S : Sames 32 w v) where
 
 -- ---- a pair of roles more
 
--- by the bit of a code
-pub joined-in : (σ s z : ℕ) {n x : ℕ} → s / 2 ^ σ % 2 ≡ 1 → n ≡ x → union z n ≡ joining (mem σ s) x z
-unfolding mem
-joined-in σ s z {n} {x} h e = ap (union z) e ∙ sym (ap (λ (y : Bool). joining y x z) (eq-eqb (s / 2 ^ σ % 2) 1 h))
-
-pub joined-out : (σ s x z : ℕ) → (s / 2 ^ σ % 2 ≡ 1 → ⊥) → z ≡ joining (mem σ s) x z
-unfolding mem
-joined-out σ s x z n = sym (ap (λ (y : Bool). joining y x z) (ne-eqb (s / 2 ^ σ % 2) 1 n))
+-- what joins, or nothing
+pub joined-if : (test : Bool) (x s : ℕ) → union s (cond test x empty) ≡ joining test x s
+joined-if true x s = refl
+joined-if false x s = union-empty s
 
 mem-joining : (k : ℕ) (test : Bool) (x s : ℕ) → mem k (joining test x s) ≡ (mem k s || (test && mem k x))
 mem-joining k true x s = mem-union k s x
@@ -240,8 +222,8 @@ module _ {w : List ℕ} (ok : RowsDecoded w) where
   row-relation n h =
       let c = conceptAt t n in
       let view : asInclusion c ≡ cond (eqb (partOf w n 0) 7) (some (partOf w n 1, partOf w n 2)) none =
-          let parts = word-parts ok n h in
-          views-by-parts c .inclusion-is ∙ rw (parts .kind-is, parts .role-is, parts .left-is) in
+      let parts = word-parts ok n h in
+      views-by-parts c .inclusion-is ∙ rw (parts .kind-is, parts .role-is, parts .left-is) in
       ap (narrowerBy t) (omega arith) ∙ by (eqb (partOf w n 0) 7) view
     where
       by : (x : Bool) → asInclusion (conceptAt t n) ≡ cond x (some (partOf w n 1, partOf w n 2)) none
@@ -266,7 +248,7 @@ module _ {w : List ℕ} (ok : RowsDecoded w) where
     pub included-more : {u : List ℕ} → IncludesRow n v u → Included w (n + 1) u
     included-more {u} R =
         let same : withRow v n (narrowerBy t n) ≡ narrowerBy t (n + 1) =
-            rw (part-kept 0, part-kept 1, part-kept 2) (sym (row-relation n h)) in
+        rw (part-kept 0, part-kept 1, part-kept 2) (sym (row-relation n h)) in
         record {
           kept = kept-then (I .kept) (R .kept);
           reaching = subst (λ (Q : Relation). Reaching t Q u) same (R .reaching t (narrowerBy t n) (I .reaching) (I .narrowing));
@@ -315,7 +297,7 @@ module _ {b tbox wanted w : List ℕ} (P : Placed b tbox wanted w) where
       let K = I .kept in
       let same = table-kept K (P .rows .few) in
       let all : narrowerBy (tableOf w) (countOf w) ≡ narrower (tableOf v) =
-          ap (narrowerBy (tableOf w)) (sym (length-tableOf w)) ∙ sym (narrower-all (tableOf w)) ∙ ap narrower (sym same) in
+      ap (narrowerBy (tableOf w)) (sym (length-tableOf w)) ∙ sym (narrower-all (tableOf w)) ∙ ap narrower (sym same) in
       record {
         decoded = record {
           rows = rows-kept (P .rows) K;

@@ -3,12 +3,13 @@
 // In order: where the words stand; the rows written; the inclusions written; decoding, of parts and of an accepted file; the rows of a kind and along a role, and narrower roles; the parts of a row, and the
 // inverse of a role; the rules and the wanted rows.
 ghost use mathlib.Core.Path.{_≡_};
+ghost use mathlib.Core.Bool.{cond};
 ghost use Prim.Native.Nat.{_+_, _≤_, _<_};
-ghost use lib.ListN.{length, getD, set};
+ghost use lib.ListN.{length, set};
 ghost use Rattle.concepts.specs.Role as Role;
 ghost use Rattle.concepts.specs.Concept.{conceptAt, roleOf};
 ghost use Rattle.concepts.specs.Inclusion.{narrower};
-ghost use Rattle.concepts.specs.RowSet.{union};
+ghost use Rattle.concepts.specs.RowSet.{empty};
 ghost use Rattle.decoding.specs.RowParts.{kindOf, leftOf, rightOf};
 ghost use Rattle.decoding.specs.Decoding.{ruleKinds};
 ghost use Rattle.rowset.specs.Value.{valueOf, width};
@@ -89,15 +90,6 @@ fn put_mark(out: &mut [u64], i: usize, k: usize)
     rowset::store(out, i, rowset::insert(s, k));
 }
 
-// Adds rows to the set in word i.
-fn put_union(out: &mut [u64], i: usize, rows: RowSet)
-    requires { ⌜ i < length (now out) ⌝ }
-    ensures { λ _. ⌜ now (out .exit) ≡ set (now (out .entry)) i (union (getD (now (out .entry)) i 0) (valueOf rows)) ⌝ }
-{
-    let s = rowset::load(out, i);
-    rowset::store(out, i, rowset::union(s, rows));
-}
-
 // Writes row k.
 fn put_row(rows: &[u8], out: &mut [u64], k: usize)
     requires { ⌜ Rows (now rows) × (k < rowCount (now rows)) × (room ≤ length (now out)) ⌝ }
@@ -164,7 +156,20 @@ fn put_sames(out: &mut [u64])
     }
 }
 
-// Along each role that is narrower than the first, the rows that reach along the second.
+// A set of rows, or of codes, or the empty one.
+fn rows_if(keep: bool, rows: RowSet) -> RowSet
+    ensures { λ r. ⌜ valueOf r ≡ cond keep (valueOf rows) empty ⌝ }
+{
+    if keep { rows } else { rowset::empty() }
+}
+
+fn codes_if(keep: bool, codes: u64) -> u64
+    ensures { λ r. ⌜ r ≡ cond keep codes empty ⌝ }
+{
+    if keep { codes } else { 0 }
+}
+
+// Along each role that is narrower than the first, the rows that reach along the second. Each word is written, so that the loop has no branch.
 fn join_universals(out: &mut [u64], narrow: usize, wide: usize)
     requires { ⌜ (narrow < 32) × (wide < 32) × (room ≤ length (now out)) ⌝ }
     ensures { λ _. ⌜ JoinsUniversals 32 narrow wide (now (out .entry)) (now (out .exit)) ⌝ }
@@ -173,9 +178,9 @@ fn join_universals(out: &mut [u64], narrow: usize, wide: usize)
     let reached = rowset::load(out, UNIVERSALS + wide);
     let mut code: usize = 0;
     while code < ROLES {
-        if (narrower >> code) % 2 == 1 {
-            put_union(out, UNIVERSALS + code, reached);
-        }
+        let rows = rowset::load(out, UNIVERSALS + code);
+        let more = rows_if((narrower >> code) % 2 == 1, reached);
+        rowset::store(out, UNIVERSALS + code, rowset::union(rows, more));
         code += 1;
     }
 }
@@ -189,9 +194,7 @@ fn join_narrows(out: &mut [u64], narrow: usize, wide: usize)
     let mut code: usize = 0;
     while code < ROLES {
         let known = out[NARROWS + code];
-        if (known >> wide) % 2 == 1 {
-            out[NARROWS + code] = known | narrower;
-        }
+        out[NARROWS + code] = known | codes_if((known >> wide) % 2 == 1, narrower);
         code += 1;
     }
 }

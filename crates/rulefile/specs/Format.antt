@@ -105,10 +105,18 @@ inclusionAt b k = ltb k (rowCount b) && eqb (rowByte b k 0) 7
 unfoldable pub inclusionNamed : Kinds → Bytes → ℕ → Bool
 inclusionNamed kinds b k = any (inclusionAt b) (arguments (conceptIn kinds b k))
 
+abbrev pub someInclusion : Bytes → Bool
+someInclusion b = someRow b (inclusionAt b)
+
+abbrev pub someNamed : Kinds → Bytes → Bool
+someNamed kinds b = someRow b (inclusionNamed kinds b)
+
+abbrev pub someRuled : Bytes → Bool
+someRuled b = any (λ i. inclusionAt b (rule b i)) (range 0 (ruleCount b))
+
 -- "if such a row serves as an argument, a rule or the wanted row" (02, [6])
 unfoldable pub inclusionServes : Kinds → Bytes → Bool
-inclusionServes kinds b =
-    someRow b (inclusionNamed kinds b) || (any (λ i. inclusionAt b (rule b i)) (range 0 (ruleCount b)) || inclusionAt b (wantedRow b))
+inclusionServes kinds b = someNamed kinds b || (someRuled b || inclusionAt b (wantedRow b))
 
 -- the refusal that a check gives, and which files it refuses
 pub record Check : Type 0 where

@@ -14,8 +14,8 @@ use Rattle.concepts.specs.Tests.{impossible, or-neither, and-both, as-true, as-
 use Rattle.concepts.specs.Lists.{range, any}
 use Rattle.concepts.specs.ListLaws.{range-mem, getD-map-range, length-map-range, map-range-cases, not-any, none-any-range}
 use Rattle.concepts.specs.Concept.{Concept, atomic, inclusion, conceptAt, arguments, roleOf, isInclusion, NoInclusion, Serves, asArgument, asRule, asWanted, Ordered, WellFormed, isNormal, Normal}
-use Rattle.rulefile.specs.Format.{Bytes, rowCount, ruleCount, wantedRow, rowByte, rule, someRow, conceptIn, badRow, sameRow, repeated}
-use Rattle.rulefile.specs.Format.{badArgument, badRule, inclusionAt, inclusionNamed, inclusionServes, checks, RuleFile, contents, accepted, readingOf, reading}
+use Rattle.rulefile.specs.Format.{Bytes, rowCount, ruleCount, wantedRow, rowByte, rule, conceptIn, badRow, sameRow, repeated}
+use Rattle.rulefile.specs.Format.{badArgument, badRule, inclusionAt, inclusionNamed, someNamed, someRuled, inclusionServes, checks, RuleFile, contents, accepted, readingOf, reading}
 use Rattle.decoding.specs.Decoding.{Kinds, ruleKinds}
 use Rattle.rulefile.specs.Checks.{PassedAll}
 use Rattle.decoding.specs.RowParts.{kindOf, leftOf, rightOf, inRange}
@@ -42,12 +42,12 @@ module _ (kinds : Kinds) (b : Bytes) (passed : PassedAll kinds b) where
   unfolding checks
   row-ordered = none-any-range (badArgument kinds b) (rowCount b) (passed 5 (omega arith))
 
-  inclusions-idle : (someRow b (inclusionNamed kinds b) ≡ false) × (any (λ i. inclusionAt b (rule b i)) (range 0 (ruleCount b)) ≡ false) × (inclusionAt b (wantedRow b) ≡ false)
+  inclusions-idle : (someNamed kinds b ≡ false) × (someRuled b ≡ false) × (inclusionAt b (wantedRow b) ≡ false)
   unfolding checks inclusionServes
   inclusions-idle =
-      let (rows, more) = or-neither (someRow b (inclusionNamed kinds b))
-      (any (λ i. inclusionAt b (rule b i)) (range 0 (ruleCount b)) || inclusionAt b (wantedRow b)) (passed 8 (omega arith)) in
-      let (rules, wanted) = or-neither (any (λ i. inclusionAt b (rule b i)) (range 0 (ruleCount b))) (inclusionAt b (wantedRow b)) more in
+      let (rows, more) = or-neither (someNamed kinds b)
+      (someRuled b || inclusionAt b (wantedRow b)) (passed 8 (omega arith)) in
+      let (rules, wanted) = or-neither (someRuled b) (inclusionAt b (wantedRow b)) more in
       (rows, rules, wanted)
 
   rows-known : (any (λ i. leb (rowCount b) (rule b i)) (range 0 (ruleCount b)) ≡ false) × (leb (rowCount b) (wantedRow b) ≡ false)

@@ -18,7 +18,8 @@ use Rattle.concepts.specs.Concept.{Concept, atomic, asInclusion, Table, concept
 use Rattle.concepts.specs.RowSet.{mem}
 use Rattle.concepts.specs.RowSetLaws.{mem-lt}
 use Rattle.decoding.specs.Decoding.{Kinds, ruleKinds, ofKind, decode}
-use Rattle.rulefile.specs.Format.{Bytes, rowCount, rowByte, someRow, conceptIn, badLength, badMark, badCounts, badPlace, badRow, badArgument, repeated, badRule, inclusionAt, inclusionServes}
+use Rattle.rulefile.specs.Format.{Bytes, rowCount, rowByte, someRow, conceptIn, badLength, badMark, badCounts, badPlace, badRow, badArgument, repeated, badRule}
+use Rattle.rulefile.specs.Format.{inclusionAt, someInclusion, inclusionServes}
 use Rattle.rulefile.specs.Format.{Check, checks, refusalBy, refusal, RuleFile, contents, Reading, refused, accepted, readingOf, reading}
 use Rattle.rulefile.specs.CheckLaws.{accepted-contents, accepted-passed}
 use Rattle.rulefile.specs.FormatLaws.{row-none}
@@ -104,7 +105,7 @@ module _ (b : Bytes) (without : WithoutInclusions b) where
       ∷ record { number = 8; refuses = badRule }
       ∷ []) b
 
-  no-row : someRow b (inclusionAt b) ≡ false
+  no-row : someInclusion b ≡ false
   no-row = any-none (inclusionAt b) (range 0 (rowCount b)) (λ k m.
       let (low, high) = range-mem 0 (rowCount b) k m in
       let h : k < rowCount b = omega arith in

@@ -1,6 +1,6 @@
--- What the reader answers, and what its checks from 5 on look for in each row or rule.
+-- What the reader answers, and what its checks 5 to 8 look for in each row or rule.
 --
--- In order: the answer to a reading; where a part of a file starts; a file with its layout; the findings of checks 5 to 8 and 16.
+-- In order: the answer to a reading; where a part of a file starts; a file with its layout; the findings of checks 5 to 8.
 -- Assumes nothing.
 use mathlib.Core.Path.{_≡_}
 use mathlib.Core.Bool.{Bool}
@@ -16,8 +16,8 @@ use Rattle.rulefile.specs.declared.Layout.{Layout}
 use Rattle.rulefile.specs.declared.Outcome.{Outcome}
 use Rattle.rulefile.specs.declared.Outcome.the-variants.{Refused, Accepted}
 use Rattle.rulefile.specs.declared.Finding.{Finding}
-use Rattle.rulefile.specs.declared.Finding.the-variants.{Malformed, Argument, Repeated, Rule, Inclusion, InclusionNamed, InclusionRule}
-use Rattle.rulefile.specs.Format.{Bytes, firstRow, rowCount, ruleCount, wantedRow, rowByte, rule, badRow, badArgument, repeated, inclusionAt, inclusionNamed, RuleFile, Reading, refused, accepted, readingOf}
+use Rattle.rulefile.specs.declared.Finding.the-variants.{Malformed, Argument, Repeated, Rule}
+use Rattle.rulefile.specs.Format.{Bytes, firstRow, rowCount, ruleCount, wantedRow, rowByte, rule, badRow, badArgument, repeated, RuleFile, Reading, refused, accepted, readingOf}
 use Rattle.rulefile.specs.Checks.{Parted}
 
 -- how long each part of a file is, and which row is wanted
@@ -49,7 +49,7 @@ pub record Laid (kinds : Kinds) (b : Bytes) (l : Layout) : Type 0 where
   pub reads : readingOf kinds b ≡ accepted file
   pub layout : l ≡ layoutOf file
 
--- ---- what checks 5 to 8 and 16 look for
+-- ---- what checks 5 to 8 look for
 
 -- the rows that row k names, none if it is malformed
 abbrev pub namedAt : Kinds → Bytes → ℕ → Option (List ℕ)
@@ -61,9 +61,6 @@ extent Malformed b = rowCount b
 extent Argument b = rowCount b
 extent Repeated b = rowCount b
 extent Rule b = ruleCount b
-extent Inclusion b = rowCount b
-extent InclusionNamed b = rowCount b
-extent InclusionRule b = ruleCount b
 
 -- whether row or rule i is a finding
 unfoldable pub foundAt : Kinds → Finding → Bytes → ℕ → Bool
@@ -71,9 +68,6 @@ foundAt kinds Malformed b i = badRow kinds b i
 foundAt kinds Argument b i = badArgument kinds b i
 foundAt kinds Repeated b i = repeated b i
 foundAt kinds Rule b i = leb (rowCount b) (rule b i)
-foundAt kinds Inclusion b i = inclusionAt b i
-foundAt kinds InclusionNamed b i = inclusionNamed kinds b i
-foundAt kinds InclusionRule b i = inclusionAt b (rule b i)
 
 abbrev pub found : Kinds → Finding → Bytes → Bool
 found kinds x b = any (foundAt kinds x b) (range 0 (extent x b))

@@ -14,7 +14,9 @@ use Rattle.concepts.specs.Tests.{as-true, as-false}
 use Rattle.concepts.specs.Lists.{range, any}
 use Rattle.concepts.specs.ListLaws.{length-map-range, take-length-take, any-none, none-any-range}
 use Rattle.concepts.specs.Concept.{arguments}
-use Rattle.rulefile.specs.Format.{Bytes, firstRow, rowCount, ruleCount, wantedRow, someRow, rowByte, conceptIn, rule, inclusionAt, inclusionNamed, inclusionServes, refusal, RuleFile, contents, Reading, refused, accepted, readingOf, textOf}
+use Rattle.rulefile.specs.Format.{Bytes, firstRow, rowCount, ruleCount, wantedRow, rowByte, conceptIn, rule}
+use Rattle.rulefile.specs.Format.{inclusionAt, inclusionNamed, someInclusion, inclusionServes}
+use Rattle.rulefile.specs.Format.{refusal, RuleFile, contents, Reading, refused, accepted, readingOf, textOf}
 use Rattle.decoding.specs.Decoding.{Kinds}
 use Rattle.decoding.specs.Named.{rowsOf}
 use Rattle.decoding.specs.DecodingLaws.{arguments-named}
@@ -66,14 +68,14 @@ module _ (b : Bytes) where
   inclusion-past k h = rw (as-false (ltb k (rowCount b)) (not-T (ltb k (rowCount b)) (λ t. omega (arith, ltb→lt k (rowCount b) t))))
 
   -- where no row is of kind 7, none serves
-  no-inclusion : someRow b (inclusionAt b) ≡ false → (k : ℕ) → inclusionAt b k ≡ false
+  no-inclusion : someInclusion b ≡ false → (k : ℕ) → inclusionAt b k ≡ false
   no-inclusion e k = elim (decLt k (rowCount b)) [
     | yes h ↦ none-any-range (inclusionAt b) (rowCount b) e k h
     | no n ↦ inclusion-past k (omega arith)
   ]
 
   module _ (kinds : Kinds) where
-    pub none-serves : someRow b (inclusionAt b) ≡ false → inclusionServes kinds b ≡ false
+    pub none-serves : someInclusion b ≡ false → inclusionServes kinds b ≡ false
     unfolding inclusionServes inclusionNamed
     none-serves e =
         ap₂ _||_ (any-none (inclusionNamed kinds b) (range 0 (rowCount b)) (λ k _. any-none (inclusionAt b) (arguments (conceptIn kinds b k)) (λ l _. no-inclusion e l)))

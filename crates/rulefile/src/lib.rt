@@ -1,7 +1,7 @@
 // The reader of rule files (01, The rule file; Refusals, in checking order; 02, [6]).
 //
-// In order: the answer; the bounds; the trailer, a row's bytes and a rule; checks 1 to 4; what checks 5 to 8 and 16 look for in a row or
-// rule; the search for it; check by check; the reader; the parts of an accepted file.
+// In order: the answer; the bounds; the trailer, a row's bytes and a rule; checks 1 to 4; what checks 5 to 8 look for in a row or
+// rule; the search for it; rows of kind 7, and where they serve; check by check; the reader; the parts of an accepted file.
 // Which kinds of rows are allowed is a parameter, `kinds`, as in `decoding`. A rule file is read with its RULE_KINDS.
 ghost use mathlib.Core.Path.{_≡_};
 ghost use Prim.Native.Nat.{_+_, _*_, _≤_, _<_};
@@ -30,15 +30,12 @@ pub enum Outcome {
     Accepted(Layout),
 }
 
-// What checks 5, 6, 7 and 8 look for in each row or rule; then, for check 16, rows of kind 7, rows that name one, rules that do.
+// What check 5, 6, 7 and 8 looks for in each row or rule.
 enum Finding {
     Malformed,
     Argument,
     Repeated,
     Rule,
-    Inclusion,
-    InclusionNamed,
-    InclusionRule,
 }
 
 // "Length 8 to 4,096 bytes"; "The trailer is the last 8 bytes".
@@ -184,30 +181,6 @@ fn bad_argument(file: &[u8], kinds: u16, k: usize) -> bool
     names_from(row_at(file, kinds, k), k)
 }
 
-// Whether there is a row k, and it is of kind 7.
-fn is_inclusion(file: &[u8], k: usize) -> bool
-    requires { ⌜ Parted (now file) ⌝ }
-    ensures { λ r. ⌜ r ≡ Format.inclusionAt (now (file .entry)) k ⌝ }
-{
-    if k < row_count(file) as usize {
-        return row_byte(file, k, 0) == INCLUSION;
-    }
-    false
-}
-
-// Whether row k names a row of kind 7.
-fn names_inclusion(file: &[u8], kinds: u16, k: usize) -> bool
-    requires { ⌜ Parted (now file) × (k < Format.rowCount (now file)) ⌝ }
-    ensures { λ r. ⌜ r ≡ Format.inclusionNamed kinds (now (file .entry)) k ⌝ }
-{
-    match row_at(file, kinds, k) {
-        Row::Malformed => false,
-        Row::Nullary => false,
-        Row::Unary(l) => is_inclusion(file, l as usize),
-        Row::Binary(l, r) => is_inclusion(file, l as usize) | is_inclusion(file, r as usize),
-    }
-}
-
 // Whether rows j and k have the same four bytes.
 fn same_row(file: &[u8], j: usize, k: usize) -> bool
     requires { ⌜ Parted (now file) × (j < Format.rowCount (now file)) × (k < Format.rowCount (now file)) ⌝ }
@@ -239,10 +212,10 @@ fn extent(file: &[u8], finding: Finding) -> usize
     requires { ⌜ 8 ≤ length (now file) ⌝ }
     ensures { λ r. ⌜ r ≡ extent finding (now (file .entry)) ⌝ }
 {
-    match finding {
-        Finding::Rule => rule_count(file) as usize,
-        Finding::InclusionRule => rule_count(file) as usize,
-        _ => row_count(file) as usize,
+    if let Finding::Rule = finding {
+        rule_count(file) as usize
+    } else {
+        row_count(file) as usize
     }
 }
 
@@ -256,9 +229,6 @@ fn found_at(file: &[u8], kinds: u16, finding: Finding, i: usize) -> bool
         Finding::Argument => bad_argument(file, kinds, i),
         Finding::Repeated => repeated(file, i),
         Finding::Rule => row_count(file) <= rule(file, i),
-        Finding::Inclusion => is_inclusion(file, i),
-        Finding::InclusionNamed => names_inclusion(file, kinds, i),
-        Finding::InclusionRule => is_inclusion(file, rule(file, i) as usize),
     }
 }
 
@@ -286,17 +256,88 @@ fn bad_rule(file: &[u8], kinds: u16) -> bool
     found(file, kinds, Finding::Rule) | (row_count(file) <= wanted_row(file))
 }
 
+// Whether there is a row k, and it is of kind 7.
+fn is_inclusion(file: &[u8], k: usize) -> bool
+    requires { ⌜ Parted (now file) ⌝ }
+    ensures { λ r. ⌜ r ≡ Format.inclusionAt (now (file .entry)) k ⌝ }
+{
+    if k < row_count(file) as usize {
+        return row_byte(file, k, 0) == INCLUSION;
+    }
+    false
+}
+
+// Whether row k names a row of kind 7.
+fn names_inclusion(file: &[u8], kinds: u16, k: usize) -> bool
+    requires { ⌜ Parted (now file) × (k < Format.rowCount (now file)) ⌝ }
+    ensures { λ r. ⌜ r ≡ Format.inclusionNamed kinds (now (file .entry)) k ⌝ }
+{
+    match row_at(file, kinds, k) {
+        Row::Malformed => false,
+        Row::Nullary => false,
+        Row::Unary(l) => is_inclusion(file, l as usize),
+        Row::Binary(l, r) => is_inclusion(file, l as usize) | is_inclusion(file, r as usize),
+    }
+}
+
+// Whether some row is of kind 7.
+pub fn some_inclusion(file: &[u8]) -> bool
+    requires { ⌜ Parted (now file) ⌝ }
+    ensures { λ r. ⌜ r ≡ Format.someInclusion (now (file .entry)) ⌝ }
+{
+    let n = row_count(file) as usize;
+    let mut k: usize = 0;
+    while k < n {
+        if row_byte(file, k, 0) == INCLUSION {
+            return true;
+        }
+        k += 1;
+    }
+    false
+}
+
+// Whether some row names a row of kind 7.
+fn inclusion_named(file: &[u8], kinds: u16) -> bool
+    requires { ⌜ Parted (now file) ⌝ }
+    ensures { λ r. ⌜ r ≡ Format.someNamed kinds (now (file .entry)) ⌝ }
+{
+    let n = row_count(file) as usize;
+    let mut k: usize = 0;
+    while k < n {
+        if names_inclusion(file, kinds, k) {
+            return true;
+        }
+        k += 1;
+    }
+    false
+}
+
+// Whether some rule is a row of kind 7.
+fn inclusion_ruled(file: &[u8]) -> bool
+    requires { ⌜ Parted (now file) ⌝ }
+    ensures { λ r. ⌜ r ≡ Format.someRuled (now (file .entry)) ⌝ }
+{
+    let n = rule_count(file) as usize;
+    let mut i: usize = 0;
+    while i < n {
+        if is_inclusion(file, rule(file, i) as usize) {
+            return true;
+        }
+        i += 1;
+    }
+    false
+}
+
 // Whether a row of kind 7 serves as an argument, a rule or the wanted row: check 16. Most files have none.
 fn inclusion_serves(file: &[u8], kinds: u16) -> bool
     requires { ⌜ Parted (now file) ⌝ }
     ensures { λ r. ⌜ r ≡ Format.inclusionServes kinds (now (file .entry)) ⌝ }
 {
-    if !found(file, kinds, Finding::Inclusion) {
+    if !some_inclusion(file) {
         return false;
     }
-    found(file, kinds, Finding::InclusionNamed)
-        | (found(file, kinds, Finding::InclusionRule)
-            | is_inclusion(file, wanted_row(file) as usize))
+    inclusion_named(file, kinds)
+        | (inclusion_ruled(file) | is_inclusion(file, wanted_row(file) as usize))
 }
 
 // Whether the check at place i refuses the file, which passed the checks before it.

@@ -1,15 +1,15 @@
 -- `problem::join_narrows` meets its contract: the invariant is that the words so far have joined.
 -- Assumes nothing.
-use mathlib.Core.Path.{_≡_, refl, sym, subst}
-use mathlib.Core.List.{List}
-use mathlib.Core.Logic.{inl, inr}
+use mathlib.Core.Path.{_≡_, refl, ap, ap₂, _∙_}
+use mathlib.Core.Bool.{cond}
 use Prim.Native.Nat.{ℕ, _+_, _-_, _≤_}
 use native.Mathlib.Omega.{arith}
 use lib.ListN.{getD}
-use Rattle.concepts.specs.RowSet.{mem, union}
+use borrow.Author.Needs.{needs}
+use Rattle.concepts.specs.RowSet.{mem, empty, union}
 use Rattle.problem.specs.Layout.{narrowsAt}
 use Rattle.problem.specs.Chaining.{joining, JoinsNarrows}
-use Rattle.problem.specs.ChainingLaws.{remade-none, remade-written, remade-kept, joined-in, joined-out}
+use Rattle.problem.specs.ChainingLaws.{remade-none, remade-written, joined-if}
 use Rattle.problem.proofs.join_narrows.Statement.{statement}
 use Rattle.problem.proofs.join_narrows.Tie as tie
 
@@ -24,29 +24,25 @@ At P = P Inv-loop μ-loop
 
 loop-holds : tie.Need-loop-holds Inv-loop μ-loop
 loop-holds c =
-    let a = c .before .args in
+    let s : At tie.Start = search in
+    let a = s .args in
     let w = a .out .now in
     (refl, omega arith, remade-none narrowsAt (λ x s. joining (mem (a .wide) s) (getD w (narrowsAt + a .narrow) 0) s) w)
 
 loop-again : tie.Need-loop-again Inv-loop μ-loop
-unfolding union
+unfolding mem union
 loop-again c =
     let s : At tie.Start = search in
+    let i : At tie.In-loop = search in
     let l : At tie.At-loop = search in
+    let more : At tie.After-codes-if = search in
     let a = s .args in
     let (is, few, joins) = l .loop .inv in
-    let known = getD (l .loop .out) (narrowsAt + l .loop .code) 0 in (
-      is,
-      omega arith,
-      elim (c .if1 .came) [
-        | inl (taken, e) ↦
-            subst (JoinsNarrows (l .loop .code + 1) (a .narrow) (a .wide) (a .out .now)) (sym e)
-            (remade-written joins (omega (arith, s .pre .2)) (joined-in (a .wide) known known (taken .taken) is))
-        | inr (other, e) ↦
-            subst (JoinsNarrows (l .loop .code + 1) (a .narrow) (a .wide) (a .out .now)) (sym e)
-            (remade-kept joins (joined-out (a .wide) known (getD (a .out .now) (narrowsAt + a .narrow) 0) known (other .left)))
-      ],
-    )
+    let known = getD (l .loop .out) (narrowsAt + l .loop .code) 0 in
+    let narrower = getD (a .out .now) (narrowsAt + a .narrow) 0 in
+    let test = mem (a .wide) known in
+    let joined = ap (union known) (more .codes-if .ensures ∙ ap (λ (x : ℕ). cond test x empty) is) ∙ joined-if test narrower known in
+    (is, omega (arith, i .loop-test .taken), remade-written joins (omega (arith, s .pre .2, i .loop-test .taken)) joined)
 
 returns : tie.Need-returns Inv-loop μ-loop
 returns c =
@@ -62,8 +58,9 @@ join-narrows-spec =
     (λ c. let s : At tie.Start = search in omega (arith, s .pre .0, s .pre .2)) loop-holds
     -- out[NARROWS + code]
     (λ c. omega arith) (λ c. omega arith) (λ c. let s : At tie.Start = search in let l : At tie.At-loop = search in omega (arith, l .loop .inv .2 .beside .longs, s .pre .2))
-    (λ c. let s : At tie.Start = search in omega (arith, s .pre .1))
-    -- out[NARROWS + code] = known | narrower
+    -- known >> wide, codes_if(..)
+    (λ c. let s : At tie.Start = search in omega (arith, s .pre .1)) (λ c κs. search needs)
+    -- out[NARROWS + code] = ..
     (λ c. let l : At tie.In-loop = search in omega (arith, l .loop-test .taken)) (λ c. let l : At tie.In-loop = search in omega (arith, l .loop-test .taken))
     (λ c. let s : At tie.Start = search in let i : At tie.In-loop = search in let l : At tie.At-loop = search in
     omega (arith, l .loop .inv .2 .beside .longs, s .pre .2, i .loop-test .taken))

@@ -1,17 +1,16 @@
 -- `problem::join_universals` meets its contract: the invariant is that the words so far have joined.
 -- Assumes nothing.
-use mathlib.Core.Path.{_≡_, refl, sym, ap, _∙_, subst}
-use mathlib.Core.List.{List}
-use mathlib.Core.Logic.{inl, inr}
+use mathlib.Core.Path.{_≡_, refl, sym, ap, ap₂, _∙_, subst}
+use mathlib.Core.Bool.{cond}
 use Prim.Native.Nat.{ℕ, _+_, _-_, _≤_}
 use native.Mathlib.Omega.{arith}
 use lib.ListN.{getD}
 use borrow.Author.Needs.{needs}
-use Rattle.concepts.specs.RowSet.{mem, union}
+use Rattle.concepts.specs.RowSet.{mem, empty, union}
 use Rattle.rowset.specs.Value.{valueOf}
 use Rattle.problem.specs.Layout.{universalsAt, narrowsAt}
 use Rattle.problem.specs.Chaining.{joining, JoinsUniversals}
-use Rattle.problem.specs.ChainingLaws.{remade-none, remade-written, remade-kept, joined-in, joined-out}
+use Rattle.problem.specs.ChainingLaws.{remade-none, remade-written, joined-if}
 use Rattle.problem.proofs.join_universals.Statement.{statement}
 use Rattle.problem.proofs.join_universals.Tie as tie
 
@@ -33,26 +32,30 @@ loop-holds c =
     (refl, c .load .ensures, omega arith, remade-none universalsAt (λ x. joining (mem x (getD w (narrowsAt + a .narrow) 0)) (getD w (universalsAt + a .wide) 0)) w)
 
 loop-again : tie.Need-loop-again Inv-loop μ-loop
+unfolding mem
 loop-again c =
     let s : At tie.Start = search in
+    let i : At tie.In-loop = search in
     let l : At tie.At-loop = search in
+    let loaded : At tie.After-load2 = search in
+    let more : At tie.After-rows-if = search in
+    let joined : At tie.After-union = search in
+    let stored : At tie.After-store = search in
     let a = s .args in
     let w = a .out .now in
     let (is, reached, few, joins) = l .loop .inv in
     let code = l .loop .code in
     let rows = getD (l .loop .out) (universalsAt + code) 0 in
-    let narrower = getD w (narrowsAt + a .narrow) 0 in (
+    let narrower = getD w (narrowsAt + a .narrow) 0 in
+    let wide = getD w (universalsAt + a .wide) 0 in
+    let test = ap (λ (x : ℕ). mem code x) is in
+    let value : valueOf (joined .union .result) ≡ joining (mem code narrower) wide rows =
+    joined .union .ensures
+    ∙ ap₂ union (loaded .load2 .ensures) (more .rows-if .ensures ∙ (λ k. cond (test k) (reached k) empty)) ∙ joined-if (mem code narrower) wide rows in (
       is,
       reached,
-      omega arith,
-      elim (c .if1 .came) [
-        | inl (taken, lent, joined, out, known, e) ↦
-            subst (JoinsUniversals (code + 1) (a .narrow) (a .wide) w) (sym (joined .ensures) ∙ sym e)
-            (remade-written joins (omega (arith, s .pre .2)) (joined-in code narrower rows (rw is at (taken .taken)) reached))
-        | inr (other, e) ↦
-            subst (JoinsUniversals (code + 1) (a .narrow) (a .wide) w) (sym e)
-            (remade-kept joins (joined-out code narrower (getD w (universalsAt + a .wide) 0) rows (rw is at (other .left))))
-      ],
+      omega (arith, i .loop-test .taken),
+      subst (JoinsUniversals (code + 1) (a .narrow) (a .wide) w) (sym (stored .store .ensures)) (remade-written joins (omega (arith, s .pre .2, i .loop-test .taken)) value),
     )
 
 returns : tie.Need-returns Inv-loop μ-loop
@@ -68,9 +71,13 @@ join-universals-spec =
     (λ c. let s : At tie.Start = search in omega (arith, s .pre)) (λ c. let s : At tie.Start = search in omega (arith, s .pre))
     (λ c. let s : At tie.Start = search in omega (arith, s .pre .0, s .pre .2)) (λ c. let s : At tie.Start = search in omega (arith, s .pre))
     (λ c κs. let s : At tie.Start = search in omega (arith, s .pre .1, s .pre .2)) loop-holds
-    -- narrower >> code, put_union(out, UNIVERSALS + code, reached)
-    (λ c. omega arith)
+    -- rowset::load(out, UNIVERSALS + code), narrower >> code, rows_if(..)
     (λ c. let l : At tie.In-loop = search in omega (arith, l .loop-test .taken))
+    (λ c κs. let s : At tie.Start = search in let i : At tie.In-loop = search in let l : At tie.At-loop = search in
+    omega (arith, l .loop .inv .3 .beside .longs, s .pre .2, i .loop-test .taken))
+    (λ c. let l : At tie.In-loop = search in omega (arith, l .loop-test .taken)) (λ c κs. search needs)
+    -- rowset::store(out, UNIVERSALS + code, rowset::union(rows, more))
+    (λ c. let l : At tie.In-loop = search in omega (arith, l .loop-test .taken)) (λ c κs. search needs)
     (λ c κs. let s : At tie.Start = search in let i : At tie.In-loop = search in let l : At tie.At-loop = search in
     omega (arith, l .loop .inv .3 .beside .longs, s .pre .2, i .loop-test .taken))
     -- the loop again

@@ -4,20 +4,18 @@ use mathlib.Core.Path.{sym, _∙_}
 use borrow.Author.Needs.{needs}
 use borrow.Author.Tests.{not-true}
 use Rattle.rulefile.specs.Format.{inclusionServes}
-use Rattle.rulefile.specs.Read.{extent, foundAt}
 use Rattle.rulefile.specs.ReadLaws.{none-serves}
 use Rattle.rulefile.proofs.inclusion_serves.Statement.{statement}
 use Rattle.rulefile.proofs.inclusion_serves.Tie as tie
 
 returns : tie.Need-returns
-unfolding extent foundAt
 returns c =
     let begun : tie.Start = search in
     let a = begun .args in
-    sym (none-serves (a .file .now) (a .kinds) (sym (c .before .found .ensures) ∙ not-true _ (c .if1 .taken)))
+    sym (none-serves (a .file .now) (a .kinds) (sym (c .before .some-inclusion .ensures) ∙ not-true _ (c .if1 .taken)))
 
 returns-2 : tie.Need-returns-2
-unfolding inclusionServes extent foundAt
+unfolding inclusionServes
 returns-2 c = cc
 
 pub inclusion-serves-spec : {M : Type 1} → statement M
