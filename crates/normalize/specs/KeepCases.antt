@@ -1,24 +1,25 @@
 -- The ways through the functions that write the inclusions of a draft, on plain values.
 --
--- In order: no row yet; a row that is an inclusion; a row that is none; all rows.
+-- In order: no row yet; a draft without an inclusion; a row that is an inclusion; a row that is none; all rows.
 -- Assumes nothing.
-use mathlib.Core.Path.{_≡_, refl, sym, ap, _∙_}
-use mathlib.Core.Bool.{false}
-use mathlib.Core.List.{List, [], _∷_, _++_, append-nil}
+use mathlib.Core.Path.{_≡_, refl, sym, ap, _∙_, subst}
+use mathlib.Core.Bool.{Bool, false, not}
+use mathlib.Core.List.{List, [], _∷_, _++_, append-nil, List·Memᴰ, List·Memᴰ·head, List·Memᴰ·tail}
 use Prim.Native.Nat.{ℕ, _+_, _*_, _≤_, _<_}
 use native.Mathlib.Numerals.{add-one}
 use native.Mathlib.Omega.{arith}
-use lib.Dec.{eqb}
-use lib.ListN.{length, set, take}
+use lib.Dec.{T, eqb}
+use lib.ListN.{length, getD, set, take}
 use lib.Seq.{take-suc, take-all}
 use borrow.Author.Tests.{eq-eqb, ne-eqb}
-use Rattle.concepts.specs.Tests.{from-true, from-false}
+use Rattle.concepts.specs.Tests.{as-false, from-true, from-false}
 use Rattle.concepts.specs.Lists.{range, select}
-use Rattle.concepts.specs.ListLaws.{select-append, select-pass, select-fail}
-use Rattle.concepts.specs.Concept.{atomic, inclusion, Table, conceptAt, isInclusion}
+use Rattle.concepts.specs.ListLaws.{mem-getD, none-any-range, select-append, select-pass, select-fail, select-out}
+use Rattle.concepts.specs.Concept.{Concept, atomic, inclusion, Table, conceptAt, isInclusion}
 use Rattle.decoding.specs.RowParts.{ofParts}
 use Rattle.decoding.specs.RowPartLaws.{parts-own}
-use Rattle.rulefile.specs.Format.{Bytes, rowCount, rowByte}
+use Rattle.rulefile.specs.Format.{Bytes, rowCount, rowByte, inclusionAt, someInclusion}
+use Rattle.rulefile.specs.ReadLaws as Reader
 use Rattle.drafts.specs.Normalize.{inclusionRows}
 use Rattle.normalize.specs.Words.{rowsIn}
 use Rattle.normalize.specs.WordLaws.{inclusion-row, rowsIn-more, held-more}
@@ -37,6 +38,26 @@ kept-none A = record {
   held = record { size = A .size; few = omega arith; own = λ i h. absurd (omega (arith, h)) };
   rows = refl;
 }
+
+-- ---- a draft without an inclusion
+
+none-selected : (f : Concept → Bool) (xs : List Concept) → ((x : Concept) → List·Memᴰ x xs → T (not (f x))) → select f xs ≡ []
+unfolding select
+none-selected f [] n = refl
+none-selected f (x ∷ xs) n = select-out f x xs (as-false (f x) (n x (List·Memᴰ·head refl))) ∙ none-selected f xs (λ y m. n y (List·Memᴰ·tail m))
+
+pub kept-without : {b : Bytes} {count : ℕ} {ws : List ℕ} → KeepAsks b count ws → someInclusion b ≡ false → KeepGives b ws 0
+unfolding rowsIn range inclusionRows
+kept-without {b} A e = record {
+  held = record { size = A .size; few = omega arith; own = λ i h. absurd (omega (arith, h)) };
+  rows = sym (none-selected isInclusion (tableOf b) (λ c m. no-row c (mem-getD (tableOf b) c (atomic 0) m)));
+}
+  where
+    no-row : (c : Concept) → (i : ℕ) × (i < length (tableOf b)) × (getD (tableOf b) i (atomic 0) ≡ c) → T (not (isInclusion c))
+    no-row c (i, h, q) =
+        let inside : i < rowCount b = omega (arith, draft-rows (A .draft)) in
+        let none-there = sym (Reader.inclusion-row b i inside) ∙ none-any-range (inclusionAt b) (rowCount b) e i inside in
+        subst (λ (x : Concept). T (not (isInclusion x))) q (from-false _ (parts-at (A .draft) i inside .inclusion-is ∙ none-there))
 
 module _ {b : Bytes} {k : ℕ} {ws : List ℕ} {n : ℕ} (K : Kept b k ws n) where
   abbrev t : Table

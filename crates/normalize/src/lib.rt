@@ -11,6 +11,7 @@ ghost use Rattle.normalize.specs.Words.{Finds};
 ghost use Rattle.normalize.specs.Shapes.{tableOf, writtenKind, ShapeAt, slotOf};
 ghost use Rattle.normalize.specs.Contracts.{Draft, ShareAsks, SharesRow, PutAsks, PutGives, ListAsks, ListGives, KeepAsks, Kept, KeepGives};
 use rulefile::row_byte;
+use rulefile::some_inclusion;
 
 // What becomes of a row: a row without arguments (kind, name); what becomes of another row (sign, row); a row over one (kind, role, sign, row) or over two
 // (kind, sign, row, sign, row). The sign says whether the row is needed as it stands or its opposite is.
@@ -244,11 +245,14 @@ fn keep_row(draft: &[u8], k: usize, written: &mut [u32], n: usize) -> usize
     n
 }
 
-// Writes the inclusions of a draft of so many rows, in their order, and tells how many there are.
+// Writes the inclusions of a draft of so many rows, in their order, and tells how many there are. Most drafts have none.
 pub fn keep_inclusions(draft: &[u8], rows: usize, written: &mut [u32]) -> usize
     requires { ⌜ KeepAsks (now draft) rows (now written) ⌝ }
     ensures { λ r. ⌜ KeepGives (now (draft .entry)) (now (written .exit)) r ⌝ }
 {
+    if !some_inclusion(draft) {
+        return 0;
+    }
     let mut n: usize = 0;
     let mut k: usize = 0;
     while k < rows {
