@@ -1,7 +1,7 @@
 // The problem of an accepted file, decoded once into words (01, The rule file; 02, [6]).
 //
-// In order: where the words stand; the rows written; the inclusions written; decoding, of parts and of an accepted file; the rows of a kind and along a role, and narrower roles; the parts of a row, and the
-// inverse of a role; the rules and the wanted rows.
+// In order: where the words stand; the rows written; the inclusions written; decoding, of parts and of an accepted file; the rows of a kind and along a role, and narrower roles;
+// the parts of a row, and the inverse of a role; the rules and the wanted rows.
 ghost use mathlib.Core.Path.{_≡_};
 ghost use mathlib.Core.Bool.{cond};
 ghost use Prim.Native.Nat.{_+_, _≤_, _<_};

@@ -17,14 +17,15 @@ use native.Mathlib.Omega.{arith}
 use lib.Dec.{eqb}
 use lib.ListN.{length}
 use borrow.Author.Tests.{eqb-true}
-use Rattle.concepts.specs.Tests.{impossible, as-false}
+use Rattle.concepts.specs.Tests.{impossible}
 use Rattle.concepts.specs.Lists.{first}
 use Rattle.concepts.specs.ListLaws.{any-range-found}
 use Rattle.concepts.specs.Concept.{Concept, conceptAt, arguments}
 use Rattle.decoding.specs.Decoding.{Kinds}
 use Rattle.decoding.specs.RowParts.{kindOf}
 use Rattle.decoding.specs.RowPartLaws.{literal-kind}
-use Rattle.rulefile.specs.Format.{Bytes, rowCount, wantedRow, rowByte, conceptIn, badRow, inclusionAt, someRow, Check, checks, answerOf, refusalBy, refusal, RuleFile, contents, accepted, readingOf}
+use Rattle.rulefile.specs.Format.{Bytes, rowCount, wantedRow, rowByte, conceptIn, badRow, inclusionAt, someRow}
+use Rattle.rulefile.specs.Format.{Check, checks, answerOf, refusalBy, refusal, RuleFile, contents, accepted, readingOf}
 use Rattle.rulefile.specs.Checks.{PassedAll}
 use Rattle.rulefile.specs.CheckLaws.{none-passed, accepted-contents, accepted-passed}
 use Rattle.rulefile.specs.FormatLaws.{row-formed, wanted-known, argument-lower, argument-serves, wanted-serves, row-none, contents-parts, rows-length}

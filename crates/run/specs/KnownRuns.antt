@@ -77,11 +77,12 @@ knownRuns =
 
 pub known-runs : map (λ (k : KnownRun). answer (k .file) (k .lent)) knownRuns ≡ map (λ (k : KnownRun). k .expected) knownRuns
 unfolding knownRuns written flatten range select any every consAnswer answers first inverse mem single union fromList members ofKind decode badLength badMark badCounts badPlace
-    badRow badArgument sameRow repeated badRule inclusionAt inclusionNamed inclusionServes narrowerBy narrower checks refusal readingOf branchTable stateTable entry foldStatus opposedNames clash lowestConj lowestDisj unfinished box
-    lacking existentials _>>=_ forEach addNode addEdge hasAlternative addAlternative children parents alternativesOf lowest findState lowestUnset foldChildren putAlternatives
-    judgeLinked judgeBy judge joinAlternatives linkTo linkFound linkSpecial putSpecial putNode putBy putWithin put updateParents updateChanged updateWithin update successor
-    putSuccessors putKit expandState expandDisj expandConj expand loopWithin run X._>>=_ firstChild liveChild descendBy descendWithin descend position meet walkRows rowsOf
-    walkWithin walk example worldOf listed testBelow tested rowsAt evaluated listing shown fits answerCan answerRoot answerResult answerReading answer mathlib.Core.List.zip mathlib.Core.List.zipWith
+    badRow badArgument sameRow repeated badRule inclusionAt inclusionNamed inclusionServes checks refusal readingOf branchTable stateTable entry foldStatus opposedNames narrowerBy
+    narrower clash lowestConj lowestDisj unfinished box lacking existentials _>>=_ forEach addNode addEdge hasAlternative addAlternative children parents alternativesOf lowest
+    findState lowestUnset foldChildren putAlternatives judgeLinked judgeBy judge joinAlternatives linkTo linkFound linkSpecial putSpecial putNode putBy putWithin put updateParents
+    updateChanged updateWithin update successor putSuccessors putKit expandState expandDisj expandConj expand loopWithin run X._>>=_ firstChild liveChild descendBy descendWithin
+    descend position meet walkRows rowsOf walkWithin walk example worldOf listed testBelow tested rowsAt evaluated listing shown fits answerCan answerRoot answerResult
+    answerReading answer mathlib.Core.List.zip mathlib.Core.List.zipWith
 known-runs = refl
 
 -- a refusal and how many records it says were lent

@@ -7,9 +7,9 @@ use native.Mathlib.Omega.{arith}
 use lib.Dec.{eqb}
 use lib.Pow.{shl-exact}
 use borrow.Author.Needs.{needs}
-use Rattle.concepts.specs.Inclusion.{Relation, narrower}
+use Rattle.concepts.specs.Inclusion.{Relation}
 use Rattle.concepts.specs.RowSet.{empty, single}
-use Rattle.problem.specs.Decoded.{tableOf, Narrows}
+use Rattle.problem.specs.Decoded.{Narrows}
 use Rattle.problem.specs.DecodedLaws.{same-only}
 use Rattle.problem.specs.ChainingLaws.{single-narrows}
 use Rattle.problem.proofs.narrower.Statement.{statement}
