@@ -13,27 +13,27 @@ use borrow.Author.Tests.{le-ltb}
 use Rattle.concepts.specs.Tests.{impossible, and-both, and-make, and-nothing, same-test}
 use Rattle.concepts.specs.Lists.{range}
 use Rattle.concepts.specs.ListLaws.{length-map-range, getD-map-range, range-mem, map-mem}
-use Rattle.concepts.specs.Role.{inverse-low}
+use Rattle.concepts.specs.Role.{inverse-low, inverse}
 use Rattle.concepts.specs.Concept.{Concept, atomic, negated, conj, disj, univ, exist, inclusion, neg, impl, Table, conceptAt, arguments, roleOf, isNormal, Normal}
-use Rattle.concepts.specs.Inclusion.{narrower}
+use Rattle.concepts.specs.Inclusion.{narrower, Relation}
 use Rattle.concepts.specs.InclusionLaws.{narrower-low}
 use Rattle.concepts.specs.RowSet.{mem}
 use Rattle.meaning.specs.Meaning.{World}
 use Rattle.meaning.specs.Given.{RoleLink, given}
 use Rattle.words.specs.Words.{overwrite}
 use Rattle.decoding.specs.RowParts.{kindOf, leftOf, rightOf}
-use Rattle.problem.specs.Decoded.{countOf, tableOf, Narrows, Decoded}
-use Rattle.problem.specs.DecodedLaws.{length-tableOf, role-lt, inclusion-roles, decoded-posed}
+use Rattle.problem.specs.Decoded.{countOf, tableOf, Narrows, Decoded, noInclusion}
+use Rattle.problem.specs.DecodedLaws.{length-tableOf, role-lt, inclusion-roles, decoded-posed, same-only}
 use Rattle.evaluation.specs.Evaluation.{tested, rowsAt, evaluated}
 use Rattle.evaluation.specs.EvaluationLaws.{tested-inclusion, tested-as}
 use Rattle.evaluation.specs.declared.Ways.{Ways}
 use Rattle.evaluation.specs.Layout.{Bytes, elementAt, linkAt, elementBytes, linksIn, worldIn}
 use Rattle.evaluation.specs.Holding.{Holding}
 use Rattle.evaluation.specs.HoldingLaws.{hold-same}
-use Rattle.evaluation.specs.Steps.{withRow, isLiteral, joined, Codes, byLinks, byRole, knownTest, known}
+use Rattle.evaluation.specs.Steps.{withRow, isLiteral, joined, Codes, byLinks, byRole, knownTest, known, onward, backward}
 use Rattle.evaluation.specs.StepLaws.{mem-known, known-low, known-literal, known-failing, known-next, known-all}
 use Rattle.evaluation.specs.LinkLaws.{Linked, tested-univ, tested-exist}
-use Rattle.evaluation.specs.Contracts.{EvaluateAsks, Absent, BeginGives, LocalGives, WaysOf, codes, AlongGives, RowGives}
+use Rattle.evaluation.specs.Contracts.{EvaluateAsks, Absent, BeginGives, LocalGives, WaysOf, codes, AlongGives, RowGives, alone}
 
 -- "both" or "either"; "all" or "some"
 abbrev isLocal : Concept → Bool
@@ -127,14 +127,27 @@ module _ {ws : List ℕ} (D : Decoded ws) {k : ℕ} (h : k < countOf ws) where
       (λ m. and-both (ltb code 32) (narrower t code ρ) m .1)
       (λ m. and-make (ltb code 32) (narrower t code ρ) (lt→ltb code 32 (narrower-low t (λ j σ τ e. inclusion-roles (D .rows) j σ τ e .0) code ρ m h)) m)) i
 
-  ways-tested : {W : World} {links : List RoleLink} {ways : Ways} → Linked (narrower t) W links → WaysOf (narrower t) (roleOf (conceptAt t k)) ways
+  -- which codes count
+  pub record Counting (ρ : ℕ) (on back : Codes) : Type 0 where
+    pub on-is : on ≡ onward (narrower t) ρ
+    pub back-is : back ≡ backward (narrower t) ρ
+
+  -- by two sets of codes
+  pub counting-ways : {ρ : ℕ} {ways : Ways} → ρ < 32 → WaysOf (narrower t) ρ ways → Counting ρ (codes (ways .onward)) (codes (ways .backward))
+  counting-ways {ρ} low S = record { on-is = narrows-codes low (S .onward); back-is = narrows-codes (inverse-low ρ low) (S .backward) }
+
+  -- without an inclusion, by two codes
+  pub counting-alone : {ρ τ : ℕ} → noInclusion ws ≡ true → τ ≡ inverse ρ → Counting ρ (alone ρ) (alone τ)
+  counting-alone {ρ} none turned =
+      let same : eqb ≡ narrower t = sym (same-only (D .rows) none) in
+      record { on-is = ap (λ (N : Relation). onward N ρ) same; back-is = ap alone turned ∙ ap (λ (N : Relation). backward N ρ) same }
+
+  ways-tested : {W : World} {links : List RoleLink} {on back : Codes} → Linked (narrower t) W links → Counting (roleOf (conceptAt t k)) on back
       → isModal (conceptAt t k) ≡ true → (d : ℕ)
-      → byLinks (eqb (kindOf (conceptAt t k)) 5) (codes (ways .onward)) (codes (ways .backward)) (λ e. mem (leftOf (conceptAt t k)) (known W t k e)) links d ≡ tested W t k d
-  ways-tested {W} {links} L S p d =
+      → byLinks (eqb (kindOf (conceptAt t k)) 5) on back (λ e. mem (leftOf (conceptAt t k)) (known W t k e)) links d ≡ tested W t k d
+  ways-tested {W} {links} L C p d =
       let c = conceptAt t k in
-      let low = role-lt (D .rows) k h in
-      ap₂ (λ (on back : Codes). byLinks (eqb (kindOf c) 5) on back (λ e. mem (leftOf c) (known W t k e)) links d)
-      (narrows-codes low (S .onward)) (narrows-codes (inverse-low (roleOf c) low) (S .backward))
+      ap₂ (λ (on back : Codes). byLinks (eqb (kindOf c) 5) on back (λ e. mem (leftOf c) (known W t k e)) links d) (C .on-is) (C .back-is)
       ∙ linked-tested L d c refl p (modal-argument c refl p)
 
   -- ---- kinds 1, 2 and 7
@@ -171,13 +184,13 @@ module _ {ws : List ℕ} (D : Decoded ws) {k : ℕ} (h : k < countOf ws) where
       pub row-argument : left < k
       row-argument = rw hl (modal-argument (conceptAt t k) refl kinds)
 
-      pub row-along : {ρ m n : ℕ} {ways : Ways} {before links after : Bytes} → ρ ≡ roleOf (conceptAt t k) → WaysOf (narrower t) ρ ways
-          → AlongGives before m links n k ways left (eqb kind 5) after → RowGives ws before m links n k after
-      row-along {n = n} {ways} {links = links} hρ S G = record {
+      pub row-along : {ρ m n : ℕ} {on back : Codes} {before links after : Bytes} → ρ ≡ roleOf (conceptAt t k) → Counting ρ on back
+          → AlongGives before m links n k on back left (eqb kind 5) after → RowGives ws before m links n k after
+      row-along {n = n} {on = on} {back = back} {links = links} hρ C G = record {
         holds = λ W size L base H.
             hold-same (G .holds base (known W t k) (absent W kinds) H) (λ d i.
-            let same : byLinks (eqb kind 5) (codes (ways .onward)) (codes (ways .backward)) (λ e. mem left (known W t k e)) (linksIn links n) d ≡ tested W t k d =
-            rw (hk, hl) (ways-tested L (subst (λ (ρ : ℕ). WaysOf (narrower t) ρ ways) hρ S) kinds d) in
+            let same : byLinks (eqb kind 5) on back (λ e. mem left (known W t k e)) (linksIn links n) d ≡ tested W t k d =
+            rw (hk, hl) (ways-tested L (subst (λ (ρ : ℕ). Counting ρ on back) hρ C) kinds d) in
             ap (λ (b : Bool). withRow k b (known W t k d)) same ∙ known-next W t k d few);
       }
 

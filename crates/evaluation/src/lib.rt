@@ -4,17 +4,19 @@
 ghost use mathlib.Core.Path.{_≡_};
 ghost use Prim.Native.Nat.{_+_, _*_, _≤_, _<_};
 ghost use lib.ListN.{length};
+ghost use mathlib.Core.Bool.{false};
+ghost use Rattle.concepts.specs.Role as Role;
 ghost use Rattle.concepts.specs.Inclusion.{narrower};
 ghost use Rattle.concepts.specs.RowSet.{mem};
 ghost use Rattle.concepts.specs.Lowest.{Within};
 ghost use Rattle.words.specs.Words.{overwrite};
 ghost use Rattle.words.specs.Sizes.{setSize};
 ghost use Rattle.rowset.specs.Value.{valueOf, width};
-ghost use Rattle.problem.specs.Decoded.{countOf, tableOf, Picked, Decoded};
+ghost use Rattle.problem.specs.Decoded.{countOf, tableOf, Picked, noInclusion, Decoded};
 ghost use Rattle.evaluation.specs.Evaluation.{evaluated};
 ghost use Rattle.evaluation.specs.Layout.{elementBytes, worldIn};
 ghost use Rattle.evaluation.specs.Steps.{withRow, literal, joined};
-ghost use Rattle.evaluation.specs.Contracts.{Named, BeginGives, LocalGives, FillGives, FollowAsks, FollowGives, WaysOf, LinkAsks, LinkGives, AlongAsks, AlongGives, RowGives, EvaluateAsks};
+ghost use Rattle.evaluation.specs.Contracts.{Named, BeginGives, LocalGives, FillGives, FollowAsks, FollowGives, WaysOf, codes, alone, LinkAsks, LinkGives, AlongAsks, AlongGives, RowGives, EvaluateAsks};
 use rowset::RowSet;
 use rowset::SET_BYTES;
 use words::get2;
@@ -156,7 +158,7 @@ fn follow(elements: &mut [u8], d: usize, e: usize, k: usize, left: usize, all: b
 
 // The ways of a role: it leads onward along the links of narrower roles, and backward along those of roles that are narrower than its inverse.
 fn ways_of(problem: &[u64], role: u8) -> Ways
-    requires { ⌜ Decoded (now problem) × (role < 32) ⌝ }
+    requires { ⌜ Decoded (now problem) × (noInclusion (now problem) ≡ false) × (role < 32) ⌝ }
     ensures { λ r. ⌜ WaysOf (narrower (tableOf (now (problem .entry)))) role r ⌝ }
 {
     Ways {
@@ -186,7 +188,7 @@ fn follow_link(
     all: bool,
 )
     requires { ⌜ LinkAsks (now elements) (now links) i k left ⌝ }
-    ensures { λ _. ⌜ LinkGives (now (elements .entry)) (now (links .entry)) i k ways left all (now (elements .exit)) ⌝ }
+    ensures { λ _. ⌜ LinkGives (now (elements .entry)) (now (links .entry)) i k (codes (ways .onward)) (codes (ways .backward)) left all (now (elements .exit)) ⌝ }
 {
     let at = LINK_BYTES * i;
     let code = get2(links, at + 2) as usize;
@@ -205,6 +207,33 @@ fn follow_link(
     }
 }
 
+// The same where no role is narrower than another: by the code of the role and the one turned round.
+fn follow_own(
+    elements: &mut [u8],
+    links: &[u8],
+    i: usize,
+    k: usize,
+    role: u16,
+    turned: u16,
+    left: usize,
+    all: bool,
+)
+    requires { ⌜ LinkAsks (now elements) (now links) i k left × (turned ≡ role → ⊥) ⌝ }
+    ensures { λ _. ⌜ LinkGives (now (elements .entry)) (now (links .entry)) i k (alone role) (alone turned) left all (now (elements .exit)) ⌝ }
+{
+    let at = LINK_BYTES * i;
+    let code = get2(links, at + 2);
+    if (code == role) | (code == turned) {
+        let from = get2(links, at) as usize;
+        let to = get2(links, at + 4) as usize;
+        if code == role {
+            follow(elements, from, to, k, left, all);
+        } else {
+            follow(elements, to, from, k, left, all);
+        }
+    }
+}
+
 // Row k, "all" or "some" along a role, by each link that the role leads along, whichever way the link is taken.
 fn along(
     elements: &mut [u8],
@@ -217,12 +246,35 @@ fn along(
     all: bool,
 )
     requires { ⌜ AlongAsks (now elements) size (now links) count k left ⌝ }
-    ensures { λ _. ⌜ AlongGives (now (elements .entry)) size (now (links .entry)) count k ways left all (now (elements .exit)) ⌝ }
+    ensures { λ _. ⌜ AlongGives (now (elements .entry)) size (now (links .entry)) count k (codes (ways .onward)) (codes (ways .backward)) left all (now (elements .exit)) ⌝ }
 {
     fill(elements, size, k, all);
     let mut i = 0;
     while i < count {
         follow_link(elements, links, i, k, ways, left, all);
+        i += 1;
+    }
+}
+
+// The same where no role is narrower than another.
+fn along_own(
+    elements: &mut [u8],
+    size: usize,
+    links: &[u8],
+    count: usize,
+    k: usize,
+    role: u8,
+    left: usize,
+    all: bool,
+)
+    requires { ⌜ AlongAsks (now elements) size (now links) count k left × (role < 32) ⌝ }
+    ensures { λ _. ⌜ AlongGives (now (elements .entry)) size (now (links .entry)) count k (alone role) (alone (Role.inverse role)) left all (now (elements .exit)) ⌝ }
+{
+    fill(elements, size, k, all);
+    let turned = problem::inverse(role) as u16;
+    let mut i = 0;
+    while i < count {
+        follow_own(elements, links, i, k, role as u16, turned, left, all);
         i += 1;
     }
 }
@@ -246,16 +298,13 @@ fn evaluate_row(
         return;
     }
     if (kind == UNIV) | (kind == EXIST) {
-        along(
-            elements,
-            size,
-            links,
-            count,
-            k,
-            ways_of(problem, problem::role_at(problem, k)),
-            left,
-            kind == UNIV,
-        );
+        let role = problem::role_at(problem, k);
+        if problem::has_inclusion(problem) {
+            let ways = ways_of(problem, role);
+            along(elements, size, links, count, k, ways, left, kind == UNIV);
+        } else {
+            along_own(elements, size, links, count, k, role, left, kind == UNIV);
+        }
     }
 }
 

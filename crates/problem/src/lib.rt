@@ -3,7 +3,7 @@
 // In order: where the words stand; the rows written; the inclusions written; decoding, of parts and of an accepted file; the rows of a kind and along a role, and narrower roles;
 // the parts of a row, and the inverse of a role; the rules and the wanted rows.
 ghost use mathlib.Core.Path.{_≡_};
-ghost use mathlib.Core.Bool.{cond};
+ghost use mathlib.Core.Bool.{false, not, cond};
 ghost use Prim.Native.Nat.{_+_, _≤_, _<_};
 ghost use lib.ListN.{length, set};
 ghost use Rattle.concepts.specs.Role as Role;
@@ -16,7 +16,7 @@ ghost use Rattle.rowset.specs.Value.{valueOf, width};
 ghost use Rattle.rulefile.specs.Read.{Laid};
 ghost use Rattle.problem.specs.Rows.{rowByte, rowCount, Rows, ListsRows};
 ghost use Rattle.problem.specs.Layout.{rowsAt, room};
-ghost use Rattle.problem.specs.Decoded.{countOf, tableOf, rulesOf, wantedOf, Picked, ofKind, universal, Narrows, RowsDecoded, Decoded, DecodedFrom};
+ghost use Rattle.problem.specs.Decoded.{countOf, tableOf, rulesOf, wantedOf, Picked, ofKind, universal, Narrows, noInclusion, RowsDecoded, Decoded, DecodedFrom};
 ghost use Rattle.problem.specs.FileProblem.{FileDecoded};
 ghost use Rattle.problem.specs.Writing.{mark, along, putRow, putSingles, ClearedTo, Partly};
 ghost use Rattle.problem.specs.Chaining.{Sames, JoinsUniversals, JoinsNarrows, Chains, RolesAt, IncludesRow, Included};
@@ -280,14 +280,19 @@ pub fn universal(problem: &[u64], role: u8) -> RowSet
     rowset::empty()
 }
 
+// Whether some row is an inclusion.
+pub fn has_inclusion(problem: &[u64]) -> bool
+    requires { ⌜ Decoded (now problem) ⌝ }
+    ensures { λ r. ⌜ r ≡ not (noInclusion (now (problem .entry))) ⌝ }
+{
+    !rowset::is_empty(rowset::load(problem, KINDS + INCLUSION))
+}
+
 // The roles that are narrower than a role, and that role: code n as bit n.
 pub fn narrower(problem: &[u64], role: u8) -> u64
-    requires { ⌜ Decoded (now problem) × (role < 32) ⌝ }
+    requires { ⌜ Decoded (now problem) × (noInclusion (now problem) ≡ false) × (role < 32) ⌝ }
     ensures { λ r. ⌜ Narrows (narrower (tableOf (now (problem .entry)))) role r ⌝ }
 {
-    if rowset::is_empty(rowset::load(problem, KINDS + INCLUSION)) {
-        return 1u64 << role;
-    }
     problem[NARROWS + role as usize]
 }
 
