@@ -10,8 +10,8 @@ ghost use Rattle.rulefile.specs.Format.{rowCount};
 ghost use Rattle.normalize.specs.Words.{Finds};
 ghost use Rattle.normalize.specs.Shapes.{tableOf, writtenKind, ShapeAt, slotOf};
 ghost use Rattle.normalize.specs.Contracts.{Draft, ShareAsks, SharesRow, PutAsks, PutGives, ListAsks, ListGives, KeepAsks, Kept, KeepGives};
+use rulefile::inclusions::some_inclusion;
 use rulefile::row_byte;
-use rulefile::some_inclusion;
 
 // What becomes of a row: a row without arguments (kind, name); what becomes of another row (sign, row); a row over one (kind, role, sign, row) or over two
 // (kind, sign, row, sign, row). The sign says whether the row is needed as it stands or its opposite is.

@@ -1,7 +1,7 @@
 // The reader of rule files (01, The rule file; Refusals, in checking order; 02, [6]).
 //
 // In order: the answer; the bounds; the trailer, a row's bytes and a rule; checks 1 to 4; what checks 5 to 8 look for in a row or
-// rule; the search for it; rows of kind 7, and where they serve; check by check; the reader; the parts of an accepted file.
+// rule; the search for it; check by check; the reader; the parts of an accepted file. Rows of kind 7, and where they serve, are in `inclusions`.
 // Which kinds of rows are allowed is a parameter, `kinds`, as in `decoding`. A rule file is read with its RULE_KINDS.
 ghost use mathlib.Core.Path.{_≡_};
 ghost use Prim.Native.Nat.{_+_, _*_, _≤_, _<_};
@@ -15,6 +15,9 @@ use decoding::Row;
 use decoding::decode;
 use decoding::is_malformed;
 use decoding::names_from;
+use inclusions::inclusion_serves;
+
+pub mod inclusions;
 
 // The length of the text, which is the place of the first row, the numbers of rows and rules, and the wanted row.
 pub struct Layout {
@@ -54,9 +57,6 @@ const ROW: usize = 4;
 const CHECKS: usize = 9;
 
 const NUMBERS: [u8; CHECKS] = [1, 2, 3, 4, 5, 6, 7, 8, 16];
-
-// The kind of an inclusion.
-const INCLUSION: u8 = 7;
 
 // The wanted row stands four bytes before the end of a file.
 const WANTED: usize = 4;
@@ -254,90 +254,6 @@ fn bad_rule(file: &[u8], kinds: u16) -> bool
     ensures { λ r. ⌜ r ≡ Format.badRule (now (file .entry)) ⌝ }
 {
     found(file, kinds, Finding::Rule) | (row_count(file) <= wanted_row(file))
-}
-
-// Whether there is a row k, and it is of kind 7.
-fn is_inclusion(file: &[u8], k: usize) -> bool
-    requires { ⌜ Parted (now file) ⌝ }
-    ensures { λ r. ⌜ r ≡ Format.inclusionAt (now (file .entry)) k ⌝ }
-{
-    if k < row_count(file) as usize {
-        return row_byte(file, k, 0) == INCLUSION;
-    }
-    false
-}
-
-// Whether row k names a row of kind 7.
-fn names_inclusion(file: &[u8], kinds: u16, k: usize) -> bool
-    requires { ⌜ Parted (now file) × (k < Format.rowCount (now file)) ⌝ }
-    ensures { λ r. ⌜ r ≡ Format.inclusionNamed kinds (now (file .entry)) k ⌝ }
-{
-    match row_at(file, kinds, k) {
-        Row::Malformed => false,
-        Row::Nullary => false,
-        Row::Unary(l) => is_inclusion(file, l as usize),
-        Row::Binary(l, r) => is_inclusion(file, l as usize) | is_inclusion(file, r as usize),
-    }
-}
-
-// Whether some row is of kind 7.
-pub fn some_inclusion(file: &[u8]) -> bool
-    requires { ⌜ Parted (now file) ⌝ }
-    ensures { λ r. ⌜ r ≡ Format.someInclusion (now (file .entry)) ⌝ }
-{
-    let n = row_count(file) as usize;
-    let mut k: usize = 0;
-    while k < n {
-        if row_byte(file, k, 0) == INCLUSION {
-            return true;
-        }
-        k += 1;
-    }
-    false
-}
-
-// Whether some row names a row of kind 7.
-fn inclusion_named(file: &[u8], kinds: u16) -> bool
-    requires { ⌜ Parted (now file) ⌝ }
-    ensures { λ r. ⌜ r ≡ Format.someNamed kinds (now (file .entry)) ⌝ }
-{
-    let n = row_count(file) as usize;
-    let mut k: usize = 0;
-    while k < n {
-        if names_inclusion(file, kinds, k) {
-            return true;
-        }
-        k += 1;
-    }
-    false
-}
-
-// Whether some rule is a row of kind 7.
-fn inclusion_ruled(file: &[u8]) -> bool
-    requires { ⌜ Parted (now file) ⌝ }
-    ensures { λ r. ⌜ r ≡ Format.someRuled (now (file .entry)) ⌝ }
-{
-    let n = rule_count(file) as usize;
-    let mut i: usize = 0;
-    while i < n {
-        if is_inclusion(file, rule(file, i) as usize) {
-            return true;
-        }
-        i += 1;
-    }
-    false
-}
-
-// Whether a row of kind 7 serves as an argument, a rule or the wanted row: check 16. Most files have none.
-fn inclusion_serves(file: &[u8], kinds: u16) -> bool
-    requires { ⌜ Parted (now file) ⌝ }
-    ensures { λ r. ⌜ r ≡ Format.inclusionServes kinds (now (file .entry)) ⌝ }
-{
-    if !some_inclusion(file) {
-        return false;
-    }
-    inclusion_named(file, kinds)
-        | (inclusion_ruled(file) | is_inclusion(file, wanted_row(file) as usize))
 }
 
 // Whether the check at place i refuses the file, which passed the checks before it.

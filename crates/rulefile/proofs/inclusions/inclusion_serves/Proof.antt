@@ -1,12 +1,12 @@
--- `rulefile::inclusion_serves` meets its contract: without a row of kind 7 none serves; else the three tests are those of the definition.
+-- `rulefile::inclusions::inclusion_serves` meets its contract: without a row of kind 7 none serves; else the three tests are those of the definition.
 -- Assumes nothing.
 use mathlib.Core.Path.{sym, _∙_}
 use borrow.Author.Needs.{needs}
 use borrow.Author.Tests.{not-true}
 use Rattle.rulefile.specs.Format.{inclusionServes}
 use Rattle.rulefile.specs.ReadLaws.{none-serves}
-use Rattle.rulefile.proofs.inclusion_serves.Statement.{statement}
-use Rattle.rulefile.proofs.inclusion_serves.Tie as tie
+use Rattle.rulefile.proofs.inclusions.inclusion_serves.Statement.{statement}
+use Rattle.rulefile.proofs.inclusions.inclusion_serves.Tie as tie
 
 returns : tie.Need-returns
 returns c =
