@@ -15,10 +15,10 @@ ghost use Rattle.decoding.specs.Decoding.{ruleKinds};
 ghost use Rattle.rowset.specs.Value.{valueOf, width};
 ghost use Rattle.rulefile.specs.Read.{Laid};
 ghost use Rattle.problem.specs.Rows.{rowByte, rowCount, Rows, ListsRows};
-ghost use Rattle.problem.specs.Layout.{rowsAt, room};
+ghost use Rattle.problem.specs.Layout.{room};
 ghost use Rattle.problem.specs.Decoded.{countOf, tableOf, rulesOf, wantedOf, Picked, ofKind, universal, Narrows, noInclusion, RowsDecoded, Decoded, DecodedFrom};
 ghost use Rattle.problem.specs.FileProblem.{FileDecoded};
-ghost use Rattle.problem.specs.Writing.{mark, along, putRow, putSingles, ClearedTo, Partly};
+ghost use Rattle.problem.specs.Writing.{mark, along, putRow, putSingles, Fresh, Partly};
 ghost use Rattle.problem.specs.Chaining.{Sames, JoinsUniversals, JoinsNarrows, Chains, RolesAt, IncludesRow, Included};
 use rowset::RowSet;
 use rulefile::Layout;
@@ -108,24 +108,11 @@ fn put_row(rows: &[u8], out: &mut [u64], k: usize)
     put_mark(out, second_word(kind, role), k);
 }
 
-// Empties the words before those of the rows.
-fn clear(out: &mut [u64])
-    requires { ⌜ room ≤ length (now out) ⌝ }
-    ensures { λ _. ⌜ ClearedTo rowsAt (now (out .exit)) ⌝ }
-{
-    let mut i: usize = 0;
-    while i < ROWS {
-        out[i] = 0;
-        i += 1;
-    }
-}
-
 // Writes all rows.
 fn put_rows(rows: &[u8], out: &mut [u64])
-    requires { ⌜ Rows (now rows) × (room ≤ length (now out)) ⌝ }
+    requires { ⌜ Rows (now rows) × Fresh (now out) ⌝ }
     ensures { λ _. ⌜ Partly (now (rows .entry)) (rowCount (now (rows .entry))) (now (out .exit)) ⌝ }
 {
-    clear(out);
     let n = rows.len() / ROW;
     let mut k: usize = 0;
     while k < n {
@@ -235,9 +222,9 @@ fn put_inclusions(out: &mut [u64])
     }
 }
 
-// Decodes the rows, the rules and the wanted rows into words, whatever these hold before. Most files have no inclusion.
+// Decodes the rows, the rules and the wanted rows into words that are empty so far. Most files have no inclusion.
 pub fn decode(rows: &[u8], rules: &[u8], wanted: &[u8], out: &mut [u64])
-    requires { ⌜ Rows (now rows) × ListsRows (now rows) (now rules) × ListsRows (now rows) (now wanted) × (room ≤ length (now out)) ⌝ }
+    requires { ⌜ Rows (now rows) × ListsRows (now rows) (now rules) × ListsRows (now rows) (now wanted) × Fresh (now out) ⌝ }
     ensures { λ _. ⌜ DecodedFrom (now (rows .entry)) (now (rules .entry)) (now (wanted .entry)) (now (out .exit)) ⌝ }
 {
     let rule_set = rowset::from_list(rules);
@@ -252,7 +239,7 @@ pub fn decode(rows: &[u8], rules: &[u8], wanted: &[u8], out: &mut [u64])
 
 // Decodes an accepted file.
 pub fn decode_file(file: &[u8], layout: Layout, out: &mut [u64])
-    requires { ⌜ Laid ruleKinds (now file) layout × (room ≤ length (now out)) ⌝ }
+    requires { ⌜ Laid ruleKinds (now file) layout × Fresh (now out) ⌝ }
     ensures { λ _. ⌜ FileDecoded (now (file .entry)) (now (out .exit)) ⌝ }
 {
     let rows = rows_of(file, layout);

@@ -1,6 +1,8 @@
 -- `engine::fit_accepted` meets its contract: the file is decoded and decided, and the work areas are cleared.
 -- Assumes nothing.
+use mathlib.Core.Path.{refl}
 use borrow.Author.Needs.{needs}
+use Rattle.problem.specs.WritingLaws.{fresh-zeros}
 use Rattle.run.specs.Run.{areasOf}
 use Rattle.engine.specs.AnswerCases.{Settled, file-settled, file-answered}
 use Rattle.engine.proofs.fit_accepted.Statement.{statement}
@@ -36,7 +38,7 @@ fit-accepted-spec =
     tie.close (tie.spec
     -- decode_file(file, layout, &mut words)
     (λ c. search needs)
-    (λ c κs. search needs)
+    (λ c κs. let s : tie.Start = search in (s .pre, fresh-zeros _ refl))
     -- decide(&words, ..)
     (λ c. search needs)
     (λ c κs. let d : tie.After-decode-file = search in d .decode-file .ensures .decoded)
