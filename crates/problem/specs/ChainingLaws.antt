@@ -108,6 +108,19 @@ pub joined-if : (test : Bool) (x s : ℕ) → union s (cond test x empty) ≡ jo
 joined-if true x s = refl
 joined-if false x s = union-empty s
 
+joining-empty : (test : Bool) (s : ℕ) → joining test empty s ≡ s
+joining-empty true s = union-empty s
+joining-empty false s = refl
+
+-- no row reaches along σ
+pub joins-nothing : (n ρ σ : ℕ) (w : List ℕ) → getD w (universalsAt + σ) 0 ≡ empty → JoinsUniversals n ρ σ w w
+joins-nothing n ρ σ w e = record {
+  beside = record { longs = refl; others = λ i h. refl };
+  made = λ c h. let s = getD w (universalsAt + c) 0 in
+    let test = mem c (getD w (narrowsAt + ρ) 0) in
+    sym (ap (λ (x : ℕ). joining test x s) e ∙ joining-empty test s);
+}
+
 mem-joining : (k : ℕ) (test : Bool) (x s : ℕ) → mem k (joining test x s) ≡ (mem k s || (test && mem k x))
 mem-joining k true x s = mem-union k s x
 mem-joining k false x s = sym (or-nothing (mem k s))

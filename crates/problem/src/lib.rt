@@ -156,13 +156,16 @@ fn codes_if(keep: bool, codes: u64) -> u64
     if keep { codes } else { 0 }
 }
 
-// Along each role that is narrower than the first, the rows that reach along the second. Each word is written, so that the loop has no branch.
+// Along each role that is narrower than the first, the rows that reach along the second, if there are any. Each word is written, so that the loop has no branch.
 fn join_universals(out: &mut [u64], narrow: usize, wide: usize)
     requires { ⌜ (narrow < 32) × (wide < 32) × (room ≤ length (now out)) ⌝ }
     ensures { λ _. ⌜ JoinsUniversals 32 narrow wide (now (out .entry)) (now (out .exit)) ⌝ }
 {
-    let narrower = out[NARROWS + narrow];
     let reached = rowset::load(out, UNIVERSALS + wide);
+    if rowset::is_empty(reached) {
+        return;
+    }
+    let narrower = out[NARROWS + narrow];
     let mut code: usize = 0;
     while code < ROLES {
         let rows = rowset::load(out, UNIVERSALS + code);
