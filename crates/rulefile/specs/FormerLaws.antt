@@ -18,9 +18,9 @@ use Rattle.concepts.specs.Concept.{Concept, atomic, asInclusion, Table, concept
 use Rattle.concepts.specs.RowSet.{mem}
 use Rattle.concepts.specs.RowSetLaws.{mem-lt}
 use Rattle.decoding.specs.Decoding.{Kinds, ruleKinds, ofKind, decode}
-use Rattle.rulefile.specs.Format.{Bytes, rowCount, rowByte, someRow, conceptIn, badLength, badMark, badCounts, badPlace, badRow, badArgument, repeated, badRule}
+use Rattle.rulefile.specs.Format.{Bytes, rowCount, wantedRows, rowByte, someRow, conceptIn, badLength, badMark, badCounts, badPlace, badRow, badArgument, repeated, badRule}
 use Rattle.rulefile.specs.Format.{inclusionAt, someInclusion, inclusionServes}
-use Rattle.rulefile.specs.Format.{Check, checks, refusalBy, refusal, RuleFile, contents, Reading, refused, accepted, readingOf, reading}
+use Rattle.rulefile.specs.Format.{Check, checks, refusalBy, refusalFor, refusal, RuleFile, contents, Reading, refused, accepted, readingFor, reading}
 use Rattle.rulefile.specs.CheckLaws.{accepted-contents, accepted-passed}
 use Rattle.rulefile.specs.FormatLaws.{row-none}
 use Rattle.rulefile.specs.ReadLaws.{inclusion-row, none-serves}
@@ -33,11 +33,11 @@ abbrev pub formerRuleKinds : Kinds
 formerRuleKinds = 2 + 4 + 8 + 16 + 32 + 64
 
 -- the checks 1 to 8
-abbrev pub formerChecks : Kinds → List Check
-formerChecks kinds = take 8 (checks kinds)
+abbrev pub formerChecks : Kinds → Bytes → List Check
+formerChecks kinds b = take 8 (checks kinds (wantedRows b))
 
 unfoldable pub formerReading : Kinds → Bytes → Reading
-formerReading kinds b = elim (refusalBy (formerChecks kinds) b) [ some n ↦ refused n | none ↦ accepted (contents kinds b) ]
+formerReading kinds b = elim (refusalBy (formerChecks kinds b) b) [ some n ↦ refused n | none ↦ accepted (contents kinds b) ]
 
 -- no row is of kind 7
 abbrev pub WithoutInclusions : Bytes → Type 0
@@ -102,7 +102,7 @@ module _ (b : Bytes) (without : WithoutInclusions b) where
       ∷ record { number = 5; refuses = λ _. malformed }
       ∷ record { number = 6; refuses = λ _. argument }
       ∷ record { number = 7; refuses = λ b. someRow b (repeated b) }
-      ∷ record { number = 8; refuses = badRule }
+      ∷ record { number = 8; refuses = badRule (wantedRows b) }
       ∷ []) b
 
   no-row : someInclusion b ≡ false
@@ -111,11 +111,11 @@ module _ (b : Bytes) (without : WithoutInclusions b) where
       let h : k < rowCount b = omega arith in
       inclusion-row b k h ∙ ne-eqb (rowByte b k 0) 7 (without k h))
 
-  refusal-same : refusalBy (formerChecks formerRuleKinds) b ≡ refusal ruleKinds b
-  unfolding refusal checks first eight
+  refusal-same : refusalBy (formerChecks formerRuleKinds b) b ≡ refusal ruleKinds b
+  unfolding refusalFor checks first eight
   refusal-same =
       ap₂ eight rows-same arguments-same
-      ∙ sym (spare-check (formerChecks ruleKinds) (record { number = 16; refuses = inclusionServes ruleKinds }) b (λ _. none-serves b ruleKinds no-row))
+      ∙ sym (spare-check (formerChecks ruleKinds b) (record { number = 16; refuses = inclusionServes ruleKinds (wantedRows b) }) b (λ _. none-serves b ruleKinds (wantedRows b) no-row))
 
   contents-same : contents formerRuleKinds b ≡ contents ruleKinds b
   contents-same =
@@ -123,15 +123,15 @@ module _ (b : Bytes) (without : WithoutInclusions b) where
       (map-same (conceptIn formerRuleKinds b) (conceptIn ruleKinds b) (range 0 (rowCount b)) (λ k m. row-same k (omega (arith, range-mem 0 (rowCount b) k m .1))))
 
   pub reading-as-before : reading b ≡ formerReading formerRuleKinds b
-  unfolding readingOf formerReading
+  unfolding readingFor formerReading
   reading-as-before = sym (ap₂ (λ (o : Option ℕ) (f : RuleFile). elim o as (λ _. Reading) [ some n ↦ refused n | none ↦ accepted f ]) refusal-same contents-same)
 
 -- it holds no inclusion
 pub no-inclusion-held : (b : Bytes) → WithoutInclusions b → (f : RuleFile) → reading b ≡ accepted f → (k : ℕ) → asInclusion (conceptAt (f .table) k) ≡ none
 no-inclusion-held b without f e k =
-    rw (accepted-contents ruleKinds b f e)
+    rw (accepted-contents ruleKinds (wantedRows b) b f e)
     (map-range-cases (λ (c : Concept). asInclusion c ≡ none) (conceptIn ruleKinds b) (rowCount b) k (atomic 0) (λ h.
-    none-view (conceptIn ruleKinds b k) (row-none ruleKinds b (accepted-passed ruleKinds b f e) k h (inclusion-row b k h ∙ ne-eqb (rowByte b k 0) 7 (without k h)))) (λ h. refl))
+    none-view (conceptIn ruleKinds b k) (row-none ruleKinds (wantedRows b) b (accepted-passed ruleKinds (wantedRows b) b f e) k h (inclusion-row b k h ∙ ne-eqb (rowByte b k 0) 7 (without k h)))) (λ h. refl))
   where
     none-view : (c : Concept) → isInclusion c ≡ false → asInclusion c ≡ none
     none-view c q = by (asInclusion c) q

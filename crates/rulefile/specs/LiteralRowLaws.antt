@@ -24,8 +24,8 @@ use Rattle.concepts.specs.Concept.{Concept, conceptAt, arguments}
 use Rattle.decoding.specs.Decoding.{Kinds}
 use Rattle.decoding.specs.RowParts.{kindOf}
 use Rattle.decoding.specs.RowPartLaws.{literal-kind}
-use Rattle.rulefile.specs.Format.{Bytes, rowCount, wantedRow, rowByte, conceptIn, badRow, inclusionAt, someRow}
-use Rattle.rulefile.specs.Format.{Check, checks, answerOf, refusalBy, refusal, RuleFile, contents, accepted, readingOf}
+use Rattle.rulefile.specs.Format.{Bytes, rowCount, wantedRow, wantedRows, rowByte, conceptIn, badRow, inclusionAt, someRow}
+use Rattle.rulefile.specs.Format.{Check, checks, answerOf, refusalBy, refusalFor, refusal, RuleFile, contents, accepted, readingOf}
 use Rattle.rulefile.specs.Checks.{PassedAll}
 use Rattle.rulefile.specs.CheckLaws.{none-passed, accepted-contents, accepted-passed}
 use Rattle.rulefile.specs.FormatLaws.{row-formed, wanted-known, argument-lower, argument-serves, wanted-serves, row-none, contents-parts, rows-length}
@@ -36,7 +36,7 @@ use Rattle.rulefile.specs.FormatLaws.{row-formed, wanted-known, argument
 abbrev pub literalAt : Bytes → ℕ → Bool
 literalAt b k = eqb (rowByte b k 0) 1 || eqb (rowByte b k 0) 2
 
-module _ (kinds : Kinds) (b : Bytes) (passed : PassedAll kinds b) where
+module _ (kinds : Kinds) (b : Bytes) (passed : PassedAll kinds (wantedRows b) b) where
   -- from a row that is no inclusion
   literal-below : (bound k : ℕ) → k < bound → k < rowCount b → inclusionAt b k ≡ false → (j : ℕ) × (j < rowCount b) × (literalAt b j ≡ true)
   unfolding badRow
@@ -49,16 +49,16 @@ module _ (kinds : Kinds) (b : Bytes) (passed : PassedAll kinds b) where
       by-arguments [] e rest = (
         k,
         inside,
-        literal-kind kinds (rowByte b k 0) (rowByte b k 1) (rowByte b k 2) (rowByte b k 3) (row-formed kinds b passed k inside) e
-            (row-none kinds b passed k inside idle),
+        literal-kind kinds (rowByte b k 0) (rowByte b k 1) (rowByte b k 2) (rowByte b k 3) (row-formed kinds (wantedRows b) b passed k inside) e
+            (row-none kinds (wantedRows b) b passed k inside idle),
       )
       by-arguments (l ∷ ls) e rest =
           let there : List·Memᴰ l (arguments (conceptIn kinds b k)) = subst (λ (js : List ℕ). List·Memᴰ l js) (sym e) (List·Memᴰ·head refl) in
-          let lower : l < k = argument-lower kinds b passed k l inside there in
-          rest l (omega arith) (omega arith) (argument-serves kinds b passed k l inside there)
+          let lower : l < k = argument-lower kinds (wantedRows b) b passed k l inside there in
+          rest l (omega arith) (omega arith) (argument-serves kinds (wantedRows b) b passed k l inside there)
 
   literal-row : (j : ℕ) × (j < rowCount b) × (literalAt b j ≡ true)
-  literal-row = literal-below (suc (wantedRow b)) (wantedRow b) (omega arith) (wanted-known kinds b passed) (wanted-serves kinds b passed)
+  literal-row = literal-below (suc (wantedRow b)) (wantedRow b) (omega arith) (wanted-known kinds (wantedRows b) b passed (wantedRow b) (List·Memᴰ·head refl)) (wanted-serves kinds (wantedRows b) b passed (wantedRow b) (List·Memᴰ·head refl))
 
 -- ---- an accepted table holds a row of kind 1 or 2
 
@@ -76,10 +76,10 @@ literal-of {n} c k e = by (eqb n 1) refl e
 pub accepted-holds-literal : (kinds : Kinds) (b : Bytes) (f : RuleFile) → readingOf kinds b ≡ accepted f
     → (k : ℕ) × (k < length (f .table)) × Literal (conceptAt (f .table) k)
 accepted-holds-literal kinds b f e =
-    let passed = accepted-passed kinds b f e in
+    let passed = accepted-passed kinds (wantedRows b) b f e in
     let (k, h, l) = literal-row kinds b passed in
-    let row = contents-parts kinds b passed k h in
-    rw (accepted-contents kinds b f e) (k, omega (arith, rows-length kinds b passed), literal-of (conceptAt (contents kinds b .table) k) (row .kind-is) l)
+    let row = contents-parts kinds (wantedRows b) b passed k h in
+    rw (accepted-contents kinds (wantedRows b) b f e) (k, omega (arith, rows-length kinds (wantedRows b) b passed), literal-of (conceptAt (contents kinds b .table) k) (row .kind-is) l)
 
 -- ---- the check that was taken out
 
@@ -106,9 +106,9 @@ abbrev pub checkNine : Check
 checkNine = record { number = 9; refuses = λ b. not (someRow b (literalAt b)) }
 
 -- with that check behind the others every file gets the refusal that it gets without, or none; a reading goes by the refusal alone, and all answers by the reading
-pub refusal-as-before : (kinds : Kinds) (b : Bytes) → refusalBy (checks kinds ++ (checkNine ∷ [])) b ≡ refusal kinds b
-unfolding refusal
+pub refusal-as-before : (kinds : Kinds) (b : Bytes) → refusalBy (checks kinds (wantedRows b) ++ (checkNine ∷ [])) b ≡ refusal kinds b
+unfolding refusalFor
 refusal-as-before kinds b =
-    spare-check (checks kinds) checkNine b (λ e.
-    let (k, h, l) = literal-row kinds b (none-passed kinds b e) in
+    spare-check (checks kinds (wantedRows b)) checkNine b (λ e.
+    let (k, h, l) = literal-row kinds b (none-passed kinds (wantedRows b) b e) in
     ap not (any-range-found (literalAt b) (rowCount b) k h l))
