@@ -13,7 +13,7 @@ ghost use Rattle.concepts.specs.RowSet.{empty};
 ghost use Rattle.decoding.specs.RowParts.{kindOf, leftOf, rightOf};
 ghost use Rattle.decoding.specs.Decoding.{ruleKinds};
 ghost use Rattle.rowset.specs.Value.{valueOf, width};
-ghost use Rattle.rulefile.specs.Read.{Laid};
+ghost use Rattle.rulefile.specs.Read.{LaidFor};
 ghost use Rattle.problem.specs.Rows.{rowByte, rowCount, Rows, ListsRows};
 ghost use Rattle.problem.specs.Layout.{room};
 ghost use Rattle.problem.specs.Decoded.{countOf, tableOf, rulesOf, wantedOf, Picked, ofKind, universal, Narrows, noInclusion, RowsDecoded, Decoded, DecodedFrom};
@@ -24,7 +24,6 @@ use rowset::RowSet;
 use rulefile::Layout;
 use rulefile::rows_of;
 use rulefile::rules_of;
-use rulefile::wanted_of;
 
 // How many words a problem takes.
 pub const WORDS: usize = 160;
@@ -240,14 +239,13 @@ pub fn decode(rows: &[u8], rules: &[u8], wanted: &[u8], out: &mut [u64])
     }
 }
 
-// Decodes an accepted file.
-pub fn decode_file(file: &[u8], layout: Layout, out: &mut [u64])
-    requires { ⌜ Laid ruleKinds (now file) layout × Fresh (now out) ⌝ }
-    ensures { λ _. ⌜ FileDecoded (now (file .entry)) (now (out .exit)) ⌝ }
+// Decodes a file that is accepted with these wanted rows.
+pub fn decode_file(file: &[u8], layout: Layout, wanted: &[u8], out: &mut [u64])
+    requires { ⌜ LaidFor ruleKinds (now wanted) (now file) layout × Fresh (now out) ⌝ }
+    ensures { λ _. ⌜ FileDecoded (now (wanted .entry)) (now (file .entry)) (now (out .exit)) ⌝ }
 {
     let rows = rows_of(file, layout);
     let rules = rules_of(file, layout);
-    let wanted = wanted_of(file, layout);
     decode(rows, rules, wanted, out);
 }
 

@@ -41,14 +41,14 @@ module _ (kinds : Kinds) (wanted : List ℕ) (b : Bytes) (passed : PassedAll kin
   unfolding checks
   row-ordered = none-any-range (badArgument kinds b) (rowCount b) (passed 5 (omega arith))
 
-  inclusions-idle : (someNamed kinds b ≡ false) × (someRuled b ≡ false) × (any (inclusionAt b) wanted ≡ false)
+  pub inclusions-idle : (someNamed kinds b ≡ false) × (someRuled b ≡ false) × (any (inclusionAt b) wanted ≡ false)
   unfolding checks inclusionServes
   inclusions-idle =
       let (rows, more) = or-neither (someNamed kinds b) (someRuled b || any (inclusionAt b) wanted) (passed 8 (omega arith)) in
       let (rules, kit) = or-neither (someRuled b) (any (inclusionAt b) wanted) more in
       (rows, rules, kit)
 
-  rows-known : (any (λ i. leb (rowCount b) (rule b i)) (range 0 (ruleCount b)) ≡ false) × (any (λ k. leb (rowCount b) k) wanted ≡ false)
+  pub rows-known : (any (λ i. leb (rowCount b) (rule b i)) (range 0 (ruleCount b)) ≡ false) × (any (λ k. leb (rowCount b) k) wanted ≡ false)
   unfolding checks badRule
   rows-known =
       or-neither (any (λ i. leb (rowCount b) (rule b i)) (range 0 (ruleCount b))) (any (λ k. leb (rowCount b) k) wanted) (passed 7 (omega arith))
@@ -73,7 +73,7 @@ module _ (kinds : Kinds) (wanted : List ℕ) (b : Bytes) (passed : PassedAll kin
       → (k : ℕ) → P k (conceptAt (contentsFor kinds wanted b .table) k)
   row-cases P row past k = map-range-cases (P k) (conceptIn kinds b) (rowCount b) k (atomic 0) (row k) (λ h. past k)
 
-  row-at : (k : ℕ) → k < rowCount b → conceptAt (contentsFor kinds wanted b .table) k ≡ conceptIn kinds b k
+  pub row-at : (k : ℕ) → k < rowCount b → conceptAt (contentsFor kinds wanted b .table) k ≡ conceptIn kinds b k
   row-at k h = getD-map-range (conceptIn kinds b) 0 (rowCount b) k (atomic 0) h ∙ ap (conceptIn kinds b) (omega arith)
 
   -- row k of the table has the four bytes of row k of the file as its parts

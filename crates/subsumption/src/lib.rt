@@ -1,0 +1,1 @@
+// Which names are under which: definitions, in specs/. Nothing to run.
