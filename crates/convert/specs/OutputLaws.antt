@@ -43,7 +43,7 @@ conversion-sound draft room = go (draftReading draft) refl
         ltb-false room bytes (or-neither (ltb 4096 bytes) (ltb room bytes) (or-neither (ltb 64 (length (f .table))) (ltb 4096 bytes || ltb room bytes) e .1) .1)
 
     go : (r : Reading) → draftReading draft ≡ r → Sound room (conversionOf room r)
-    go (refused n) e = refused-positive draftKinds draft n e
+    go (refused n) e = refused-positive draftKinds (wantedRows draft) draft n e
     go (accepted d) e = fits (normalized d) (tooLarge room (normalized d)) refl
 
 -- ---- a file is written

@@ -56,13 +56,13 @@ numbers-as C e = record { numbersAre = e ∙ C .numbersAre; areaIs = C .areaIs }
 
 module _ {b : Bytes} {l : Layout} (L : Laid draftKinds b l) where
   laid-draft : Draft b
-  laid-draft = record { passed = accepted-passed draftKinds b (L .file) (L .reads) }
+  laid-draft = record { passed = accepted-passed draftKinds (wantedRows b) b (L .file) (L .reads) }
 
   laid-admitted : Admitted (contents draftKinds b)
-  laid-admitted = contents-admitted draftKinds b (laid-draft .passed)
+  laid-admitted = contents-admitted draftKinds (wantedRows b) b (laid-draft .passed)
 
   laid-reading : draftReading b ≡ accepted (contents draftKinds b)
-  laid-reading = L .reads ∙ ap accepted (accepted-contents draftKinds b (L .file) (L .reads))
+  laid-reading = L .reads ∙ ap accepted (accepted-contents draftKinds (wantedRows b) b (L .file) (L .reads))
 
   conversion-laid : (room : ℕ) → conversion b room ≡ writtenOr (tooLarge room (result b)) (result b)
   conversion-laid room = conversion-accepted b room (contents draftKinds b) laid-reading

@@ -47,7 +47,7 @@ conversion-refusal draft room = go (draftReading draft) refl
     by-size false f = inl refl
 
     go : (r : Reading) → draftReading draft ≡ r → ConversionRefusal (numbers (conversionOf room r) .refusal)
-    go (refused n) e = inr (inl (refused-number draftKinds draft n e))
+    go (refused n) e = inr (inl (refused-number draftKinds (wantedRows draft) draft n e))
     go (accepted d) e = by-size (tooLarge room (normalized d)) (normalized d)
 
 -- ---- the promise
@@ -69,7 +69,7 @@ module _ (d : RuleFile) (draft before : Bytes) (e : draftReading draft ≡ accep
     result = λ x. absurd (omega (arith, x));
   }
   by-size false q =
-      let A = accepted-admitted draftKinds draft d e in
+      let A = accepted-admitted draftKinds (wantedRows draft) draft d e in
       let f = normalized d in
       let bytes = fileBytes f in
       record {

@@ -52,13 +52,13 @@ form-shape (impl l r) false _ = refl
 
 module _ {b : Bytes} (D : Draft b) where
   pub draft-parted : Parted b
-  draft-parted = parted draftKinds b (D .passed) (omega arith)
+  draft-parted = parted draftKinds (wantedRows b) b (D .passed) (omega arith)
 
   pub draft-ordered : Ordered (tableOf b)
-  draft-ordered = contents-admitted draftKinds b (D .passed) .wellFormed .ordered
+  draft-ordered = contents-admitted draftKinds (wantedRows b) b (D .passed) .wellFormed .ordered
 
   pub draft-idle : Idle (tableOf b)
-  draft-idle k l m = contents-admitted draftKinds b (D .passed) .wellFormed .serving l (asArgument k m)
+  draft-idle k l m = contents-admitted draftKinds (wantedRows b) b (D .passed) .wellFormed .serving l (asArgument k m)
 
   pub draft-rows : length (tableOf b) ≡ rowCount b
   draft-rows = length-map-range (conceptIn draftKinds b) 0 (rowCount b)

@@ -22,7 +22,7 @@ use Rattle.procedure.specs.Graph.{Graph, roomFor, Result, reached, noPlace, out
 use Rattle.procedure.specs.Tableau.{run}
 use Rattle.procedure.specs.Example.{Example, example, worldOf}
 use Rattle.evaluation.specs.Evaluation.{evaluated}
-use Rattle.run.specs.Run.{Lengths, capacity, listing, shown, used, Answer, refusedFile, short, cannot, undefined, answerCan, answerRoot, answerResult, fileProblem, answerReading, answer}
+use Rattle.run.specs.Run.{Lengths, capacity, listing, shown, used, Answer, refusedFile, short, cannot, undefined, answerCan, answerRoot, answerResult, fileProblem, answerFor, answerReading, answer}
 
 -- ---- as it was
 
@@ -99,5 +99,5 @@ module _ (b : Bytes) (without : WithoutInclusions b) where
       ∙ ap₂ (λ (w : Example → World) (P : Problem). resultBy w l (f .table) (run P (capacity l))) (world-as-before f e) (problem-as-before f e)
 
   pub runs-as-before : (l : Lengths) → answer b l ≡ formerAnswer b l
-  unfolding answer formerAnswer
+  unfolding answerFor formerAnswer
   runs-as-before l = reading-answered l (reading b) refl ∙ ap (formerAnswerReading l) (reading-as-before b without)

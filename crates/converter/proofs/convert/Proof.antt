@@ -13,14 +13,14 @@ convert-accepted-requires c κs =
     let begun : tie.Start = search in
     let r : tie.After-read = search in
     let l : tie.After-layout = search in
-    reads-accepted draftKinds (begun .args .draft .now) _ (sym (l .layout .given .1) ∙ r .read .ensures)
+    reads-accepted draftKinds (wantedRows (begun .args .draft .now)) (begun .args .draft .now) _ (sym (l .layout .given .1) ∙ r .read .ensures)
 
 returns : tie.Need-returns
 returns c =
     let begun : tie.Start = search in
     let r : tie.After-read = search in
     let n : tie.After-n = search in
-    let refused = reads-refused draftKinds (begun .args .draft .now) (n .n .given .0 .0) (sym (n .n .given .1) ∙ r .read .ensures) in
+    let refused = reads-refused draftKinds (wantedRows (begun .args .draft .now)) (begun .args .draft .now) (n .n .given .0 .0) (sym (n .n .given .1) ∙ r .read .ensures) in
     converts-promise (numbers-as (refused-converts (begun .args .draft .now) (n .n .given .0 .0) refused) (c .refused .ensures))
 
 returns-2 : tie.Need-returns-2
