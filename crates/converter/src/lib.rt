@@ -94,7 +94,7 @@ fn convert_accepted(draft: &[u8], layout: Layout, area: &mut [u8]) -> Conversion
     let mut rules = [0u8; MOST_RULES];
     let mut wanted = [0u8; 1];
     let tbox = rules_of(draft, layout);
-    let kit = wanted_of(draft, layout);
+    let kit = wanted_of(draft);
     let inclusions = keep_inclusions(draft, layout.rows, &mut written);
     match put_list(draft, tbox, &mut memo, &mut written, inclusions, &mut rules) {
         Listed::Rows(n) => {

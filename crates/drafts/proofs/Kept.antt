@@ -9,9 +9,9 @@ use Prim.Native.Nat.{ℕ}
 use native.Mathlib.Omega.{arith}
 use lib.ListN.{length, drop}
 use lib.Seq.{take-at}
-use Rattle.rulefile.specs.Format.{Bytes, RuleFile, Reading, refused, accepted, reading}
+use Rattle.rulefile.specs.Format.{Bytes, wantedRows, RuleFile, Reading, refused, accepted, reading}
 use Rattle.rulefile.specs.Checks.{FileRefusal}
-use Rattle.rulefile.specs.CheckLaws.{refused-number}
+use Rattle.rulefile.specs.CheckLaws.{refused-number, accepted-contents}
 use Rattle.rulefile.specs.FormatLaws.{accepted-admitted}
 use Rattle.decoding.specs.Decoding.{draftKinds}
 use Rattle.drafts.specs.Normalize.{normalized}
@@ -70,13 +70,14 @@ module _ (d : RuleFile) (draft before : Bytes) (e : draftReading draft ≡ accep
   }
   by-size false q =
       let A = accepted-admitted draftKinds (wantedRows draft) draft d e in
+      let one = ap (λ (k : RuleFile). length (k .wanted)) (accepted-contents draftKinds (wantedRows draft) draft d e) in
       let f = normalized d in
       let bytes = fileBytes f in
       record {
         tooLarge = (λ x. absurd (omega (arith, x)), λ x. absurd (rw q at x));
         noOther = λ n. refl;
         result = λ x.
-            (f, ap reading (take-at bytes (drop (length bytes) before) (length bytes) refl) ∙ written-back f (normalized-writable d A (length before) q), normalized-keeps d A);
+            (f, ap reading (take-at bytes (drop (length bytes) before) (length bytes) refl) ∙ written-back f (normalized-writable d A one (length before) q), normalized-keeps d A);
       }
 
   right-kept : Right d before (numbers (conversion draft (length before))) (areaAfter (conversion draft (length before)) before)

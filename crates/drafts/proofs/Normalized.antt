@@ -119,9 +119,9 @@ module _ (draft : RuleFile) (A : Admitted draft) where
   serving k (asRule m) = place-idle t ordered (draft .tbox) (rules .places) (kit .rows) rule-settled idle rule-none (A .inRange) sound (R .count) k m
   serving k (asWanted m) = place-idle t ordered (draft .wanted) (kit .places) (kit .rows) kit-settled idle kit-none (A .inRange) sound (K .count) k m
 
-  pub normalized-writable : (room : ℕ) → tooLarge room (normalized draft) ≡ false → Writable (normalized draft)
+  pub normalized-writable : length (draft .wanted) ≡ 1 → (room : ℕ) → tooLarge room (normalized draft) ≡ false → Writable (normalized draft)
   unfolding normalized tooLarge
-  normalized-writable room e =
+  normalized-writable one room e =
       let f = normalized draft in
       let (fewRows, bytes) = or-neither (ltb 64 (length (f .table))) (ltb 4096 (length (fileBytes f)) || ltb room (length (fileBytes f))) e in
       let (short, fits) = or-neither (ltb 4096 (length (fileBytes f))) (ltb room (length (fileBytes f))) bytes in
@@ -130,7 +130,7 @@ module _ (draft : RuleFile) (A : Admitted draft) where
         fewRows = ltb-false 64 (length (f .table)) fewRows;
         fewRules = omega (arith, R .count, A .fewRules);
         ruleRows = place-listed t ordered (draft .tbox) (rules .places) (kit .rows) rule-settled (R .count);
-        oneWanted = K .count ∙ A .oneWanted;
+        oneWanted = K .count ∙ one;
         wantedRows = place-listed t ordered (draft .wanted) (kit .places) (kit .rows) kit-settled (K .count);
         serving = serving;
         short = ltb-false 4096 (length (fileBytes f)) short;

@@ -18,12 +18,12 @@ use lib.ListN.{length, getD, take, length-append, List·getD-append}
 use lib.Seq.{take-at, getD-append-add}
 use borrow.Author.Tests.{le-ltb, lt-leb, eq-eqb, ne-eqb}
 use Rattle.concepts.specs.Tests.{impossible, and-nothing, as-false}
-use Rattle.concepts.specs.Lists.{NoneBelow}
+use Rattle.concepts.specs.Lists.{NoneBelow, any}
 use Rattle.concepts.specs.ListLaws.{getD-mem, map-range-whole, any-none, any-range-none, NoneBelow-suc}
 use Rattle.concepts.specs.Concept.{atomic, Table, conceptAt, arguments, isInclusion, NoInclusion, asArgument, asRule, asWanted}
 use Rattle.decoding.specs.Decoding.{ruleKinds, decode, malformed, conceptOf}
 use Rattle.decoding.specs.RowPartLaws.{row-parts, decode-own}
-use Rattle.rulefile.specs.Format.{Bytes, trailerByte, firstRow, rowCount, ruleCount, wantedRow, rowByte, rule, conceptIn, RuleFile, contents, accepted, reading}
+use Rattle.rulefile.specs.Format.{Bytes, trailerByte, firstRow, rowCount, ruleCount, wantedRow, wantedRows, rowByte, rule, conceptIn, RuleFile, contents, accepted, reading}
 use Rattle.rulefile.specs.Format.{badLength, badMark, badCounts, badPlace, badRow, badArgument, someRow, sameRow, repeated, badRule, inclusionAt, inclusionNamed, inclusionServes, checks}
 use Rattle.rulefile.specs.Checks.{refusesAt, PassedAll}
 use Rattle.rulefile.specs.CheckLaws.{reading-accepted}
@@ -43,6 +43,11 @@ module _ {A : Type 0} where
   singleton [] d e = impossible e
   singleton (x ∷ []) d e = refl
   singleton (x ∷ y ∷ xs) d e = absurd (omega arith)
+
+-- a list of one element that fails
+one-fails : (f : ℕ → Bool) (x : ℕ) → f x ≡ false → any f (x ∷ []) ≡ false
+unfolding any
+one-fails f x e = rw e
 
 -- files are the same if their parts are
 same-file : {f g : RuleFile} → f .text ≡ g .text → f .table ≡ g .table → f .tbox ≡ g .tbox → f .wanted ≡ g .wanted → f ≡ g
@@ -189,12 +194,12 @@ module _ (f : RuleFile) (W : Writable f) where
       let l : i < length (f .tbox) = omega (arith, ruleCount-fileBytes f) in
       omega (arith, W .ruleRows (getD (f .tbox) i 0) (getD-mem (f .tbox) i 0 l), rule-fileBytes f i l, rowCount-fileBytes f)
 
-  badRule-fileBytes : badRule (fileBytes f) ≡ false
+  badRule-fileBytes : badRule (wantedRows (fileBytes f)) (fileBytes f) ≡ false
   unfolding badRule
   badRule-fileBytes =
       let n = rowCount (fileBytes f) in
       rw (any-range-none (λ i. leb n (rule (fileBytes f) i)) (ruleCount (fileBytes f)) (λ i h. lt-leb n (rule (fileBytes f) i) (rule-lt i h)))
-      (lt-leb n (wantedRow (fileBytes f)) (omega (arith, wanted-lt, rowCount-fileBytes f, wantedRow-fileBytes f)))
+      (one-fails (λ k. leb n k) (wantedRow (fileBytes f)) (lt-leb n (wantedRow (fileBytes f)) (omega (arith, wanted-lt, rowCount-fileBytes f, wantedRow-fileBytes f))))
 
   -- what is no inclusion in the table is none by its bytes
   inclusionAt-fileBytes : (k : ℕ) → NoInclusion (f .table) k → inclusionAt (fileBytes f) k ≡ false
@@ -223,16 +228,16 @@ module _ (f : RuleFile) (W : Writable f) where
       let wanted = getD (f .wanted) 0 0 in
       rw (wantedRow-fileBytes f) (inclusionAt-fileBytes wanted (W .serving wanted (asWanted (getD-mem (f .wanted) 0 0 (omega (arith, W .oneWanted))))))
 
-  inclusionServes-fileBytes : inclusionServes ruleKinds (fileBytes f) ≡ false
+  inclusionServes-fileBytes : inclusionServes ruleKinds (wantedRows (fileBytes f)) (fileBytes f) ≡ false
   unfolding inclusionServes
   inclusionServes-fileBytes =
       rw (someRow-fileBytes (inclusionNamed ruleKinds (fileBytes f)) inclusionNamed-fileBytes)
-      (rw (any-range-none (λ i. inclusionAt (fileBytes f) (rule (fileBytes f) i)) (ruleCount (fileBytes f)) rule-idle) wanted-idle)
+      (rw (any-range-none (λ i. inclusionAt (fileBytes f) (rule (fileBytes f) i)) (ruleCount (fileBytes f)) rule-idle) (one-fails (inclusionAt (fileBytes f)) (wantedRow (fileBytes f)) wanted-idle))
 
-  passed-fileBytes : PassedAll ruleKinds (fileBytes f)
+  passed-fileBytes : PassedAll ruleKinds (wantedRows (fileBytes f)) (fileBytes f)
   unfolding checks
   passed-fileBytes =
-      let next = NoneBelow-suc (refusesAt ruleKinds (fileBytes f)) in
+      let next = NoneBelow-suc (refusesAt ruleKinds (wantedRows (fileBytes f)) (fileBytes f)) in
       let p₁ = next 0 (λ k h. absurd (not-suc-le-zero h)) badLength-fileBytes in
       let p₂ = next 1 p₁ badMark-fileBytes in
       let p₃ = next 2 p₂ badCounts-fileBytes in
@@ -258,4 +263,4 @@ module _ (f : RuleFile) (W : Writable f) where
       (map-range-whole (rule (fileBytes f)) (f .tbox) 0 (ruleCount-fileBytes f) (rule-fileBytes f)) wanted-fileBytes
 
   pub written-back : reading (fileBytes f) ≡ accepted f
-  written-back = reading-accepted ruleKinds (fileBytes f) passed-fileBytes ∙ ap accepted contents-fileBytes
+  written-back = reading-accepted ruleKinds (wantedRows (fileBytes f)) (fileBytes f) passed-fileBytes ∙ ap accepted contents-fileBytes

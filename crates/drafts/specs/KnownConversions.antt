@@ -8,7 +8,7 @@ use Rattle.concepts.specs.Concept.{roleOf}
 use Rattle.concepts.specs.RowSet.{mem}
 use Rattle.decoding.specs.Decoding.{ofKind, decode}
 use Rattle.decoding.specs.RowParts.{kindOf, leftOf, rightOf}
-use Rattle.rulefile.specs.Format.{Bytes, badLength, badMark, badCounts, badPlace, badRow, badArgument, repeated, badRule, inclusionAt, inclusionNamed, inclusionServes, checks, refusal, readingOf}
+use Rattle.rulefile.specs.Format.{Bytes, badLength, badMark, badCounts, badPlace, badRow, badArgument, repeated, badRule, inclusionAt, inclusionNamed, inclusionServes, checks, refusalFor, readingFor}
 use Rattle.rulefile.specs.Format as Format
 use Rattle.run.specs.KnownRuns.{written}
 use Rattle.drafts.specs.Normalize.{shape, sameRow, placeOf, share, putShape, putBelow, put, putList, inclusionRows, normalized}
@@ -60,7 +60,7 @@ knownConversions =
     ∷ []
 
 pub known-conversions : map (λ (k : KnownConversion). conversion (k .draft) (k .room)) knownConversions ≡ map (λ (k : KnownConversion). k .expected) knownConversions
-unfolding knownConversions written flatten conversion conversionOf readingOf refusal checks range select any first badLength badMark badCounts badPlace badRow badArgument Format.sameRow
+unfolding knownConversions written flatten conversion conversionOf readingFor refusalFor checks range select any first badLength badMark badCounts badPlace badRow badArgument Format.sameRow
     repeated badRule inclusionServes inclusionNamed inclusionAt decode ofKind mem normalized inclusionRows putList put putBelow putShape shape share placeOf sameRow kindOf roleOf
     leftOf rightOf fileBytes tableBytes trailer tooLarge writtenOr
 known-conversions = refl

@@ -9,7 +9,7 @@ use lib.ListN.{length, getD, take}
 use Rattle.concepts.specs.Begins.{Begins}
 use Rattle.concepts.specs.Concept.{Table, NoInclusion}
 use Rattle.decoding.specs.Decoding.{draftKinds}
-use Rattle.rulefile.specs.Format.{Bytes, rowCount}
+use Rattle.rulefile.specs.Format.{Bytes, rowCount, wantedRows}
 use Rattle.rulefile.specs.Checks.{PassedAll}
 use Rattle.drafts.specs.Normalize as Normalize
 use Rattle.drafts.specs.Normalize.{Sign, stands, share, put, PutList, putList, inclusionRows}
@@ -23,7 +23,7 @@ use Rattle.normalize.specs.Shapes.{tableOf, slotOf}
 -- ---- a draft that passed all checks
 
 pub record Draft (b : Bytes) : Type 0 where
-  pub passed : PassedAll draftKinds b
+  pub passed : PassedAll draftKinds (wantedRows b) b
 
 -- ---- places that are remembered
 

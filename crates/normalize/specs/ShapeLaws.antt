@@ -16,7 +16,7 @@ use Rattle.concepts.specs.Concept.{Concept, atomic, negated, conj, disj, univ, 
 use Rattle.decoding.specs.Decoding.{draftKinds}
 use Rattle.decoding.specs.RowParts.{kindOf, leftOf, rightOf, ofParts}
 use Rattle.decoding.specs.RowPartLaws.{Parts}
-use Rattle.rulefile.specs.Format.{Bytes, rowCount, rowByte, conceptIn}
+use Rattle.rulefile.specs.Format.{Bytes, rowCount, wantedRows, rowByte, conceptIn}
 use Rattle.rulefile.specs.Checks.{Parted}
 use Rattle.rulefile.specs.CheckLaws.{parted}
 use Rattle.rulefile.specs.FormatLaws.{contents-parts, contents-admitted}
@@ -65,7 +65,7 @@ module _ {b : Bytes} (D : Draft b) where
 
   module _ (k : ℕ) (h : k < rowCount b) where
     pub parts-at : Parts (rowByte b k 0) (rowByte b k 1) (rowByte b k 2) (rowByte b k 3) (conceptAt (tableOf b) k)
-    parts-at = contents-parts draftKinds b (D .passed) k h
+    parts-at = contents-parts draftKinds (wantedRows b) b (D .passed) k h
 
     pub shape-bytes : (s : Sign) → NoInclusion (tableOf b) k → formOf (rowByte b k 0) (rowByte b k 1) (rowByte b k 2) (rowByte b k 3) s ≡ shape (conceptAt (tableOf b) k) s
     shape-bytes s i =

@@ -1,7 +1,8 @@
 -- `converter::convert_accepted` meets its contract: the inclusions are kept, the rules and then the wanted row are put, and the file is written if it fits.
 -- Assumes nothing.
-use mathlib.Core.Path.{refl}
+use mathlib.Core.Path.{_≡_, refl}
 use borrow.Author.Needs.{needs}
+use Rattle.rulefile.specs.Format.{wantedRows}
 use Rattle.rulefile.specs.PartLaws.{laid-placed}
 use Rattle.converter.specs.ConvertCases.{list-as, numbers-as, inclusions-asks, rules-asks, rules-full, kit-asks, kit-full, finish-asks, too-many}
 use Rattle.converter.proofs.convert_accepted.Statement.{statement}
@@ -9,9 +10,6 @@ use Rattle.converter.proofs.convert_accepted.Tie as tie
 
 rules-of-requires : tie.Need-rules-of-requires
 rules-of-requires c κs = let begun : tie.Start = search in laid-placed (begun .pre)
-
-wanted-of-requires : tie.Need-wanted-of-requires
-wanted-of-requires c κs = let begun : tie.Start = search in laid-placed (begun .pre)
 
 keep-inclusions-requires : tie.Need-keep-inclusions-requires
 keep-inclusions-requires c κs = let begun : tie.Start = search in inclusions-asks (begun .pre) _ refl
@@ -37,6 +35,10 @@ lists c = c .before .before
 abbrev start : tie.After-wanted-of → tie.Start
 start c = c .before .before .before .before
 
+-- a draft that passed the checks is long enough to have a wanted row
+the-kit : (c : tie.After-wanted-of) → c .wanted-of .result .now ≡ wantedRows (start c .args .draft .now)
+the-kit c = c .wanted-of .ensures (laid-placed (start c .pre) .parts .least)
+
 abbrev the-n : tie.After-put-list2 → tie.After-n
 the-n c = c .before .before .before .before .before
 
@@ -46,7 +48,7 @@ put-list-requires-2 c κs =
     let rules = first-list n in
     let kept = inclusions rules in
     let kit = lists kept in
-    kit-asks (start kit .pre) (kit .before .rules-of .ensures) (kept .keep-inclusions .ensures) _ refl (list-as (rules .put-list .ensures) (n .n .given .1)) (kit .wanted-of .ensures)
+    kit-asks (start kit .pre) (kit .before .rules-of .ensures) (kept .keep-inclusions .ensures) _ refl (list-as (rules .put-list .ensures) (n .n .given .1)) (the-kit kit)
 
 finish-requires : tie.Need-finish-requires
 finish-requires c κs =
@@ -56,7 +58,7 @@ finish-requires c κs =
     let rules = first-list n in
     let kept = inclusions rules in
     let kit = lists kept in
-    finish-asks (start kit .pre) (kit .before .rules-of .ensures) (kept .keep-inclusions .ensures) _ refl (list-as (rules .put-list .ensures) (n .n .given .1)) (kit .wanted-of .ensures)
+    finish-asks (start kit .pre) (kit .before .rules-of .ensures) (kept .keep-inclusions .ensures) _ refl (list-as (rules .put-list .ensures) (n .n .given .1)) (the-kit kit)
     (list-as (second .put-list2 .ensures) (m .m .given .1))
 
 returns-2 : tie.Need-returns-2
@@ -68,7 +70,7 @@ returns-2 c =
     let kept = inclusions rules in
     let kit = lists kept in
     numbers-as (too-many (start kit .pre)
-    (kit-full (start kit .pre) (kit .before .rules-of .ensures) (kept .keep-inclusions .ensures) _ refl (list-as (rules .put-list .ensures) (n .n .given .1)) (kit .wanted-of .ensures)
+    (kit-full (start kit .pre) (kit .before .rules-of .ensures) (kept .keep-inclusions .ensures) _ refl (list-as (rules .put-list .ensures) (n .n .given .1)) (the-kit kit)
     (list-as (second .put-list2 .ensures) (told .enum-told .given .1)))) (c .refused .ensures)
 
 returns-3 : tie.Need-returns-3
@@ -85,7 +87,7 @@ returns-3 c =
 pub convert-accepted-spec : {M : Type 1} → statement M
 convert-accepted-spec =
     tie.close (tie.spec
-    rules-of-requires wanted-of-requires (λ c. search needs) keep-inclusions-requires (λ c. search needs) (λ c. search needs) (λ c. search needs) put-list-requires
+    rules-of-requires (λ c κs. search needs) (λ c. search needs) keep-inclusions-requires (λ c. search needs) (λ c. search needs) (λ c. search needs) put-list-requires
     (λ c. search needs) (λ c. search needs) (λ c. search needs) (λ c. search needs) put-list-requires-2 (λ c. search needs) (λ c. search needs) (λ c. search needs)
     (λ c. search needs) finish-requires (λ c. search needs) (λ c κs. search needs) (λ c. search needs) (λ c κs. search needs) (λ c. search needs)
     (λ c. search needs) returns-2 returns-3)
