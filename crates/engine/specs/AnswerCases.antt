@@ -1,19 +1,20 @@
 -- From a decision to the answer and the areas afterwards, on plain values; then the promise.
 --
--- In order: the numbers of a decision; the work areas after one; an accepted file; a refused file; the promise.
+-- In order: the numbers of a decision; the work areas after one; an accepted file; a refused file; the promise, with wanted rows that are given and with the file's own.
 -- Assumes nothing.
 use mathlib.Core.Path.{_≡_, refl, sym, ap, _∙_, subst, subst₂}
 use mathlib.Core.List.{List}
-use Prim.Native.Nat.{ℕ}
+use Prim.Native.Nat.{ℕ, _≤_}
 use lib.ListN.{length, replicate}
-use Rattle.rulefile.specs.Format.{Bytes, refused, reading}
+use Rattle.rulefile.specs.Format.{Bytes, wantedRows, refused, readingFor}
 use Rattle.decoding.specs.Decoding.{ruleKinds}
-use Rattle.rulefile.specs.Read.{Laid}
+use Rattle.rulefile.specs.Read.{LaidFor}
+use Rattle.rulefile.specs.ReadLaws.{reading-own}
 use Rattle.rulefile.specs.declared.Layout.{Layout}
 use Rattle.procedure.specs.Problem.{Problem}
 use Rattle.procedure.specs.Tableau.{run}
-use Rattle.run.specs.Run.{Areas, areasOf, lengths, capacity, Answer, answerResult, Numbers, refusedWith, numbers, answer, zeros, areasAfter}
-use Rattle.run.specs.Promise.{Promise}
+use Rattle.run.specs.Run.{Areas, areasOf, lengths, capacity, Answer, answerResult, answerReading, Numbers, refusedWith, numbers, answerFor, zeros, areasAfter}
+use Rattle.run.specs.Promise.{PromiseFor, Promise}
 use Rattle.run.proofs.Verdict.{answer-accepted, answer-refused}
 use Rattle.run.proofs.Kept.{promise-kept}
 use Rattle.problem.specs.Decoded.{tableOf, problemOf}
@@ -49,43 +50,53 @@ cleared (TooLong s) a before (x, h, z) = subst (λ (k : Answer). Cleared k befor
 
 -- ---- an accepted file
 
-module _ {b : Bytes} {l : Layout} (L : Laid ruleKinds b l) {ws : List ℕ} (F : FileDecoded b ws) (before : Areas) where
-  answer-is : answerResult (lengths before) (tableOf ws) (run (problemOf ws) (capacity (lengths before))) ≡ answer b (lengths before)
+module _ {v b : Bytes} {l : Layout} (L : LaidFor ruleKinds v b l) {ws : List ℕ} (F : FileDecoded v b ws) (before : Areas) where
+  answer-is : answerResult (lengths before) (tableOf ws) (run (problemOf ws) (capacity (lengths before))) ≡ answerFor v b (lengths before)
   answer-is =
       ap (λ (P : Problem). answerResult (lengths before) (P .table) (run P (capacity (lengths before)))) (F .problem-is (L .file) (L .reads))
-      ∙ sym (answer-accepted b (lengths before) (L .file) (L .reads))
+      ∙ sym (answer-accepted v b (lengths before) (L .file) (L .reads))
 
   -- it was decided
   pub record Settled (d : Decision) (elements links : Bytes) : Type 0 where
-    pub given : Decided (answer b (lengths before)) before d elements links
+    pub given : Decided (answerFor v b (lengths before)) before d elements links
 
   pub file-settled : {d : Decision} {elements links : Bytes} → DecideGives ws before d elements links → Settled d elements links
   file-settled {d} {elements} {links} D = record { given = subst (λ (k : Answer). Decided k before d elements links) answer-is D }
 
 -- and then the work areas are cleared
-module _ {b : Bytes} {l : Layout} {L : Laid ruleKinds b l} {ws : List ℕ} {F : FileDecoded b ws} {before : Areas} {d : Decision} {elements links : Bytes}
+module _ {v b : Bytes} {l : Layout} {L : LaidFor ruleKinds v b l} {ws : List ℕ} {F : FileDecoded v b ws} {before : Areas} {d : Decision} {elements links : Bytes}
     (S : Settled L F before d elements links) where
   -- each kept its length until then
   pub file-answered : {k : Numbers} → k ≡ decidedNumbers d → {n e a : Bytes} {n₁ e₁ a₁ : ℕ} → n ≡ replicate n₁ 0 → n₁ ≡ length (before .nodes)
-      → e ≡ replicate e₁ 0 → e₁ ≡ length (before .edges) → a ≡ replicate a₁ 0 → a₁ ≡ length (before .alternatives) → Answered b before k (areasOf n e a elements links)
+      → e ≡ replicate e₁ 0 → e₁ ≡ length (before .edges) → a ≡ replicate a₁ 0 → a₁ ≡ length (before .alternatives) → Answered v b before k (areasOf n e a elements links)
   file-answered hk zn hn ze he za ha =
-      let C = cleared d (answer b (lengths before)) before (S .given .decides) in
+      let C = cleared d (answerFor v b (lengths before)) before (S .given .decides) in
       let pn = zn ∙ ap (λ (m : ℕ). replicate m 0) hn ∙ sym (C .nodes) in
       let pe = ze ∙ ap (λ (m : ℕ). replicate m 0) he ∙ sym (C .edges) in
       let pa = za ∙ ap (λ (m : ℕ). replicate m 0) ha ∙ sym (C .alternatives) in
       record {
-        numbersAre = hk ∙ decided-numbers d (answer b (lengths before)) (S .given .decides);
+        numbersAre = hk ∙ decided-numbers d (answerFor v b (lengths before)) (S .given .decides);
         areasAre = λ i. record { nodes = pn i; edges = pe i; alternatives = pa i; elements = S .given .elementsAre i; links = S .given .linksAre i };
       }
 
 -- ---- the promise
 
-module _ (b : Bytes) (before : Areas) where
-  pub promised : (k : Numbers) (after : Areas) → Answered b before k after → Promise b before k after
-  promised k after A = subst₂ (λ (x : Numbers) (y : Areas). Promise b before x y) (sym (A .numbersAre)) (sym (A .areasAre)) (promise-kept b before)
+module _ (v b : Bytes) (before : Areas) where
+  pub promised : (k : Numbers) (after : Areas) → Answered v b before k after → PromiseFor v b before k after
+  promised k after A = subst₂ (λ (x : Numbers) (y : Areas). PromiseFor v b before x y) (sym (A .numbersAre)) (sym (A .areasAre)) (promise-kept v b before)
 
-  pub refused-answered : (n : ℕ) → reading b ≡ refused n → (k : Numbers) → k ≡ refusedWith n → Promise b before k before
+  pub refused-answered : (n : ℕ) → readingFor ruleKinds v b ≡ refused n → (k : Numbers) → k ≡ refusedWith n → PromiseFor v b before k before
   unfolding numbers areasAfter
   refused-answered n e k hk =
-      let q = answer-refused b (lengths before) n e in
+      let q = answer-refused v b (lengths before) n e in
       promised k before (record { numbersAre = hk ∙ sym (ap numbers q); areasAre = sym (ap (λ (x : Answer). areasAfter x before) q) })
+
+-- document 01's call is the one with the file's own wanted row, which a file that is too short does not have
+pub own-promised : {v b : Bytes} {before : Areas} {k : Numbers} {after : Areas} → (8 ≤ length b → v ≡ wantedRows b) → PromiseFor v b before k after → Promise b before k after
+unfolding answerFor
+own-promised {v} {b} {before} own P =
+    let same : answerFor v b (lengths before) ≡ answerFor (wantedRows b) b (lengths before) = ap (answerReading (lengths before)) (reading-own ruleKinds b own) in
+    promised (wantedRows b) b before _ _ (record {
+      numbersAre = P .numbersAre ∙ ap numbers same;
+      areasAre = P .areasAre ∙ ap (λ (a : Answer). areasAfter a before) same;
+    })

@@ -1,10 +1,12 @@
 -- What the functions of the engine's call ask and give; what the call itself promises is in run's Promise.
 --
--- In order: the numbers of a decision; the answer to an accepted file.
+-- In order: the numbers of a decision; the answer to an accepted file and the rows that are wanted of it.
 -- Assumes nothing.
 use mathlib.Core.Path.{_≡_}
+use mathlib.Core.List.{List}
+use Prim.Native.Nat.{ℕ}
 use Rattle.rulefile.specs.Format.{Bytes}
-use Rattle.run.specs.Run.{Areas, lengths, Numbers, verdictWith, shortWith, tooLongWith, numbers, answer, areasAfter}
+use Rattle.run.specs.Run.{Areas, lengths, Numbers, verdictWith, shortWith, tooLongWith, numbers, answerFor, areasAfter}
 use Rattle.graph.specs.Graphs.{areaOf}
 use Rattle.conclusion.specs.Contracts.{usedOf}
 use Rattle.conclusion.specs.declared.Decision.{Decision}
@@ -21,6 +23,6 @@ decidedNumbers (TooLong s) = tooLongWith (s .elements) (s .links)
 -- ---- the answer
 
 -- demands 1 and 2: the numbers and the areas are those of the definition
-pub record Answered (file : Bytes) (before : Areas) (r : Numbers) (after : Areas) : Type 0 where
-  pub numbersAre : r ≡ numbers (answer file (lengths before))
-  pub areasAre : after ≡ areasAfter (answer file (lengths before)) before
+pub record Answered (wanted : List ℕ) (file : Bytes) (before : Areas) (r : Numbers) (after : Areas) : Type 0 where
+  pub numbersAre : r ≡ numbers (answerFor wanted file (lengths before))
+  pub areasAre : after ≡ areasAfter (answerFor wanted file (lengths before)) before

@@ -1,16 +1,16 @@
-// The engine (00, demands 1 to 3; 02, [4]): a rule file and five lent areas in, the answer out. Through the C convention it is called in `gumbyra`.
+// The engine (00, demands 1 to 3; 02, [4] and [7]): a rule file, wanted rows and five lent areas in, the answer out. Through the C convention it is called in `gumbyra`.
 //
-// In order: the answer's numbers; an accepted file; every file; the text of a file.
+// In order: the answer's numbers; an accepted file; every file, with wanted rows that are given and with its own; the text of a file.
 ghost use mathlib.Core.Path.{_≡_};
 ghost use Prim.Native.Nat.{_≤_};
 ghost use Rattle.answers.specs.Numbers.{numbersOf};
 ghost use lib.ListN.{length, take};
 ghost use Rattle.rulefile.specs.Format.{textOf};
 ghost use Rattle.decoding.specs.Decoding.{ruleKinds};
-ghost use Rattle.rulefile.specs.Read.{Laid};
+ghost use Rattle.rulefile.specs.Read.{LaidFor};
 ghost use Rattle.words.specs.Sizes.{mostRecords};
 ghost use Rattle.run.specs.Run.{areasOf, verdictWith, refusedWith, shortRefusal, shortWith, tooLongWith};
-ghost use Rattle.run.specs.Promise.{Promise};
+ghost use Rattle.run.specs.Promise.{PromiseFor, Promise};
 ghost use Rattle.graph.specs.Graphs.{areaOf};
 ghost use Rattle.conclusion.specs.Contracts.{usedOf, SmallCounts, SmallSizes, Small};
 ghost use Rattle.engine.specs.Contracts.{decidedNumbers, Answered};
@@ -32,8 +32,9 @@ use problem::decode_file;
 use records::clear;
 use rulefile::Layout;
 use rulefile::Outcome;
-use rulefile::read;
+use rulefile::read_for;
 use rulefile::text;
+use rulefile::wanted_of;
 
 // A refusal: "Each gives its number and zeros elsewhere".
 fn refused(n: u32) -> Answer
@@ -133,24 +134,25 @@ fn answer_of(d: Decision) -> Answer
     }
 }
 
-// Decodes and decides an accepted file; then "every byte of all three is zero".
+// Decodes and decides a file that is accepted with these wanted rows; then "every byte of all three is zero".
 fn fit_accepted(
     file: &[u8],
     layout: Layout,
+    wanted: &[u8],
     nodes: &mut [u8],
     edges: &mut [u8],
     alternatives: &mut [u8],
     elements: &mut [u8],
     links: &mut [u8],
 ) -> Answer
-    requires { ⌜ Laid ruleKinds (now file) layout ⌝ }
-    ensures { λ r. ⌜ Answered (now (file .entry))
+    requires { ⌜ LaidFor ruleKinds (now wanted) (now file) layout ⌝ }
+    ensures { λ r. ⌜ Answered (now (wanted .entry)) (now (file .entry))
         (areasOf (now (nodes .entry)) (now (edges .entry)) (now (alternatives .entry)) (now (elements .entry)) (now (links .entry)))
         (numbersOf r)
         (areasOf (now (nodes .exit)) (now (edges .exit)) (now (alternatives .exit)) (now (elements .exit)) (now (links .exit))) ⌝ }
 {
     let mut words = [0u64; WORDS];
-    decode_file(file, layout, &mut words);
+    decode_file(file, layout, wanted, &mut words);
     let d = decide(&words, nodes, edges, alternatives, elements, links);
     clear(nodes);
     clear(edges);
@@ -158,7 +160,37 @@ fn fit_accepted(
     answer_of(d)
 }
 
-// Whether the kit that the rule file wants can exist. What is promised of the answer and of all five areas is `Promise`, for every file.
+// Whether a member of all the wanted rows can exist, in place of the file's own wanted row. What is promised of the answer and of all five areas is `PromiseFor`, for every file.
+pub fn fit_wanted(
+    file: &[u8],
+    wanted: &[u8],
+    nodes: &mut [u8],
+    edges: &mut [u8],
+    alternatives: &mut [u8],
+    elements: &mut [u8],
+    links: &mut [u8],
+) -> Answer
+    ensures { λ r. ⌜ PromiseFor (now (wanted .entry)) (now (file .entry))
+        (areasOf (now (nodes .entry)) (now (edges .entry)) (now (alternatives .entry)) (now (elements .entry)) (now (links .entry)))
+        (numbersOf r)
+        (areasOf (now (nodes .exit)) (now (edges .exit)) (now (alternatives .exit)) (now (elements .exit)) (now (links .exit))) ⌝ }
+{
+    match read_for(file, RULE_KINDS, wanted) {
+        Outcome::Refused(n) => refused(n as u32),
+        Outcome::Accepted(layout) => fit_accepted(
+            file,
+            layout,
+            wanted,
+            nodes,
+            edges,
+            alternatives,
+            elements,
+            links,
+        ),
+    }
+}
+
+// Whether the kit that the rule file wants can exist: the same with the file's own wanted row. What is promised is `Promise`, for every file.
 pub fn fit(
     file: &[u8],
     nodes: &mut [u8],
@@ -172,18 +204,7 @@ pub fn fit(
         (numbersOf r)
         (areasOf (now (nodes .exit)) (now (edges .exit)) (now (alternatives .exit)) (now (elements .exit)) (now (links .exit))) ⌝ }
 {
-    match read(file, RULE_KINDS) {
-        Outcome::Refused(n) => refused(n as u32),
-        Outcome::Accepted(layout) => fit_accepted(
-            file,
-            layout,
-            nodes,
-            edges,
-            alternatives,
-            elements,
-            links,
-        ),
-    }
+    fit_wanted(file, wanted_of(file), nodes, edges, alternatives, elements, links)
 }
 
 // How much of the file is its text, which is the part before the rows: nothing of a refused file. The text is so many bytes at the start of the file.

@@ -1,12 +1,12 @@
 // The calls of the archive, through the C convention: what each promises is what the function that it calls promises.
 //
-// In order: the engine's call; the text of a rule file; the converter's call.
+// In order: the engine's calls; the text of a rule file; the converter's call.
 ghost use mathlib.Core.Path.{_≡_};
 ghost use lib.ListN.{length, take};
 ghost use Rattle.decoding.specs.Decoding.{ruleKinds};
 ghost use Rattle.rulefile.specs.Format.{textOf};
 ghost use Rattle.run.specs.Run.{areasOf};
-ghost use Rattle.run.specs.Promise.{Promise};
+ghost use Rattle.run.specs.Promise.{PromiseFor, Promise};
 ghost use Rattle.answers.specs.Numbers.{numbersOf};
 ghost use Rattle.drafts.specs.Promise as Drafts;
 ghost use Rattle.converter.specs.Contracts as Converter;
@@ -29,6 +29,33 @@ pub extern "C" fn gumbyra_fit(
         (areasOf (now (nodes .exit)) (now (edges .exit)) (now (alternatives .exit)) (now (elements .exit)) (now (links .exit))) ⌝ }
 {
     engine::fit(file, nodes, edges, alternatives, elements, links)
+}
+
+// Whether a member of all the wanted rows can exist: `engine::fit_wanted`.
+#[no_mangle]
+pub extern "C" fn gumbyra_fit_wanted(
+    file: &[u8],
+    wanted: &[u8],
+    nodes: &mut [u8],
+    edges: &mut [u8],
+    alternatives: &mut [u8],
+    elements: &mut [u8],
+    links: &mut [u8],
+) -> Answer
+    ensures { λ r. ⌜ PromiseFor (now (wanted .entry)) (now (file .entry))
+        (areasOf (now (nodes .entry)) (now (edges .entry)) (now (alternatives .entry)) (now (elements .entry)) (now (links .entry)))
+        (numbersOf r)
+        (areasOf (now (nodes .exit)) (now (edges .exit)) (now (alternatives .exit)) (now (elements .exit)) (now (links .exit))) ⌝ }
+{
+    engine::fit_wanted(
+        file,
+        wanted,
+        nodes,
+        edges,
+        alternatives,
+        elements,
+        links,
+    )
 }
 
 // How much of the rule file is its text: `engine::text_length`.

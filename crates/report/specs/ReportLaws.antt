@@ -6,7 +6,7 @@ use mathlib.Core.Path.{_≡_, sym, ap, ap₂, subst, _∙_}
 use Prim.Native.Nat.{ℕ, _+_, _*_, _≤_}
 use native.Mathlib.Omega.{arith}
 use lib.ListN.{length}
-use Rattle.rulefile.specs.Format.{Bytes}
+use Rattle.rulefile.specs.Format.{Bytes, wantedRows}
 use Rattle.run.specs.Run.{Areas, Lengths, lengths, Numbers}
 use Rattle.run.specs.RunLaws.{Room, answer-room}
 use Rattle.run.specs.Promise.{Promise}
@@ -27,7 +27,7 @@ module _ {file : Bytes} {k : Numbers} {after : Areas} (P : Promise file programA
   -- ---- the room of an example
 
   verdict-room : k .verdict ≡ 1 → Room (lengths programAreas) k
-  verdict-room = subst (λ (n : Numbers). n .verdict ≡ 1 → Room (lengths programAreas) n) (sym (P .numbersAre)) (answer-room file (lengths programAreas))
+  verdict-room = subst (λ (n : Numbers). n .verdict ≡ 1 → Room (lengths programAreas) n) (sym (P .numbersAre)) (answer-room (wantedRows file) file (lengths programAreas))
 
   -- ---- the report
 

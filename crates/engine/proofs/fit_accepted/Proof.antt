@@ -14,7 +14,7 @@ abbrev the-words : tie.After-decide → tie.After-decode-file
 the-words c = c .before .before .before .before .before .before .before .before
 
 abbrev begun : tie.After-decode-file → tie.Start
-begun c = c .before .before .before .before .before .before .before .before
+begun c = c .before .before .before .before .before .before .before .before .before
 
 abbrev the-decision : tie.After-clear → tie.After-decide
 the-decision c = c .before .before .before .before .before .before .before .before .before .before .before .before
@@ -36,7 +36,7 @@ settled c = file-settled _ _ _ (c .decide .ensures)
 pub fit-accepted-spec : {M : Type 1} → statement M
 fit-accepted-spec =
     tie.close (tie.spec
-    -- decode_file(file, layout, &mut words)
+    -- decode_file(file, layout, wanted, &mut words)
     (λ c. search needs)
     (λ c κs. let s : tie.Start = search in (s .pre, fresh-zeros _ refl))
     -- decide(&words, ..)
