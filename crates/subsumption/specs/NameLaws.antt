@@ -1,7 +1,7 @@
 -- Laws of Names.
 --
 -- In order: the place of the first concept that passes, from a row on (`placeOf-drop`), and that it passes, if one does (`placeOf-passes`, `passes-placeOf`); a concept of a name;
--- a name is listed if and only if it has both rows (`names-positive`, `names-negative`, `mem-names`); a table row after row: its length, its entries, rows and columns that stand for others, more rows.
+-- a name is listed if and only if it has both rows (`names-positive`, `names-negative`, `mem-names`); a table row after row: length, entries, rows and columns that stand for others, more rows.
 -- Assumes nothing.
 use mathlib.Core.Path.{_≡_, refl, sym, ap, ap₂, _∙_, subst}
 use mathlib.Core.Bool.{Bool, true, false, _&&_, cond}
