@@ -1,0 +1,3 @@
+-- A catalogue: what its functions give (Contracts), and the ways through them.
+pub mod Contracts
+pub mod NameCases

@@ -1,0 +1,45 @@
+// The names that a catalogue lists (02, [7]).
+//
+// In order: the rows of the names; a name more; the names.
+ghost use mathlib.Core.Path.{_≡_};
+ghost use Prim.Native.Nat.{_+_, _<_};
+ghost use Rattle.problem.specs.Decoded.{tableOf, Decoded};
+ghost use Rattle.catalogue.specs.Contracts.{PlacesFrom};
+use crate::Listed;
+use problem::kind_at;
+use problem::left_at;
+use problem::row_count;
+
+// "name 0 to 63"
+const NAMES: usize = 64;
+
+// The kinds of a name's row and of its opposite.
+const NAME: usize = 1;
+
+const NOT_NAME: usize = 2;
+
+// A row is put down for its name, if it is of the kind.
+fn put_place(problem: &[u64], kind: usize, k: usize, places: &mut [u8])
+    requires { ⌜ Decoded (now problem) × PlacesFrom kind (tableOf (now problem)) (k + 1) (now places) ⌝ }
+    ensures { λ _. ⌜ PlacesFrom kind (tableOf (now (problem .entry))) k (now (places .exit)) ⌝ }
+{
+    if kind_at(problem, k) == kind {
+        places[left_at(problem, k)] = k as u8;
+    }
+}
+
+// At each name, its row of a kind; the number of rows if there is none. From the last row to the first, so that the first one stays.
+fn places(problem: &[u64], kind: usize) -> [u8; NAMES]
+    requires { ⌜ Decoded (now problem) ⌝ }
+    ensures { λ r. ⌜ PlacesFrom kind (tableOf (now (problem .entry))) 0 r ⌝ }
+{
+    let n = row_count(problem);
+    let none = n as u8;
+    let mut places = [none; NAMES];
+    let mut k = n;
+    while 0 < k {
+        k -= 1;
+        put_place(problem, kind, k, &mut places);
+    }
+    places
+}
