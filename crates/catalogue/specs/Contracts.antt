@@ -46,5 +46,14 @@ pub record Lists (t : Table) (names : List ℕ) (l : Listed) : Type 0 where
   pub names-are : l .names ≡ fromList names
   pub count-is : l .count ≡ length names
   pub few : l .count ≤ 64
+  pub longs : (length (l .positives) ≡ 64) × (length (l .negatives) ≡ 64)
   pub positives-are : take (l .count) (l .positives) ≡ map (positive t) names
   pub negatives-are : take (l .count) (l .negatives) ≡ map (negative t) names
+
+-- what is asked to list one name more, or to pass it over: all names below it are listed, and these are its rows
+pub record NameAsks (ws : List ℕ) (a p n : ℕ) (l : Listed) : Type 0 where
+  pub decoded : Decoded ws
+  pub below : a < 64
+  pub positive-is : p ≡ positive (tableOf ws) a
+  pub negative-is : n ≡ negative (tableOf ws) a
+  pub lists : Lists (tableOf ws) (namesBelow (tableOf ws) a) l

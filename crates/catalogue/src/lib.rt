@@ -3,6 +3,8 @@
 // In order: the names that are listed; what a run says that wants two rows; such answers in a row, and row after row. How the names are listed is in names.rt.
 pub mod names;
 
+pub use names::listed;
+
 // The names with both a kind 1 and a kind 2 row: name n as bit n, how many they are, and their rows in the order of names.
 pub struct Listed {
     pub names: u64,

@@ -4,11 +4,14 @@
 ghost use mathlib.Core.Path.{_≡_};
 ghost use Prim.Native.Nat.{_+_, _<_};
 ghost use Rattle.problem.specs.Decoded.{tableOf, Decoded};
-ghost use Rattle.catalogue.specs.Contracts.{PlacesFrom};
+ghost use Rattle.subsumption.specs.Names.{names};
+ghost use Rattle.catalogue.specs.Contracts.{PlacesFrom, namesBelow, Lists, NameAsks};
 use crate::Listed;
 use problem::kind_at;
 use problem::left_at;
 use problem::row_count;
+use rowset::RowSet;
+use rowset::insert;
 
 // "name 0 to 63"
 const NAMES: usize = 64;
@@ -42,4 +45,51 @@ fn places(problem: &[u64], kind: usize) -> [u8; NAMES]
         put_place(problem, kind, k, &mut places);
     }
     places
+}
+
+// A name is listed, if it has both rows.
+fn with_name(problem: &[u64], list: Listed, name: usize, positive: u8, negative: u8) -> Listed
+    requires { ⌜ NameAsks (now problem) name positive negative list ⌝ }
+    ensures { λ r. ⌜ Lists (tableOf (now (problem .entry))) (namesBelow (tableOf (now (problem .entry))) (name + 1)) r ⌝ }
+{
+    let n = row_count(problem);
+    if n <= positive as usize {
+        return list;
+    }
+    if n <= negative as usize {
+        return list;
+    }
+    let count = list.count;
+    let mut positives = list.positives;
+    let mut negatives = list.negatives;
+    positives[count] = positive;
+    negatives[count] = negative;
+    let set = insert(RowSet { bits: list.names }, name);
+    Listed {
+        names: set.bits,
+        count: count + 1,
+        positives,
+        negatives,
+    }
+}
+
+// The names with both a kind 1 and a kind 2 row.
+pub fn listed(problem: &[u64]) -> Listed
+    requires { ⌜ Decoded (now problem) ⌝ }
+    ensures { λ r. ⌜ Lists (tableOf (now (problem .entry))) (names (tableOf (now (problem .entry)))) r ⌝ }
+{
+    let positives = places(problem, NAME);
+    let negatives = places(problem, NOT_NAME);
+    let mut list = Listed {
+        names: 0,
+        count: 0,
+        positives: [0; NAMES],
+        negatives: [0; NAMES],
+    };
+    let mut name: usize = 0;
+    while name < NAMES {
+        list = with_name(problem, list, name, positives[name], negatives[name]);
+        name += 1;
+    }
+    list
 }
