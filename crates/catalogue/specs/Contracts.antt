@@ -1,10 +1,10 @@
 -- What the functions of a catalogue ask and give (02, [7]): which rows the names have, what a run says that wants two rows, and these answers row after row.
 --
--- In order: the rows of the names; the names; the same rows, whatever is wanted; an entry; a row of entries; all rows. Laws are in NameCases, EntryCases and FillCases.
+-- In order: the rows of the names; the names; the same rows, whatever is wanted; an entry; a row of entries; all rows; how far a loop has come. Laws are in NameCases, EntryCases and FillCases.
 -- Assumes nothing.
 use mathlib.Core.Path.{_≡_}
 use mathlib.Core.Bool.{cond}
-use mathlib.Core.List.{List, [], _∷_, map}
+use mathlib.Core.List.{List, [], _∷_, map, List·Memᴰ}
 use mathlib.Core.Option.{Option, none, some}
 use Prim.Native.Nat.{ℕ, _+_, _*_, _≤_, _<_}
 use lib.Dec.{eqb}
@@ -19,6 +19,7 @@ use Rattle.decoding.specs.RowParts.{kindOf, leftOf}
 use Rattle.words.specs.Words.{overwrite}
 use Rattle.problem.specs.Decoded.{tableOf, rulesOf, problemOf, Decoded}
 use Rattle.problem.specs.Want.{MayServe}
+use Rattle.graph.specs.Graphs.{Work, Sized}
 use Rattle.conclusion.specs.Contracts.{goodRoot}
 use Rattle.subsumption.specs.Names.{placeOf, ofName, positive, negative, hasBoth, rowAfterRow}
 use Rattle.catalogue.specs.declared.Listed.{Listed}
@@ -57,3 +58,74 @@ pub record NameAsks (ws : List ℕ) (a p n : ℕ) (l : Listed) : Type 0 where
   pub positive-is : p ≡ positive (tableOf ws) a
   pub negative-is : n ≡ negative (tableOf ws) a
   pub lists : Lists (tableOf ws) (namesBelow (tableOf ws) a) l
+
+-- ---- the same rows, whatever is wanted
+
+-- the words v stand for the same rows and rules as w
+pub record SameRows (w v : List ℕ) : Type 0 where
+  pub decoded : Decoded v
+  pub table-is : tableOf v ≡ tableOf w
+  pub rules-are : rulesOf v ≡ rulesOf w
+
+-- ---- an entry
+
+-- by the result of a run: "1 if an a that isn't a b cannot exist, 0 if it can, 2 if the work areas didn't suffice"; fuel never runs out
+unfoldable pub entryResult : Result → ℕ
+entryResult (noPlace a) = 2
+entryResult (reached g) = cond (goodRoot (nodeAt g 0 .status)) 0 1
+entryResult outOfFuel = 3
+
+-- the problem with these two rows wanted together
+abbrev pub wanting : Problem → ℕ → ℕ → Problem
+wanting P p q = record { table = P .table; rules = P .rules; wanted = fromList (p ∷ q ∷ []); opposed = P .opposed; narrower = P .narrower }
+
+-- what a run says that wants rows p and q
+abbrev pub ranEntry : List ℕ → Capacity → ℕ → ℕ → ℕ
+ranEntry ws c p q = entryResult (run (wanting (problemOf ws) p q) c)
+
+pub record EntryAsks (ws : List ℕ) (p q : ℕ) : Type 0 where
+  pub decoded : Decoded ws
+  pub positive : MayServe (tableOf ws) p
+  pub negative : MayServe (tableOf ws) q
+
+pub record EntryGives (ws : List ℕ) (c : Capacity) (p q r : ℕ) (ws′ : List ℕ) : Type 0 where
+  pub entry-is : r ≡ ranEntry ws c p q
+  pub same : SameRows ws ws′
+
+-- ---- a row of entries
+
+abbrev pub AllServe : Table → List ℕ → Type 0
+AllServe t rows = (k : ℕ) → List·Memᴰ k rows → MayServe t k
+
+pub record RowAsks (ws : List ℕ) (p : ℕ) (negatives row : List ℕ) : Type 0 where
+  pub decoded : Decoded ws
+  pub positive : MayServe (tableOf ws) p
+  pub negative : AllServe (tableOf ws) negatives
+  pub room : length negatives ≤ length row
+
+pub record RowGives (ws : List ℕ) (c : Capacity) (p : ℕ) (negatives row ws′ row′ : List ℕ) : Type 0 where
+  pub row-is : row′ ≡ overwrite (map (ranEntry ws c p) negatives) row
+  pub same : SameRows ws ws′
+
+-- ---- all rows
+
+pub record FillAsks (ws positives negatives table : List ℕ) : Type 0 where
+  pub decoded : Decoded ws
+  pub positive : AllServe (tableOf ws) positives
+  pub negative : AllServe (tableOf ws) negatives
+  pub few : (length positives ≤ 64) × (length negatives ≤ 64)
+  pub room : length positives * length negatives ≤ length table
+
+pub record FillGives (ws : List ℕ) (c : Capacity) (positives negatives table ws′ table′ : List ℕ) : Type 0 where
+  pub table-is : table′ ≡ overwrite (rowAfterRow (ranEntry ws c) positives negatives) table
+  pub same : SameRows ws ws′
+
+-- ---- how far a loop has come
+
+-- i of so many pieces are written, where `upTo i` are the entries of the first i, and the work areas are as long as before
+pub record Written (upTo : ℕ → List ℕ) (count : ℕ) (ws : List ℕ) (w : Work) (area : List ℕ) (i : ℕ) (ws′ : List ℕ) (w′ : Work) (area′ : List ℕ) : Type 0 where
+  pub within : i ≤ count
+  pub words : length ws′ ≡ length ws
+  pub sized : Sized w w′
+  pub same : SameRows ws ws′
+  pub here : area′ ≡ overwrite (upTo i) area

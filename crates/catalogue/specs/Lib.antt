@@ -1,3 +1,4 @@
 -- A catalogue: what its functions give (Contracts), and the ways through them.
 pub mod Contracts
 pub mod NameCases
+pub mod EntryCases

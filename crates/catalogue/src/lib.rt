@@ -1,9 +1,21 @@
 // Which names are under which (02, [7]): a run for each pair of names.
 //
 // In order: the names that are listed; what a run says that wants two rows; such answers in a row, and row after row. How the names are listed is in names.rt.
-pub mod names;
+ghost use mathlib.Core.Path.{_≡_};
+ghost use mathlib.Core.List.{[], _∷_};
+ghost use Prim.Native.Nat.{_<_};
+ghost use Rattle.concepts.specs.RowSet.{fromList};
+ghost use Rattle.rowset.specs.Value.{valueOf, width};
+ghost use Rattle.graph.specs.Graphs.{work, capacityOf};
+ghost use Rattle.catalogue.specs.Contracts.{EntryAsks, EntryGives};
+use conclusion::Verdict;
+use conclusion::verdict_of;
+use problem::want;
+use rowset::RowSet;
+use rowset::empty;
+use rowset::insert;
 
-pub use names::listed;
+pub mod names;
 
 // The names with both a kind 1 and a kind 2 row: name n as bit n, how many they are, and their rows in the order of names.
 pub struct Listed {
@@ -11,4 +23,41 @@ pub struct Listed {
     pub count: usize,
     pub positives: [u8; 64],
     pub negatives: [u8; 64],
+}
+
+// "1 if an a that isn't a b cannot exist, 0 if it can, 2 if the work areas didn't suffice".
+const UNDER: u8 = 1;
+
+const NOT_UNDER: u8 = 0;
+
+const SHORT: u8 = 2;
+
+// The set of two rows.
+fn both(first: u8, second: u8) -> RowSet
+    requires { ⌜ (first < width) × (second < width) ⌝ }
+    ensures { λ r. ⌜ valueOf r ≡ fromList (first ∷ second ∷ []) ⌝ }
+{
+    let one = insert(empty(), second as usize);
+    insert(one, first as usize)
+}
+
+// What a run says that wants a name's kind 1 row and another name's kind 2 row. The work areas are left as the run left them.
+fn entry(
+    problem: &mut [u64],
+    positive: u8,
+    negative: u8,
+    nodes: &mut [u8],
+    edges: &mut [u8],
+    alternatives: &mut [u8],
+) -> u8
+    requires { ⌜ EntryAsks (now problem) positive negative ⌝ }
+    ensures { λ r. ⌜ EntryGives (now (problem .entry)) (capacityOf (work (now (nodes .entry)) (now (edges .entry)) (now (alternatives .entry)))) positive negative
+        r (now (problem .exit)) ⌝ }
+{
+    want(problem, both(positive, negative));
+    match verdict_of(problem, nodes, edges, alternatives) {
+        Verdict::Short(_) => SHORT,
+        Verdict::Cannot(_) => UNDER,
+        Verdict::Can(_) => NOT_UNDER,
+    }
 }
