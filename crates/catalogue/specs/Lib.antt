@@ -2,3 +2,4 @@
 pub mod Contracts
 pub mod NameCases
 pub mod EntryCases
+pub mod FillCases

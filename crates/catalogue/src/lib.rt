@@ -7,7 +7,7 @@ ghost use Prim.Native.Nat.{_<_};
 ghost use Rattle.concepts.specs.RowSet.{fromList};
 ghost use Rattle.rowset.specs.Value.{valueOf, width};
 ghost use Rattle.graph.specs.Graphs.{work, capacityOf};
-ghost use Rattle.catalogue.specs.Contracts.{EntryAsks, EntryGives};
+ghost use Rattle.catalogue.specs.Contracts.{EntryAsks, EntryGives, RowAsks, RowGives, FillAsks, FillGives};
 use conclusion::Verdict;
 use conclusion::verdict_of;
 use problem::want;
@@ -59,5 +59,56 @@ fn entry(
         Verdict::Short(_) => SHORT,
         Verdict::Cannot(_) => UNDER,
         Verdict::Can(_) => NOT_UNDER,
+    }
+}
+
+// A name's row of the table: its kind 1 row with each kind 2 row.
+fn fill_row(
+    problem: &mut [u64],
+    positive: u8,
+    negatives: &[u8],
+    nodes: &mut [u8],
+    edges: &mut [u8],
+    alternatives: &mut [u8],
+    row: &mut [u8],
+)
+    requires { ⌜ RowAsks (now problem) positive (now negatives) (now row) ⌝ }
+    ensures { λ _. ⌜ RowGives (now (problem .entry)) (capacityOf (work (now (nodes .entry)) (now (edges .entry)) (now (alternatives .entry)))) positive (now (negatives .entry))
+        (now (row .entry)) (now (problem .exit)) (now (row .exit)) ⌝ }
+{
+    let mut j: usize = 0;
+    while j < negatives.len() {
+        row[j] = entry(problem, positive, negatives[j], nodes, edges, alternatives);
+        j += 1;
+    }
+}
+
+// The table, "row after row".
+pub fn fill(
+    problem: &mut [u64],
+    positives: &[u8],
+    negatives: &[u8],
+    nodes: &mut [u8],
+    edges: &mut [u8],
+    alternatives: &mut [u8],
+    table: &mut [u8],
+)
+    requires { ⌜ FillAsks (now problem) (now positives) (now negatives) (now table) ⌝ }
+    ensures { λ _. ⌜ FillGives (now (problem .entry)) (capacityOf (work (now (nodes .entry)) (now (edges .entry)) (now (alternatives .entry))))
+        (now (positives .entry)) (now (negatives .entry)) (now (table .entry)) (now (problem .exit)) (now (table .exit)) ⌝ }
+{
+    let mut i: usize = 0;
+    while i < positives.len() {
+        let at = i * negatives.len();
+        fill_row(
+            problem,
+            positives[i],
+            negatives,
+            nodes,
+            edges,
+            alternatives,
+            &mut table[at..],
+        );
+        i += 1;
     }
 }

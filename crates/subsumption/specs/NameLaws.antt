@@ -5,7 +5,7 @@
 -- Assumes nothing.
 use mathlib.Core.Path.{_≡_, refl, sym, ap, ap₂, _∙_, subst}
 use mathlib.Core.Bool.{Bool, true, false, _&&_, cond}
-use mathlib.Core.List.{List, [], _∷_, _++_, map, map-map, append-assoc, List·Memᴰ}
+use mathlib.Core.List.{List, [], _∷_, _++_, map, map-map, append-nil, append-assoc, List·Memᴰ}
 use mathlib.Core.Option.{Option, none, some}
 use Prim.Native.Nat.{ℕ, zero, suc, _+_, _*_, _≤_, _<_}
 use native.Mathlib.Nat.{zero-mul, suc-mul}
@@ -142,6 +142,10 @@ module _ (g : ℕ → ℕ → ℕ) where
   unfolding rowAfterRow
   rowAfterRow-map f h [] ys = refl
   rowAfterRow-map f h (x ∷ xs) ys = ap₂ (λ (l r : List ℕ). l ++ r) (map-map (g (f x)) h ys) (rowAfterRow-map f h xs ys)
+
+  pub rowAfterRow-one : (x : ℕ) (columns : List ℕ) → rowAfterRow g (x ∷ []) columns ≡ map (g x) columns
+  unfolding rowAfterRow
+  rowAfterRow-one x columns = append-nil (map (g x) columns)
 
   -- more rows
   pub rowAfterRow-append : (xs zs columns : List ℕ) → rowAfterRow g (xs ++ zs) columns ≡ rowAfterRow g xs columns ++ rowAfterRow g zs columns
