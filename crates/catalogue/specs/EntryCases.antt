@@ -2,8 +2,8 @@
 --
 -- In order: the two rows, which may be wanted; the entry by the verdict of the run.
 -- Assumes nothing.
-use mathlib.Core.Path.{_≡_, refl, sym, ap, _∙_}
-use mathlib.Core.Bool.{Bool, true, false, cond}
+use mathlib.Core.Path.{_≡_, sym, ap, _∙_}
+use mathlib.Core.Bool.{Bool, cond}
 use mathlib.Core.List.{List, [], _∷_, List·Memᴰ, List·Memᴰ·cases-cons, List·Memᴰ·eq-of-singleton}
 use mathlib.Core.Logic.{inl, inr}
 use Prim.Native.Nat.{ℕ, _<_}
@@ -11,19 +11,18 @@ use native.Mathlib.Omega.{arith}
 use lib.Dec.{T}
 use Rattle.concepts.specs.RowSet.{RowSet, mem, empty, insert, fromList}
 use Rattle.concepts.specs.RowSetLaws.{fromList-mem}
-use Rattle.procedure.specs.Graph.{nodeAt}
 use Rattle.procedure.specs.Tableau.{run}
 use Rattle.problem.specs.Decoded.{tableOf, problemOf, Decoded}
 use Rattle.problem.specs.DecodedLaws.{length-tableOf}
 use Rattle.problem.specs.Want.{MayServe, Wants}
-use Rattle.graph.specs.Graphs.{Work, graphOf, capacityOf}
+use Rattle.graph.specs.Graphs.{Work, capacityOf}
 use Rattle.graph.specs.declared.Counts.{Counts}
 use Rattle.graph.specs.declared.Area.{Area}
-use Rattle.conclusion.specs.Contracts.{goodRoot, VerdictGives}
+use Rattle.conclusion.specs.Contracts.{VerdictGives}
 use Rattle.conclusion.specs.VerdictCases.{was-short, was-cannot, was-can}
 use Rattle.conclusion.specs.declared.Verdict.{Verdict}
 use Rattle.conclusion.specs.declared.Verdict.the-variants as Is
-use Rattle.catalogue.specs.Contracts.{SameRows, entryResult, wanting, ranEntry, EntryAsks, EntryGives}
+use Rattle.catalogue.specs.Contracts.{entryResult, wanting, EntryAsks, EntryGives}
 
 -- ---- the two rows
 

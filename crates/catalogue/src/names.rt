@@ -1,7 +1,6 @@
 // The names that a catalogue lists (02, [7]).
 //
 // In order: the rows of the names; a name more; the names.
-ghost use mathlib.Core.Path.{_≡_};
 ghost use Prim.Native.Nat.{_+_, _<_};
 ghost use Rattle.problem.specs.Decoded.{tableOf, Decoded};
 ghost use Rattle.subsumption.specs.Names.{names};

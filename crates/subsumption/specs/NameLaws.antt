@@ -4,17 +4,17 @@
 -- a name is listed if and only if it has both rows (`names-positive`, `names-negative`, `mem-names`); a table row after row: length, entries, rows and columns that stand for others, more rows.
 -- Assumes nothing.
 use mathlib.Core.Path.{_≡_, refl, sym, ap, ap₂, _∙_, subst}
-use mathlib.Core.Bool.{Bool, true, false, _&&_, cond}
+use mathlib.Core.Bool.{Bool, true, false, cond}
 use mathlib.Core.List.{List, [], _∷_, _++_, map, map-map, append-nil, append-assoc, List·Memᴰ}
 use mathlib.Core.Option.{Option, none, some}
 use Prim.Native.Nat.{ℕ, zero, suc, _+_, _*_, _≤_, _<_}
 use native.Mathlib.Nat.{zero-mul, suc-mul}
 use native.Mathlib.Omega.{arith}
-use lib.Dec.{T, eqb, ltb, eqb→eq, eqb-refl, ltb→lt, lt→ltb}
+use lib.Dec.{T, ltb, eqb→eq, eqb-refl, ltb→lt, lt→ltb}
 use lib.ListN.{length, getD, drop, length-append, length-map, List·getD-append}
 use lib.Seq.{drop-cons, getD-append-add}
 use Rattle.concepts.specs.Tests.{and-both, and-make, from-true}
-use Rattle.concepts.specs.Lists.{range, select}
+use Rattle.concepts.specs.Lists.{range}
 use Rattle.concepts.specs.ListLaws.{select-mem, mem-select, mem-range, range-mem, getD-map}
 use Rattle.concepts.specs.Concept.{Concept, atomic, negated, asAtomic, asNegated, Table, conceptAt}
 use Rattle.concepts.specs.ConceptLaws.{asAtomic-some, asNegated-some}

@@ -4,7 +4,6 @@ use mathlib.Core.Path.{refl}
 use Prim.Native.Nat.{_-_, _≤_}
 use borrow.Author.Needs.{needs}
 use native.Mathlib.Omega.{arith}
-use lib.ListN.{length-replicate}
 use Rattle.problem.specs.Decoded.{tableOf}
 use Rattle.catalogue.specs.Contracts.{namesBelow, Lists}
 use Rattle.catalogue.specs.NameCases.{places-positive, places-negative, lists-none, names-listed}
