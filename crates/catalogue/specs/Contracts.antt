@@ -1,6 +1,7 @@
 -- What the functions of a catalogue ask and give (02, [7]): which rows the names have, what a run says that wants two rows, and these answers row after row.
 --
--- In order: the rows of the names; the names; the same rows, whatever is wanted; an entry; a row of entries; all rows; how far a loop has come. Laws are in NameCases, EntryCases and FillCases.
+-- In order: the rows of the names; the names; the same rows, whatever is wanted; an entry; a row of entries; all rows; how far a loop has come.
+-- Laws are in NameCases, EntryCases, FillCases and ListedLaws.
 -- Assumes nothing.
 use mathlib.Core.Path.{_≡_}
 use mathlib.Core.Bool.{cond}
