@@ -17,13 +17,16 @@ use Rattle.procedure.specs.Problem.{Problem}
 use Rattle.procedure.specs.Graph.{Capacity, Result, reached, noPlace, outOfFuel, nodeAt}
 use Rattle.procedure.specs.Tableau.{run}
 use Rattle.decoding.specs.RowParts.{kindOf, leftOf}
+use Rattle.rulefile.specs.Format.{Bytes}
 use Rattle.words.specs.Words.{overwrite}
 use Rattle.problem.specs.Decoded.{tableOf, rulesOf, problemOf, Decoded}
 use Rattle.problem.specs.Want.{MayServe}
 use Rattle.graph.specs.Graphs.{Work, Sized}
 use Rattle.conclusion.specs.Contracts.{goodRoot}
 use Rattle.subsumption.specs.Names.{placeOf, ofName, positive, negative, hasBoth, rowAfterRow}
+use Rattle.subsumption.specs.Catalogue.{Areas, lent, catalogue, Numbers, numbers, areasAfter}
 use Rattle.catalogue.specs.declared.Listed.{Listed}
+use Rattle.catalogue.specs.declared.Page.{Page}
 
 -- ---- the rows of the names
 
@@ -77,12 +80,12 @@ entryResult (reached g) = cond (goodRoot (nodeAt g 0 .status)) 0 1
 entryResult outOfFuel = 3
 
 -- the problem with these two rows wanted together
-abbrev pub wanting : Problem → ℕ → ℕ → Problem
-wanting P p q = record { table = P .table; rules = P .rules; wanted = fromList (p ∷ q ∷ []); opposed = P .opposed; narrower = P .narrower }
+abbrev pub wantingBoth : Problem → ℕ → ℕ → Problem
+wantingBoth P p q = record { table = P .table; rules = P .rules; wanted = fromList (p ∷ q ∷ []); opposed = P .opposed; narrower = P .narrower }
 
 -- what a run says that wants rows p and q
 abbrev pub ranEntry : List ℕ → Capacity → ℕ → ℕ → ℕ
-ranEntry ws c p q = entryResult (run (wanting (problemOf ws) p q) c)
+ranEntry ws c p q = entryResult (run (wantingBoth (problemOf ws) p q) c)
 
 pub record EntryAsks (ws : List ℕ) (p q : ℕ) : Type 0 where
   pub decoded : Decoded ws
@@ -130,3 +133,14 @@ pub record Written (upTo : ℕ → List ℕ) (count : ℕ) (ws : List ℕ) (w : 
   pub sized : Sized w w′
   pub same : SameRows ws ws′
   pub here : area′ ≡ overwrite (upTo i) area
+
+-- ---- the answer
+
+-- the numbers that the call gives back
+abbrev pub numbersOf : Page → Numbers
+numbersOf p = record { refusal = p .refusal; count = p .count; names = p .names }
+
+-- an accepted file: the numbers and the areas are those of the definition
+pub record Answered (file : Bytes) (before : Areas) (r : Numbers) (after : Areas) : Type 0 where
+  pub numbersAre : r ≡ numbers (catalogue file (lent before) (length (before .table)))
+  pub areasAre : after ≡ areasAfter (catalogue file (lent before) (length (before .table))) before

@@ -22,7 +22,7 @@ use Rattle.conclusion.specs.Contracts.{VerdictGives}
 use Rattle.conclusion.specs.VerdictCases.{was-short, was-cannot, was-can}
 use Rattle.conclusion.specs.declared.Verdict.{Verdict}
 use Rattle.conclusion.specs.declared.Verdict.the-variants as Is
-use Rattle.catalogue.specs.Contracts.{entryResult, wanting, EntryAsks, EntryGives}
+use Rattle.catalogue.specs.Contracts.{entryResult, wantingBoth, EntryAsks, EntryGives}
 
 -- ---- the two rows
 
@@ -45,7 +45,7 @@ both-serve {ws} {p} {q} A e k m = of-both (fromList-mem k (p ∷ q ∷ []) (rw e
 -- ---- the entry
 
 module _ {ws : List ℕ} (p q : ℕ) {s : RowSet} {v : List ℕ} (e : s ≡ fromList (p ∷ q ∷ [])) (W : Wants ws s v) {w : Work} {r : Verdict} {w′ : Work} (G : VerdictGives v w r w′) where
-  wanted-problem : problemOf v ≡ wanting (problemOf ws) p q
+  wanted-problem : problemOf v ≡ wantingBoth (problemOf ws) p q
   wanted-problem = rw (W .table-is, W .rules-are, W .wanted-are, e)
 
   gives : {x : ℕ} → x ≡ entryResult (run (problemOf v) (capacityOf w)) → EntryGives ws (capacityOf w) p q x v

@@ -4,3 +4,4 @@ pub mod NameCases
 pub mod EntryCases
 pub mod FillCases
 pub mod ListedLaws
+pub mod PageCases

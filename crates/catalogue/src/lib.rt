@@ -1,19 +1,33 @@
-// Which names are under which (02, [7]): a run for each pair of names.
+// The catalogue of names (02, [7]): which names are under which, by a run for each pair of names.
 //
-// In order: the names that are listed; what a run says that wants two rows; such answers in a row, and row after row. How the names are listed is in names.rt.
+// In order: the names that are listed; the answer; what a run says that wants two rows; such answers in a row, and row after row; an accepted file; every file.
+// How the names are listed is in names.rt. Through the C convention the call is in `gumbyra`.
 ghost use mathlib.Core.Path.{_≡_};
 ghost use mathlib.Core.List.{[], _∷_};
 ghost use Prim.Native.Nat.{_<_};
 ghost use Rattle.concepts.specs.RowSet.{fromList};
 ghost use Rattle.rowset.specs.Value.{valueOf, width};
 ghost use Rattle.graph.specs.Graphs.{work, capacityOf};
-ghost use Rattle.catalogue.specs.Contracts.{EntryAsks, EntryGives, RowAsks, RowGives, FillAsks, FillGives};
+ghost use Rattle.decoding.specs.Decoding.{ruleKinds};
+ghost use Rattle.rulefile.specs.Read.{Laid};
+ghost use Rattle.subsumption.specs.Catalogue.{areasOf};
+ghost use Rattle.subsumption.specs.Promise.{Promise};
+ghost use Rattle.catalogue.specs.Contracts.{EntryAsks, EntryGives, RowAsks, RowGives, FillAsks, FillGives, numbersOf, Answered};
 use conclusion::Verdict;
 use conclusion::verdict_of;
+use decoding::RULE_KINDS;
+use names::listed;
+use problem::WORDS;
+use problem::decode_file;
 use problem::want;
+use records::clear;
 use rowset::RowSet;
 use rowset::empty;
 use rowset::insert;
+use rulefile::Layout;
+use rulefile::Outcome;
+use rulefile::read;
+use rulefile::wanted_of;
 
 pub mod names;
 
@@ -24,6 +38,17 @@ pub struct Listed {
     pub positives: [u8; 64],
     pub negatives: [u8; 64],
 }
+
+// The answer: a refusal, or 0 if the table is filled; how many names are listed, and which, name n as bit n: also with refusal 17, and 0 with any other.
+#[repr(C)]
+pub struct Page {
+    pub refusal: u32,
+    pub count: u32,
+    pub names: u64,
+}
+
+// "Refusal 17 .. is given if the area is shorter than the square".
+const TABLE_SHORT: u32 = 17;
 
 // "1 if an a that isn't a b cannot exist, 0 if it can, 2 if the work areas didn't suffice".
 const UNDER: u8 = 1;
@@ -110,5 +135,83 @@ pub fn fill(
             &mut table[at..],
         );
         i += 1;
+    }
+}
+
+// Decodes an accepted file and lists its names. The table is filled if it has room, and then the work areas "end all zero".
+fn classify_accepted(
+    file: &[u8],
+    layout: Layout,
+    nodes: &mut [u8],
+    edges: &mut [u8],
+    alternatives: &mut [u8],
+    table: &mut [u8],
+) -> Page
+    requires { ⌜ Laid ruleKinds (now file) layout ⌝ }
+    ensures { λ r. ⌜ Answered (now (file .entry))
+        (areasOf (now (nodes .entry)) (now (edges .entry)) (now (alternatives .entry)) (now (table .entry)))
+        (numbersOf r)
+        (areasOf (now (nodes .exit)) (now (edges .exit)) (now (alternatives .exit)) (now (table .exit))) ⌝ }
+{
+    let mut words = [0u64; WORDS];
+    decode_file(file, layout, wanted_of(file), &mut words);
+    let list = listed(&words);
+    let count = list.count;
+    let names = list.names;
+    if table.len() < count * count {
+        return Page {
+            refusal: TABLE_SHORT,
+            count: count as u32,
+            names,
+        };
+    }
+    let positives = list.positives;
+    let negatives = list.negatives;
+    fill(
+        &mut words,
+        &positives[0..count],
+        &negatives[0..count],
+        nodes,
+        edges,
+        alternatives,
+        table,
+    );
+    clear(nodes);
+    clear(edges);
+    clear(alternatives);
+    Page {
+        refusal: 0,
+        count: count as u32,
+        names,
+    }
+}
+
+// Which names are under which, written into the table. What is promised of the answer and of all four areas is `Promise`, for every file.
+pub fn classify(
+    file: &[u8],
+    nodes: &mut [u8],
+    edges: &mut [u8],
+    alternatives: &mut [u8],
+    table: &mut [u8],
+) -> Page
+    ensures { λ r. ⌜ Promise (now (file .entry))
+        (areasOf (now (nodes .entry)) (now (edges .entry)) (now (alternatives .entry)) (now (table .entry)))
+        (numbersOf r)
+        (areasOf (now (nodes .exit)) (now (edges .exit)) (now (alternatives .exit)) (now (table .exit))) ⌝ }
+{
+    match read(file, RULE_KINDS) {
+        Outcome::Refused(n) => Page {
+            refusal: n as u32,
+            count: 0,
+            names: 0,
+        },
+        Outcome::Accepted(layout) => classify_accepted(
+            file,
+            layout,
+            nodes,
+            edges,
+            alternatives,
+            table,
+        ),
     }
 }

@@ -5,7 +5,7 @@
 -- Assumes nothing.
 use mathlib.Core.Path.{_≡_, refl, sym, ap, ap₂, _∙_, subst}
 use mathlib.Core.Bool.{Bool, true, false, cond}
-use mathlib.Core.List.{List, [], _∷_, _++_, map, map-map, append-nil, append-assoc, List·Memᴰ}
+use mathlib.Core.List.{List, [], _∷_, _++_, map, map-map, append-nil, append-assoc, List·Memᴰ, List·Memᴰ·head, List·Memᴰ·tail}
 use mathlib.Core.Option.{Option, none, some}
 use Prim.Native.Nat.{ℕ, zero, suc, _+_, _*_, _≤_, _<_}
 use native.Mathlib.Nat.{zero-mul, suc-mul}
@@ -15,7 +15,7 @@ use lib.ListN.{length, getD, drop, length-append, length-map, List·getD-append}
 use lib.Seq.{drop-cons, getD-append-add}
 use Rattle.concepts.specs.Tests.{and-both, and-make, from-true}
 use Rattle.concepts.specs.Lists.{range}
-use Rattle.concepts.specs.ListLaws.{select-mem, mem-select, mem-range, range-mem, getD-map}
+use Rattle.concepts.specs.ListLaws.{select-mem, mem-select, mem-range, range-mem, getD-map, map-same}
 use Rattle.concepts.specs.Concept.{Concept, atomic, negated, asAtomic, asNegated, Table, conceptAt}
 use Rattle.concepts.specs.ConceptLaws.{asAtomic-some, asNegated-some}
 use Rattle.procedure.specs.Problem.{sameName}
@@ -154,3 +154,11 @@ module _ (g : ℕ → ℕ → ℕ) where
   rowAfterRow-append (x ∷ xs) zs columns =
       ap (λ (l : List ℕ). map (g x) columns ++ l) (rowAfterRow-append xs zs columns)
       ∙ sym (append-assoc (map (g x) columns) (rowAfterRow g xs columns) (rowAfterRow g zs columns))
+
+-- entries that are the same of all rows and columns
+pub rowAfterRow-same : (g h : ℕ → ℕ → ℕ) (rows columns : List ℕ) → ((a b : ℕ) → List·Memᴰ a rows → List·Memᴰ b columns → g a b ≡ h a b)
+    → rowAfterRow g rows columns ≡ rowAfterRow h rows columns
+unfolding rowAfterRow
+rowAfterRow-same g h [] columns e = refl
+rowAfterRow-same g h (a ∷ rows) columns e =
+    ap₂ (λ (l r : List ℕ). l ++ r) (map-same (g a) (h a) columns (λ b m. e a b (List·Memᴰ·head refl) m)) (rowAfterRow-same g h rows columns (λ x y m n. e x y (List·Memᴰ·tail m) n))

@@ -1,0 +1,152 @@
+-- From the entries that runs gave to the catalogue's answer and the areas afterwards, on plain values; then the promise.
+--
+-- In order: what a run says and what the engine answers; the words of an accepted file, its entries and its names; the answer with 17, and with the table filled; the promise.
+-- Assumes nothing.
+use mathlib.Core.Path.{_≡_, refl, sym, ap, ap₂, _∙_, subst, subst₂}
+use mathlib.Core.Bool.{Bool, true, false}
+use mathlib.Core.List.{List, List·Memᴰ}
+use mathlib.Core.Option.{Option, none, some}
+use Prim.Native.Nat.{ℕ, _*_, _≤_, _<_}
+use native.Mathlib.Omega.{arith}
+use lib.Dec.{ltb}
+use lib.ListN.{length, take}
+use borrow.Author.Tests.{lt-ltb, le-ltb}
+use Rattle.concepts.specs.Concept.{Table}
+use Rattle.concepts.specs.RowSet.{fromList}
+use Rattle.words.specs.Words.{overwrite}
+use Rattle.decoding.specs.Decoding.{ruleKinds}
+use Rattle.rulefile.specs.Format.{Bytes, wantedRows, RuleFile, refused, accepted, reading}
+use Rattle.rulefile.specs.Read.{Laid}
+use Rattle.rulefile.specs.WantedLaws as Wanted
+use Rattle.rulefile.specs.declared.Layout.{Layout}
+use Rattle.procedure.specs.Status.{Status, unset, «open», sat, unsat, toosmall}
+use Rattle.procedure.specs.Problem.{Problem, problem}
+use Rattle.procedure.specs.Graph.{Graph, Result, reached, noPlace, outOfFuel, nodeAt}
+use Rattle.procedure.specs.Tableau.{run}
+use Rattle.procedure.specs.Example.{Example}
+use Rattle.run.specs.Run.{Lengths, capacity, shown, used, fits, can, tooLong, answerCan, answerRoot, answerResult, answerFor, zeros}
+use Rattle.run.proofs.Verdict.{Backs, answer-accepted, answer-backed}
+use Rattle.problem.specs.Decoded.{tableOf, problemOf, Decoded}
+use Rattle.problem.specs.FileProblem.{FileDecoded}
+use Rattle.graph.specs.Graphs.{work, capacityOf}
+use Rattle.conclusion.specs.Contracts.{goodRoot}
+use Rattle.subsumption.specs.Names.{positive, negative, names, rowAfterRow}
+use Rattle.subsumption.specs.NameLaws.{rowAfterRow-same}
+use Rattle.subsumption.specs.Catalogue.{Areas, areasOf, lent, entryOf, entry, Catalogue, tooShort, listed, listedIn, catalogue, Numbers, numbers, areasAfter}
+use Rattle.subsumption.specs.Promise.{Promise}
+use Rattle.subsumption.proofs.Entry.{rowsFor, rows-serve, reads-rows}
+use Rattle.subsumption.proofs.Kept.{entriesOf, catalogue-refused, catalogue-accepted, promise-kept}
+use Rattle.catalogue.specs.Contracts.{Lists, entryResult, ranEntry, wantingBoth, FillGives, Answered}
+use Rattle.catalogue.specs.ListedLaws.{listed-table}
+use Rattle.catalogue.specs.declared.Listed.{Listed}
+
+-- ---- what a run says, and what the engine answers
+
+module _ (f : RuleFile) (l : Lengths) where
+  can-entry : (g : Graph) (o : Option Example) → Backs f l (answerCan l (used g) o) → entryOf (answerCan l (used g) o) ≡ 0
+  unfolding answerCan entryOf
+  can-entry g none B = absurd B
+  can-entry g (some x) B = by (fits l x)
+    where
+      by : (b : Bool) → entryOf (elim b [ true ↦ can (used g) x | false ↦ tooLong x ]) ≡ 0
+      by true = refl
+      by false = refl
+
+  root-entry : (g : Graph) (v : Status) → nodeAt g 0 .status ≡ v → Backs f l (answerRoot v l (f .table) g) → entryOf (answerRoot v l (f .table) g) ≡ entryResult (reached g)
+  unfolding answerRoot entryOf entryResult
+  root-entry g sat e B = can-entry g (shown (f .table) g) B ∙ sym (rw e)
+  root-entry g «open» e B = can-entry g (shown (f .table) g) B ∙ sym (rw e)
+  root-entry g unsat e B = sym (rw e)
+  root-entry g toosmall e B = sym (rw e)
+  root-entry g unset e B = absurd B
+
+  result-entry : (r : Result) → Backs f l (answerResult l (f .table) r) → entryOf (answerResult l (f .table) r) ≡ entryResult r
+  unfolding answerResult entryOf entryResult
+  result-entry (reached g) B = root-entry g (nodeAt g 0 .status) refl B
+  result-entry (noPlace a) B = refl
+  result-entry outOfFuel B = absurd B
+
+-- ---- an accepted file
+
+-- the words stand for the file
+module _ {b : Bytes} {l : Layout} (L : Laid ruleKinds b l) {ws : List ℕ} (F : FileDecoded (wantedRows b) b ws) where
+  abbrev t : Table
+  t = L .file .table
+
+  table-is : tableOf ws ≡ t
+  table-is = ap (λ (P : Problem). P .table) (F .problem-is (L .file) (L .reads))
+
+  -- what a run says of two names is what the engine answers to their rows
+  entry-is : (room : Lengths) (x y : ℕ) → List·Memᴰ x (names t) → List·Memᴰ y (names t) → ranEntry ws (capacity room) (positive t x) (negative t y) ≡ entry b room t x y
+  unfolding entry
+  entry-is room x y mx my =
+      let f = L .file in
+      let given = Wanted.wanting (rowsFor f x y) f in
+      let answered = answer-accepted (rowsFor f x y) b room given (reads-rows b f (L .reads) room x y mx my) in
+      let backs = subst (Backs given room) answered (answer-backed (rowsFor f x y) b room given (reads-rows b f (L .reads) room x y mx my)) in
+      ap (λ (P : Problem). entryResult (run (wantingBoth P (positive t x) (negative t y)) (capacity room))) (F .problem-is f (L .reads))
+      ∙ sym (result-entry given room (run (problem (f .table) (f .tbox) (rowsFor f x y)) (capacity room)) backs) ∙ ap entryOf (sym answered)
+
+  entries-are : (room : Lengths)
+      → rowAfterRow (λ x y. ranEntry ws (capacity room) (positive (tableOf ws) x) (negative (tableOf ws) y)) (names (tableOf ws)) (names (tableOf ws)) ≡ entriesOf b room (L .file)
+  entries-are room =
+      ap (λ (u : Table). rowAfterRow (λ x y. ranEntry ws (capacity room) (positive u x) (negative u y)) (names u) (names u)) table-is
+      ∙ rowAfterRow-same (λ x y. ranEntry ws (capacity room) (positive t x) (negative t y)) (entry b room t) (names t) (names t) (entry-is room)
+
+  module _ {k : Listed} (G : Lists (tableOf ws) (names (tableOf ws)) k) where
+    -- the names of the words are the file's
+    count-is : k .count ≡ length (names t)
+    count-is = G .count-is ∙ ap (λ (u : Table). length (names u)) table-is
+
+    names-are : k .names ≡ fromList (names t)
+    names-are = G .names-are ∙ ap (λ (u : Table). fromList (names u)) table-is
+
+    module _ (before : Areas) where
+      abbrev room : Lengths
+      room = lent before
+
+      -- the answer, by whether the area is shorter than the square
+      answer-by : (x : Bool) → ltb (length (before .table)) (length (names t) * length (names t)) ≡ x
+          → catalogue b room (length (before .table)) ≡ elim x as (λ _. Catalogue) [ true ↦ tooShort (names t) | false ↦ listed (names t) (entriesOf b room (L .file)) ]
+      unfolding listedIn
+      answer-by x e =
+          catalogue-accepted b room (length (before .table)) (L .file) (L .reads)
+          ∙ ap (λ (y : Bool). elim y as (λ _. Catalogue) [ true ↦ tooShort (names t) | false ↦ listed (names t) (entriesOf b room (L .file)) ]) e
+
+      square : length (names t) * length (names t) ≡ k .count * k .count
+      square = ap (λ (n : ℕ). n * n) (sym (count-is))
+
+      -- "no area is then changed"
+      pub page-short : {r : Numbers} → r ≡ record { refusal = 17; count = k .count; names = k .names } → length (before .table) < k .count * k .count → Answered b before r before
+      unfolding numbers areasAfter
+      page-short hr h =
+          let is = answer-by true (lt-ltb (length (before .table)) (length (names t) * length (names t)) (omega (arith, square, h))) in
+          record {
+            numbersAre = hr ∙ (λ i. record { refusal = 17; count = count-is i; names = names-are i }) ∙ sym (ap numbers is);
+            areasAre = sym (ap (λ (c : Catalogue). areasAfter c before) is);
+          }
+
+      -- the runs filled the table, and the work areas are cleared
+      pub page-filled : {r : Numbers} → r ≡ record { refusal = 0; count = k .count; names = k .names } → k .count * k .count ≤ length (before .table)
+          → {ws′ table′ : List ℕ} → FillGives ws (capacity room) (take (k .count) (k .positives)) (take (k .count) (k .negatives)) (before .table) ws′ table′
+          → {n e a : Bytes} → n ≡ zeros (before .nodes) → e ≡ zeros (before .edges) → a ≡ zeros (before .alternatives) → Answered b before r (areasOf n e a table′)
+      unfolding numbers areasAfter
+      page-filled hr h W hn he ha =
+          let is = answer-by false (le-ltb (length (before .table)) (length (names t) * length (names t)) (omega (arith, square, h))) in
+          let filled = listed-table ws G W ∙ ap (λ (es : Bytes). overwrite es (before .table)) (entries-are room) in
+          record {
+            numbersAre = hr ∙ (λ i. record { refusal = 0; count = count-is i; names = names-are i }) ∙ sym (ap numbers is);
+            areasAre = (λ i. areasOf (hn i) (he i) (ha i) (filled i)) ∙ sym (ap (λ (c : Catalogue). areasAfter c before) is);
+          }
+
+-- ---- the promise
+
+module _ (b : Bytes) (before : Areas) where
+  pub promised : (r : Numbers) (after : Areas) → Answered b before r after → Promise b before r after
+  promised r after A = subst₂ (λ (x : Numbers) (y : Areas). Promise b before x y) (sym (A .numbersAre)) (sym (A .areasAre)) (promise-kept b before)
+
+  pub refused-answered : (n : ℕ) → reading b ≡ refused n → (r : Numbers) → r ≡ record { refusal = n; count = 0; names = 0 } → Promise b before r before
+  unfolding numbers areasAfter
+  refused-answered n e r hr =
+      let q = catalogue-refused b (lent before) (length (before .table)) n e in
+      promised r before (record { numbersAre = hr ∙ sym (ap numbers q); areasAre = sym (ap (λ (c : Catalogue). areasAfter c before) q) })
