@@ -9,14 +9,15 @@ use mathlib.Core.Option.{Option, none, some}
 use Prim.Native.Nat.{ℕ, _*_, _≤_, _<_}
 use native.Mathlib.Omega.{arith}
 use lib.Dec.{ltb}
-use lib.ListN.{length, take}
+use lib.ListN.{length, take, replicate}
 use borrow.Author.Tests.{lt-ltb, le-ltb}
 use Rattle.concepts.specs.Concept.{Table}
 use Rattle.concepts.specs.RowSet.{fromList}
 use Rattle.words.specs.Words.{overwrite}
 use Rattle.decoding.specs.Decoding.{ruleKinds}
 use Rattle.rulefile.specs.Format.{Bytes, wantedRows, RuleFile, refused, accepted, reading}
-use Rattle.rulefile.specs.Read.{Laid}
+use Rattle.rulefile.specs.Read.{LaidFor, Laid}
+use Rattle.rulefile.specs.PartLaws.{laid-placed}
 use Rattle.rulefile.specs.WantedLaws as Wanted
 use Rattle.rulefile.specs.declared.Layout.{Layout}
 use Rattle.procedure.specs.Status.{Status, unset, «open», sat, unsat, toosmall}
@@ -24,7 +25,7 @@ use Rattle.procedure.specs.Problem.{Problem, problem}
 use Rattle.procedure.specs.Graph.{Graph, Result, reached, noPlace, outOfFuel, nodeAt}
 use Rattle.procedure.specs.Tableau.{run}
 use Rattle.procedure.specs.Example.{Example}
-use Rattle.run.specs.Run.{Lengths, capacity, shown, used, fits, can, tooLong, answerCan, answerRoot, answerResult, answerFor, zeros}
+use Rattle.run.specs.Run.{Lengths, capacity, shown, used, fits, can, tooLong, answerCan, answerRoot, answerResult, answerFor}
 use Rattle.run.proofs.Verdict.{Backs, answer-accepted, answer-backed}
 use Rattle.problem.specs.Decoded.{tableOf, problemOf, Decoded}
 use Rattle.problem.specs.FileProblem.{FileDecoded}
@@ -67,6 +68,17 @@ module _ (f : RuleFile) (l : Lengths) where
   result-entry outOfFuel B = absurd B
 
 -- ---- an accepted file
+
+-- it has a wanted row of its own
+module _ {b : Bytes} {l : Layout} (L : Laid ruleKinds b l) {v : List ℕ} (own : 8 ≤ length b → v ≡ wantedRows b) where
+  v-is : v ≡ wantedRows b
+  v-is = own (laid-placed L .parts .least)
+
+  pub own-laid : LaidFor ruleKinds v b l
+  own-laid = subst (λ (w : List ℕ). LaidFor ruleKinds w b l) (sym v-is) L
+
+  pub own-decoded : {ws : List ℕ} → FileDecoded v b ws → FileDecoded (wantedRows b) b ws
+  own-decoded {ws} D = subst (λ (w : List ℕ). FileDecoded w b ws) v-is D
 
 -- the words stand for the file
 module _ {b : Bytes} {l : Layout} (L : Laid ruleKinds b l) {ws : List ℕ} (F : FileDecoded (wantedRows b) b ws) where
@@ -126,17 +138,21 @@ module _ {b : Bytes} {l : Layout} (L : Laid ruleKinds b l) {ws : List ℕ} (F : 
             areasAre = sym (ap (λ (c : Catalogue). areasAfter c before) is);
           }
 
-      -- the runs filled the table, and the work areas are cleared
+      -- the runs filled the table, and then the work areas were cleared, each of which kept its length until then
       pub page-filled : {r : Numbers} → r ≡ record { refusal = 0; count = k .count; names = k .names } → k .count * k .count ≤ length (before .table)
           → {ws′ table′ : List ℕ} → FillGives ws (capacity room) (take (k .count) (k .positives)) (take (k .count) (k .negatives)) (before .table) ws′ table′
-          → {n e a : Bytes} → n ≡ zeros (before .nodes) → e ≡ zeros (before .edges) → a ≡ zeros (before .alternatives) → Answered b before r (areasOf n e a table′)
+          → {n e a : Bytes} {n₁ e₁ a₁ : ℕ} → n ≡ replicate n₁ 0 → n₁ ≡ length (before .nodes) → e ≡ replicate e₁ 0 → e₁ ≡ length (before .edges)
+          → a ≡ replicate a₁ 0 → a₁ ≡ length (before .alternatives) → Answered b before r (areasOf n e a table′)
       unfolding numbers areasAfter
-      page-filled hr h W hn he ha =
+      page-filled hr h W zn hn ze he za ha =
+          let pn = zn ∙ ap (λ (m : ℕ). replicate m 0) hn in
+          let pe = ze ∙ ap (λ (m : ℕ). replicate m 0) he in
+          let pa = za ∙ ap (λ (m : ℕ). replicate m 0) ha in
           let is = answer-by false (le-ltb (length (before .table)) (length (names t) * length (names t)) (omega (arith, square, h))) in
           let filled = listed-table ws G W ∙ ap (λ (es : Bytes). overwrite es (before .table)) (entries-are room) in
           record {
             numbersAre = hr ∙ (λ i. record { refusal = 0; count = count-is i; names = names-are i }) ∙ sym (ap numbers is);
-            areasAre = (λ i. areasOf (hn i) (he i) (ha i) (filled i)) ∙ sym (ap (λ (c : Catalogue). areasAfter c before) is);
+            areasAre = (λ i. areasOf (pn i) (pe i) (pa i) (filled i)) ∙ sym (ap (λ (c : Catalogue). areasAfter c before) is);
           }
 
 -- ---- the promise

@@ -1,6 +1,6 @@
 // The calls of the archive, through the C convention: what each promises is what the function that it calls promises.
 //
-// In order: the engine's calls; the text of a rule file; the converter's call.
+// In order: the engine's calls; the text of a rule file; the converter's call; the catalogue's.
 ghost use mathlib.Core.Path.{_≡_};
 ghost use lib.ListN.{length, take};
 ghost use Rattle.decoding.specs.Decoding.{ruleKinds};
@@ -10,7 +10,11 @@ ghost use Rattle.run.specs.Promise.{PromiseFor, Promise};
 ghost use Rattle.answers.specs.Numbers.{numbersOf};
 ghost use Rattle.drafts.specs.Promise as Drafts;
 ghost use Rattle.converter.specs.Contracts as Converter;
+ghost use Rattle.subsumption.specs.Catalogue as Catalogue;
+ghost use Rattle.subsumption.specs.Promise as Subsumption;
+ghost use Rattle.catalogue.specs.Contracts as Pages;
 use answers::Answer;
+use catalogue::Page;
 use converter::Conversion;
 
 // Whether the kit that the rule file wants can exist: `engine::fit`.
@@ -72,4 +76,21 @@ pub extern "C" fn gumbyra_convert(draft: &[u8], area: &mut [u8]) -> Conversion
     ensures { λ r. ⌜ Drafts.Promise (now (draft .entry)) (now (area .entry)) (Converter.numbersOf r) (now (area .exit)) ⌝ }
 {
     converter::convert(draft, area)
+}
+
+// Which names are under which, written into the table: `catalogue::classify`.
+#[no_mangle]
+pub extern "C" fn gumbyra_catalogue(
+    file: &[u8],
+    nodes: &mut [u8],
+    edges: &mut [u8],
+    alternatives: &mut [u8],
+    table: &mut [u8],
+) -> Page
+    ensures { λ r. ⌜ Subsumption.Promise (now (file .entry))
+        (Catalogue.areasOf (now (nodes .entry)) (now (edges .entry)) (now (alternatives .entry)) (now (table .entry)))
+        (Pages.numbersOf r)
+        (Catalogue.areasOf (now (nodes .exit)) (now (edges .exit)) (now (alternatives .exit)) (now (table .exit))) ⌝ }
+{
+    catalogue::classify(file, nodes, edges, alternatives, table)
 }

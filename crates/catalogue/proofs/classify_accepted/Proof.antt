@@ -1,140 +1,70 @@
+-- `catalogue::classify_accepted` meets its contract: the file is decoded, its names are listed, the table is filled if it has room, and the work areas are cleared.
+-- Assumes nothing.
+use mathlib.Core.Path.{_≡_, refl}
+use Prim.Native.Nat.{_-_}
+use native.Mathlib.Nat.{mul-le-mul}
+use native.Mathlib.Omega.{arith}
 use borrow.Author.Needs.{needs}
+use Rattle.problem.specs.WritingLaws.{fresh-zeros}
+use Rattle.problem.specs.FileProblem.{FileDecoded}
+use Rattle.rulefile.specs.Format.{wantedRows}
+use Rattle.subsumption.specs.Catalogue.{Areas, areasOf}
+use Rattle.catalogue.specs.ListedLaws.{listed-fill}
+use Rattle.catalogue.specs.PageCases.{own-laid, own-decoded, page-short, page-filled}
 use Rattle.catalogue.proofs.classify_accepted.Statement.{statement}
 use Rattle.catalogue.proofs.classify_accepted.Tie as tie
-use Rattle.catalogue.proofs.classify_accepted.Reads as reads
-use Rattle.catalogue.proofs.classify_accepted.Lts as lts
-use Rattle.catalogue.proofs.fill.Reads as fill-reads
-use Rattle.catalogue.proofs.names.listed.Reads as listed-reads
-use Rattle.problem.proofs.decode_file.Reads as decode-file-reads
-use Rattle.records.proofs.clear.Reads as clear-reads
-use Rattle.rulefile.proofs.wanted_of.Reads as wanted-of-reads
 
--- src/lib.rt:157:31
-wanted-of-requires : tie.Need-wanted-of-requires
-wanted-of-requires c κs = search needs
+-- the places, seen from where the names are listed
 
--- src/lib.rt:157:48
-slice-aggregate-decode-file : tie.Need-slice-aggregate-decode-file
-slice-aggregate-decode-file c = search needs
+abbrev the-words : tie.After-listed → tie.After-decode-file
+the-words c = c .before .before .before
 
--- src/lib.rt:157:5
-decode-file-requires : tie.Need-decode-file-requires
-decode-file-requires c κs = ?
+abbrev begun : tie.After-decode-file → tie.Start
+begun c = c .before .before .before .before .before .before .before .before
 
--- src/lib.rt:158:23
-slice-aggregate-listed : tie.Need-slice-aggregate-listed
-slice-aggregate-listed c = search needs
+abbrev the-room : tie.After-fill → tie.Else1
+the-room c = c .before .before .before .before .before .before .before .before .before .before .before .before
 
--- src/lib.rt:158:9
-listed-requires : tie.Need-listed-requires
-listed-requires c κs = search needs
+abbrev the-table : tie.After-clear → tie.After-fill
+the-table c = c .before .before .before .before .before .before .before .before .before .before .before
 
--- src/lib.rt:161:22
-mul-if1 : tie.Need-mul-if1
-mul-if1 c = ?
+abbrev the-nodes : tie.After-clear2 → tie.After-clear
+the-nodes c = c .before .before .before .before
 
--- src/lib.rt:164:20
-cast-t22 : tie.Need-cast-t22
-cast-t22 c = search needs
+abbrev the-edges : tie.After-clear3 → tie.After-clear2
+the-edges c = c .before .before .before .before
 
--- src/lib.rt:162:9
-returns : tie.Need-returns
-returns c = ?
+abbrev the-areas : tie.After-decode-file → Areas
+the-areas c = let a = begun c .args in areasOf (a .nodes .now) (a .edges .now) (a .alternatives .now) (a .table .now)
 
--- src/lib.rt:171:9
-slice-aggregate-fill : tie.Need-slice-aggregate-fill
-slice-aggregate-fill c = search needs
+-- a part from the start on is as long as its end says
+whole : (c : tie.After-listed) → c .listed .result .count - 0 ≡ c .listed .result .count
+whole c = omega arith
 
--- src/lib.rt:172:9
-sub-fill : tie.Need-sub-fill
-sub-fill c = search needs
-
--- src/lib.rt:172:9
-part-fill-start : tie.Need-part-fill-start
-part-fill-start c = search needs
-
--- src/lib.rt:172:9
-part-fill-end : tie.Need-part-fill-end
-part-fill-end c = search needs
-
--- src/lib.rt:173:9
-sub-fill-2 : tie.Need-sub-fill-2
-sub-fill-2 c = search needs
-
--- src/lib.rt:173:9
-part-fill-start-2 : tie.Need-part-fill-start-2
-part-fill-start-2 c = search needs
-
--- src/lib.rt:173:9
-part-fill-end-2 : tie.Need-part-fill-end-2
-part-fill-end-2 c = search needs
-
--- src/lib.rt:170:5
-fill-requires : tie.Need-fill-requires
-fill-requires c κs = ?
-
--- src/lib.rt:179:5
-clear-requires : tie.Need-clear-requires
-clear-requires c κs = search needs
-
--- src/lib.rt:180:5
-clear-requires-2 : tie.Need-clear-requires-2
-clear-requires-2 c κs = search needs
-
--- src/lib.rt:181:5
-clear-requires-3 : tie.Need-clear-requires-3
-clear-requires-3 c κs = search needs
-
--- src/lib.rt:184:16
-cast-t47 : tie.Need-cast-t47
-cast-t47 c = search needs
-
--- src/lib.rt:142:1
-same-length : tie.Need-same-length
-same-length c = search needs
-
--- src/lib.rt:142:1
-same-length-2 : tie.Need-same-length-2
-same-length-2 c = search needs
-
--- src/lib.rt:142:1
-same-length-3 : tie.Need-same-length-3
-same-length-3 c = search needs
-
--- src/lib.rt:142:1
-same-length-4 : tie.Need-same-length-4
-same-length-4 c = search needs
-
--- src/lib.rt:142:1
-returns-2 : tie.Need-returns-2
-returns-2 c = ?
+-- the words stand for the file
+the-file : (c : tie.After-decode-file) → FileDecoded (wantedRows (begun c .args .file .now)) (begun c .args .file .now) (c .decode-file .last .1 .1 .1 .0)
+the-file c = own-decoded (begun c .pre) (c .before .before .wanted-of .ensures) (c .decode-file .ensures)
 
 pub classify-accepted-spec : {M : Type 1} → statement M
 classify-accepted-spec =
-    tie.close
-    (tie.spec
-    wanted-of-requires
-    slice-aggregate-decode-file
-    decode-file-requires
-    slice-aggregate-listed
-    listed-requires
-    mul-if1
-    cast-t22
-    returns
-    slice-aggregate-fill
-    sub-fill
-    part-fill-start
-    part-fill-end
-    sub-fill-2
-    part-fill-start-2
-    part-fill-end-2
-    fill-requires
-    clear-requires
-    clear-requires-2
-    clear-requires-3
-    cast-t47
-    same-length
-    same-length-2
-    same-length-3
-    same-length-4
-    returns-2)
+    tie.close (tie.spec
+    -- wanted_of(file), decode_file(file, layout, wanted_of(file), &mut words)
+    (λ c κs. search needs) (λ c. search needs)
+    (λ c κs. let s : tie.Start = search in let w : tie.After-wanted-of = search in (own-laid (s .pre) (w .wanted-of .ensures), fresh-zeros _ refl))
+    -- listed(&words)
+    (λ c. search needs) (λ c κs. search needs)
+    -- count * count, return with 17
+    (λ c. omega (arith, mul-le-mul {n₂ = 64} {m₂ = 64} (c .listed .ensures .few) (c .listed .ensures .few)))
+    (λ c. search needs)
+    (λ c. let w = the-words (c .before) in page-short (begun w .pre) (the-file w) (c .before .listed .ensures) (the-areas w) refl (c .if1 .taken))
+    -- fill(&mut words, &positives[0..count], &negatives[0..count], ..)
+    (λ c. search needs) (λ c. search needs) (λ c. search needs) (λ c. search needs) (λ c. search needs) (λ c. search needs) (λ c. search needs)
+    (λ c κs. let i : tie.Else1 = search in let n = the-words (i .before) in
+    rw (whole (i .before)) (listed-fill _ (i .before .listed .ensures) (the-file n .decoded) (i .if1 .left)))
+    -- clear(nodes), clear(edges), clear(alternatives)
+    (λ c κs. search needs) (λ c κs. search needs) (λ c κs. search needs)
+    -- the end
+    (λ c. search needs) (λ c. search needs) (λ c. search needs) (λ c. search needs) (λ c. search needs)
+    (λ c. let k : tie.After-clear3 = search in let e = the-edges k in let n = the-nodes e in let f = the-table n in let i = the-room f in let w = the-words (i .before) in
+    page-filled (begun w .pre) (the-file w) (i .before .listed .ensures) (the-areas w) refl (i .if1 .left) (rw (whole (i .before)) at (f .fill .ensures))
+    (n .clear .ensures) (f .fill .kept .1 .1 .1 .0) (e .clear2 .ensures) (f .fill .kept .1 .1 .1 .1 .0) (k .clear3 .ensures) (f .fill .kept .1 .1 .1 .1 .1 .0)))
