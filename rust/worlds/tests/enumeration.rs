@@ -30,7 +30,8 @@ fn enumerate(worlds: &[World], ontology: &Ontology) -> bool {
     worlds.iter().any(|world| {
         let truth = world.truth(ontology);
         let obeys = ontology.tbox.iter().all(|&rule| truth[rule].iter().all(|&holds| holds));
-        obeys && truth[ontology.wanted].iter().any(|&holds| holds) && world.obeys_inclusions(ontology)
+        let is_member = |d: usize| ontology.wanted.iter().all(|&row| truth[row][d]);
+        obeys && (0..world.size()).any(is_member) && world.obeys_inclusions(ontology)
     })
 }
 
