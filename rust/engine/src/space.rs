@@ -1,6 +1,6 @@
 //! The space that a run works in: five areas, lent as slices or owned (document 01, "Areas").
 
-use crate::{fit, Refusal, Verdict, ELEMENT_BYTES, LINK_BYTES};
+use crate::{catalogue, fit, fit_wanted, Catalogue, Refusal, Verdict, ELEMENT_BYTES, LINK_BYTES};
 
 /// A node's record.
 pub const NODE_BYTES: usize = 64;
@@ -26,6 +26,18 @@ pub struct Areas<'a> {
     pub elements: &'a mut [u8],
     /// The example's links, [`LINK_BYTES`] each.
     pub links: &'a mut [u8],
+}
+
+/// Three lent areas, for a [`catalogue`](crate::catalogue()). What they hold before has no say in it, and they may be of any length.
+///
+/// After a catalogue every byte of them is zero; after a refusal they are as they were.
+pub struct WorkAreas<'a> {
+    /// Nodes, [`NODE_BYTES`] each.
+    pub nodes: &'a mut [u8],
+    /// Graph edges, [`EDGE_BYTES`] each.
+    pub edges: &'a mut [u8],
+    /// Alternatives, [`ALTERNATIVE_BYTES`] each.
+    pub alternatives: &'a mut [u8],
 }
 
 /// How many records each area of a [`Space`] holds.
@@ -142,7 +154,24 @@ impl Space {
 
     /// Decides a rule file, as [`fit`](crate::fit()) does.
     pub fn fit(&mut self, file: &[u8]) -> Result<Verdict<'_>, Refusal> {
+        fit(file, self.areas())
+    }
+
+    /// Decides a rule file with these wanted rows in place of its own, as [`fit_wanted`](crate::fit_wanted()) does.
+    pub fn fit_wanted(&mut self, file: &[u8], wanted: &[u8]) -> Result<Verdict<'_>, Refusal> {
+        fit_wanted(file, wanted, self.areas())
+    }
+
+    /// Fills the table of a rule file's kinds, as [`catalogue`](crate::catalogue()) does. The table is lent, since it outlasts the runs: a
+    /// page is made of it, and it is kept beside the rule file.
+    pub fn catalogue<'a>(&mut self, file: &[u8], table: &'a mut [u8]) -> Result<Catalogue<'a>, Refusal> {
+        let Space { nodes, edges, alternatives, .. } = self;
+        catalogue(file, WorkAreas { nodes, edges, alternatives }, table)
+    }
+
+    /// The five areas.
+    fn areas(&mut self) -> Areas<'_> {
         let Space { nodes, edges, alternatives, elements, links } = self;
-        fit(file, Areas { nodes, edges, alternatives, elements, links })
+        Areas { nodes, edges, alternatives, elements, links }
     }
 }
