@@ -1,0 +1,29 @@
+//! How often things happened; a property that never came up was not tested.
+
+/// In how many files, or examples, or lists, each case happened.
+#[derive(Default)]
+pub struct Tally {
+    all: usize,
+    times: Vec<(&'static str, usize)>,
+}
+
+impl Tally {
+    /// Counts one of them: which cases happened. The cases are always the same, in the same order.
+    pub fn add(&mut self, cases: Vec<(&'static str, bool)>) {
+        self.all += 1;
+        self.times.resize(cases.len(), ("", 0));
+        for (count, (what, happened)) in self.times.iter_mut().zip(cases) {
+            *count = (what, count.1 + usize::from(happened));
+        }
+    }
+
+    /// Prints the counts and fails if a case was rare.
+    pub fn assert_often(&self, counted: &str, least: usize) {
+        println!("{counted}: {}; those in which", self.all);
+        self.times.iter().for_each(|(what, times)| println!("  {what}: {times}"));
+        assert!(!self.times.is_empty(), "no {counted}");
+        for (what, times) in &self.times {
+            assert!(*times >= least, "{what}: only {times} times");
+        }
+    }
+}
