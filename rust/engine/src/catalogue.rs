@@ -1,6 +1,7 @@
 //! The catalogue page of kinds, from the numbers of its call and the bytes of its table (document 02, [7]).
 
 use crate::convention::Page;
+use crate::names::Names;
 use crate::refusal::Refusal;
 
 /// The most names of a catalogue: each has two of the 64 rows.
@@ -36,20 +37,14 @@ impl IsA {
 /// part with the other. It borrows the area that holds the table.
 #[derive(Clone, Copy, Debug, PartialEq, Eq)]
 pub struct Catalogue<'a> {
-    /// Name n as bit n.
-    names: u64,
+    names: Names,
     table: &'a [u8],
 }
 
 impl<'a> Catalogue<'a> {
-    /// The names that are listed, rising; `len` tells how many there are.
-    pub fn names(&self) -> impl ExactSizeIterator<Item = u8> + use<> {
-        let set = self.names;
-        let mut place = 0;
-        (0..set.count_ones() as usize).map(move |_| {
-            place += (set >> place).trailing_zeros() + 1;
-            (place - 1) as u8
-        })
+    /// The names that are listed.
+    pub fn names(&self) -> Names {
+        self.names
     }
 
     /// The table as it is kept beside the rule file: a byte an entry, row after row, in order of names.
@@ -61,30 +56,25 @@ impl<'a> Catalogue<'a> {
     ///
     /// Of a name that nothing can have each entry is [`IsA::Always`]: none of these parts isn't a `b`, since there are none.
     pub fn is_a(&self, a: u8, b: u8) -> Option<IsA> {
-        let (row, column) = (self.place(a)?, self.place(b)?);
-        IsA::of_byte(self.table[row * self.names().len() + column])
-    }
-
-    /// The place of a name among those that are listed.
-    fn place(&self, name: u8) -> Option<usize> {
-        self.names().position(|listed| listed == name)
+        let (row, column) = (self.names.place(a)?, self.names.place(b)?);
+        IsA::of_byte(self.table[row * self.names.len() + column])
     }
 }
 
 /// The catalogue that a page tells, or its refusal, with the table's area as it is after the call. `None` if it is no answer of the
 /// engine: refusals by a check give zeros elsewhere, and 17 how many names there are, whose square is larger than the area.
 pub(crate) fn outcome<'a>(page: &Page, area: &'a [u8]) -> Option<Result<Catalogue<'a>, Refusal>> {
-    let &Page { refusal, count, names } = page;
-    let count = count as usize;
-    let square = count.checked_mul(count).filter(|_| count <= MOST_NAMES && names.count_ones() as usize == count)?;
-    match refusal {
-        0 => {
-            let table = area.get(..square)?;
-            let is_table = table.iter().all(|&byte| IsA::of_byte(byte).is_some());
-            is_table.then_some(Ok(Catalogue { names, table }))
-        }
-        _ => Refusal::of_page(refusal, count).filter(|_| count == 0 || square > area.len()).map(Err),
+    let names = Names::of_bits(page.names);
+    if names.len() != page.count as usize || names.len() > MOST_NAMES {
+        return None;
     }
+    let square = names.len() * names.len();
+    if page.refusal != 0 {
+        return Refusal::of_page(page.refusal, names).filter(|_| names.is_empty() || square > area.len()).map(Err);
+    }
+    let table = area.get(..square)?;
+    let is_table = table.iter().all(|&byte| IsA::of_byte(byte).is_some());
+    is_table.then_some(Ok(Catalogue { names, table }))
 }
 
 #[cfg(test)]
@@ -103,8 +93,7 @@ mod tests {
     fn entries_are_told_by_their_names() {
         for area in [AREA.as_slice(), &AREA[..9]] {
             let Some(Ok(catalogue)) = of_numbers(0, 3, NAMES, area) else { panic!("a catalogue") };
-            assert_eq!(catalogue.names().len(), 3);
-            assert_eq!(catalogue.names().collect::<Vec<_>>(), [1, 4, 63]);
+            assert_eq!(catalogue.names().iter().collect::<Vec<_>>(), [1, 4, 63]);
             assert_eq!(catalogue.table(), &AREA[..9]);
             let row = |a: u8| [1, 4, 63].map(|b| catalogue.is_a(a, b).expect("an entry"));
             assert_eq!(row(1), [IsA::Always, IsA::NotAlways, IsA::Undecided]);
@@ -121,14 +110,15 @@ mod tests {
         let Some(Ok(none)) = of_numbers(0, 0, 0, b"") else { panic!("a catalogue without names") };
         assert_eq!((none.names().len(), none.table(), none.is_a(0, 0)), (0, b"".as_slice(), None));
         let Some(Ok(all)) = of_numbers(0, 32, u64::MAX << 32, &[1; LARGEST_TABLE]) else { panic!("a catalogue") };
-        assert_eq!(all.names().collect::<Vec<_>>(), (32..64).collect::<Vec<_>>());
+        assert_eq!(all.names().iter().collect::<Vec<_>>(), (32..64).collect::<Vec<_>>());
         for number in [1, 2, 3, 4, 5, 6, 7, 8, 16] {
             let refusal = of_numbers(number, 0, 0, &AREA).expect("an answer").expect_err("a refusal");
             assert_eq!(u32::from(refusal.number()), number);
         }
-        assert_eq!(of_numbers(17, 3, NAMES, &AREA[..8]), Some(Err(Refusal::TableShort { names: 3 })));
-        assert_eq!(of_numbers(17, 1, 1, b""), Some(Err(Refusal::TableShort { names: 1 })));
-        assert_eq!(of_numbers(17, 32, u64::MAX >> 32, &[0; 1023]), Some(Err(Refusal::TableShort { names: 32 })));
+        for (count, names, area) in [(3, NAMES, &AREA[..8]), (1, 1, b""), (32, u64::MAX >> 32, &[0; 1023])] {
+            let short = Refusal::TableShort { names: Names::of_bits(names) };
+            assert_eq!(of_numbers(17, count, names, area), Some(Err(short)));
+        }
     }
 
     #[test]

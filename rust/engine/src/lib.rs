@@ -16,7 +16,7 @@
 //!
 //! In order: the calls ([`fit`](fit()), [`fit_wanted`], [`catalogue`](catalogue()), [`text`] and [`convert`], which makes a rule file of
 //! a draft with "not" and "if"), the space that they work in ([`space`]), what comes back ([`verdict`], [`refusal`], [`example`],
-//! [`row_set`], [`catalogue`](mod@catalogue), [`conversion`]), the C convention. The engine and the converter are proved; this crate only hands slices over and reads the numbers and bytes that
+//! [`row_set`], [`catalogue`](mod@catalogue), [`names`], [`conversion`]), the C convention. The engine and the converter are proved; this crate only hands slices over and reads the numbers and bytes that
 //! come back. But for [`Space`] it allocates nothing.
 //!
 //! The archive is for x86-64 Linux only. For a call of this build a stack of 1 MiB suffices; a thread of Rust has 2 by default.
@@ -26,6 +26,7 @@ pub mod catalogue;
 mod convention;
 pub mod conversion;
 pub mod example;
+pub mod names;
 pub mod refusal;
 pub mod row_set;
 pub mod space;
@@ -34,6 +35,7 @@ pub mod verdict;
 pub use catalogue::{Catalogue, IsA, LARGEST_TABLE, MOST_NAMES};
 pub use conversion::LONGEST_FILE;
 pub use example::{Example, Link, LINK_BYTES};
+pub use names::Names;
 pub use refusal::Refusal;
 pub use row_set::{RowSet, ELEMENT_BYTES};
 pub use space::{Areas, Sizes, Space, WorkAreas, ALTERNATIVE_BYTES, EDGE_BYTES, MOST_RECORDS, NODE_BYTES};
@@ -153,7 +155,7 @@ pub fn fit_wanted<'a>(file: &[u8], wanted: &[u8], mut areas: Areas<'a>) -> Resul
 /// let mut table = [7; 10];
 /// let work = WorkAreas { nodes: &mut nodes, edges: &mut edges, alternatives: &mut alternatives };
 /// let page = catalogue(&file, work, &mut table)?;
-/// assert_eq!(page.names().collect::<Vec<_>>(), [3, 5, 9]);
+/// assert_eq!(page.names().iter().collect::<Vec<_>>(), [3, 5, 9]);
 /// assert_eq!(page.is_a(5, 3), Some(IsA::Always), "every peristaltic pump is a dosing pump");
 /// assert_eq!(page.is_a(3, 5), Some(IsA::NotAlways), "but not the other way");
 /// assert_eq!(page.is_a(5, 4), None, "there is no name 4");
@@ -163,7 +165,8 @@ pub fn fit_wanted<'a>(file: &[u8], wanted: &[u8], mut areas: Areas<'a>) -> Resul
 /// let work = WorkAreas { nodes: &mut [], edges: &mut edges, alternatives: &mut alternatives };
 /// assert_eq!(catalogue(&file, work, &mut table)?.is_a(5, 5), Some(IsA::Undecided));
 /// let work = WorkAreas { nodes: &mut nodes, edges: &mut edges, alternatives: &mut alternatives };
-/// assert_eq!(catalogue(&file, work, &mut table[..8]), Err(Refusal::TableShort { names: 3 }));
+/// let Err(Refusal::TableShort { names }) = catalogue(&file, work, &mut table[..8]) else { panic!("a short area") };
+/// assert_eq!(names.len(), 3);
 /// # Ok::<(), Refusal>(())
 /// ```
 ///

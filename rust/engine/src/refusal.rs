@@ -1,6 +1,7 @@
 //! Refusals: their numbers and their sentences (document 01, "Refusals, in checking order"; document 02, [1], [4], [6] and [7]).
 
 use crate::catalogue::MOST_NAMES;
+use crate::names::Names;
 use crate::space::MOST_RECORDS;
 use std::fmt;
 
@@ -42,8 +43,9 @@ pub enum Refusal {
     AlternativesShort { lent: usize },
     /// 16: a row of kind 7, which speaks of roles, in a place for a row that speaks of elements. The check comes after that of 8.
     Inclusion,
-    /// 17: the area for the table of a catalogue is shorter than the square of so many names. It comes after all checks of the file.
-    TableShort { names: usize },
+    /// 17: the area for the table of a catalogue is shorter than the square of how many names are listed. It comes after all checks of the
+    /// file. [`LARGEST_TABLE`](crate::LARGEST_TABLE) bytes suffice for every table.
+    TableShort { names: Names },
 }
 
 /// The refusals by a check of the file or the draft, in checking order.
@@ -81,9 +83,9 @@ impl Refusal {
         }
     }
 
-    /// The refusal of a catalogue page with this number and so many names; `None` if the engine never gives these.
-    pub(crate) fn of_page(number: u32, names: usize) -> Option<Refusal> {
-        match (number, names) {
+    /// The refusal of a catalogue page with this number and these names; `None` if the engine never gives these.
+    pub(crate) fn of_page(number: u32, names: Names) -> Option<Refusal> {
+        match (number, names.len()) {
             (17, 1..=MOST_NAMES) => Some(Refusal::TableShort { names }),
             (_, 0) => Refusal::of_check(number),
             _ => None,
@@ -142,7 +144,7 @@ impl fmt::Display for Refusal {
             Refusal::NodesShort { lent } => write!(f, " Nodes lent: {lent}."),
             Refusal::EdgesShort { lent } => write!(f, " Edges lent: {lent}."),
             Refusal::AlternativesShort { lent } => write!(f, " Alternatives lent: {lent}."),
-            Refusal::TableShort { names } => write!(f, " Names: {names}."),
+            Refusal::TableShort { names } => write!(f, " Names: {}.", names.len()),
             _ => Ok(()),
         }
     }
@@ -161,7 +163,7 @@ mod tests {
         for check in CHECKS {
             assert_eq!(Refusal::of_run(check.number().into(), [0, 0], 0), Some(check));
             assert_eq!(Refusal::of_conversion(check.number().into()), Some(check));
-            assert_eq!(Refusal::of_page(check.number().into(), 0), Some(check));
+            assert_eq!(Refusal::of_page(check.number().into(), names(0)), Some(check));
         }
         let too_long = Refusal::ExampleTooLong { elements: 2, links: 1 };
         assert_eq!(Refusal::of_run(11, [2, 1], 0), Some(too_long));
@@ -173,10 +175,15 @@ mod tests {
                 assert_eq!(u32::from(short.number()), number);
             }
         }
-        for names in [1, 7, MOST_NAMES] {
+        for names in [1, 7, MOST_NAMES].map(names) {
             assert_eq!(Refusal::of_page(17, names), Some(Refusal::TableShort { names }));
             assert_eq!(Refusal::TableShort { names }.number(), 17);
         }
+    }
+
+    /// So many names.
+    fn names(count: usize) -> Names {
+        Names::of_bits((1 << count) - 1)
     }
 
     /// Refusals 13, 14 and 15.
@@ -202,10 +209,10 @@ mod tests {
         }
         assert!([0, 9, 10, 11, 13, 14, 15, 17].into_iter().all(|number| Refusal::of_conversion(number).is_none()));
         for number in [0, 9, 10, 11, 12, 13, 14, 15, 18] {
-            assert_eq!([0, 1, 7].map(|names| Refusal::of_page(number, names)), [None; 3], "{number}");
+            assert_eq!([0, 1, 7].map(|count| Refusal::of_page(number, names(count))), [None; 3], "{number}");
         }
-        for (number, names) in [(1, 1), (8, 7), (16, 1), (17, 0), (17, MOST_NAMES + 1)] {
-            assert_eq!(Refusal::of_page(number, names), None, "{number} {names}");
+        for (number, count) in [(1, 1), (8, 7), (16, 1), (17, 0), (17, MOST_NAMES + 1)] {
+            assert_eq!(Refusal::of_page(number, names(count)), None, "{number} {count}");
         }
     }
 
@@ -219,7 +226,7 @@ mod tests {
         let others = [
             Refusal::ExampleTooLong { elements: 0, links: 0 },
             Refusal::ResultTooLong,
-            Refusal::TableShort { names: 0 },
+            Refusal::TableShort { names: names(0) },
         ];
         let mut all = [CHECKS.as_slice(), &others, &short(0)].concat();
         all.sort_by_key(Refusal::number);
@@ -242,6 +249,6 @@ mod tests {
         );
         assert!(alternatives.ends_with("next alternative has no place in its area. Alternatives lent: 7."));
         let table = "refusal 17: The table's area is shorter than the square of its names. Names: 7.";
-        assert_eq!(Refusal::TableShort { names: 7 }.to_string(), table);
+        assert_eq!(Refusal::TableShort { names: names(7) }.to_string(), table);
     }
 }
