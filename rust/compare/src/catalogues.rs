@@ -9,6 +9,7 @@ use crate::checks::{AnsweringWanted, Cataloguing};
 use crate::files::{encode, Row};
 use crate::inclusions::Parts;
 use crate::small_worlds::{check_found, random_areas};
+use crate::wide::wide_kinds;
 use crate::{page_line, random_lent, Prng, Shape};
 use plain::catalogue::{CAN, CANNOT, UNDECIDED};
 use plain::{Answer, Lent, Page};
@@ -107,6 +108,21 @@ pub fn check_most_names(mut catalogue: impl Cataloguing) {
     for length in 2..=LONGEST_CHAIN {
         check_large(&mut catalogue, &chain(length), length.into(), usize::from(length) % 3, |a, b| a <= b);
     }
+}
+
+/// Examples of 65 to 1,221 elements: such an entry would be refused with 11 in most areas, and is 0.
+pub fn check_large_examples(mut catalogue: impl Cataloguing, mut wanted: impl AnsweringWanted) {
+    let lent = Lent { elements: 0, links: 0, ..Lent::most() };
+    let mut most = [usize::MAX, 0];
+    for file in wide_kinds() {
+        let Page::Filled { names, table } = catalogue(&file, 4, &lent) else { panic!("no page: {file:02x?}") };
+        assert_eq!((names, table.as_slice()), (vec![0, 1], [CANNOT, CAN, CANNOT, CANNOT].as_slice()), "{file:02x?}");
+        let answers = check_runs(&file, &lent, &[0, 1], &table, &mut wanted);
+        let Answer::TooLong { elements, .. } = answers[1] else { panic!("{:?} to {file:02x?}", answers[1]) };
+        most = [most[0].min(elements), most[1].max(elements)];
+    }
+    println!("from {} to {} elements", most[0], most[1]);
+    assert!(most[0] >= 64 && most[1] > 1200, "{most:?}");
 }
 
 // ---- random files

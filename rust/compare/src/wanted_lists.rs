@@ -47,6 +47,17 @@ const BY_HAND: [ByHand; 17] = [
     (&EIGHT_NODES, &[2], &[], "CAN 2 2;USED 13 14 2;E 0 0000000000000007;E 1 0000000000000007;L 0 0 1;L 1 0 1"),
 ];
 
+/// Checks that lists of tens of thousands are as good as short ones, whatever comes last.
+pub fn check_long_lists(mut wanted: impl AnsweringWanted) {
+    let file = encode(b"", &EIGHT_NODES, &[], 0);
+    let mut answer = |list: &[u8]| wanted(&file, list, &Lent::by_program());
+    for last in 0..=EIGHT_NODES.len() as u8 {
+        let mut list = vec![2; 70_000];
+        list.push(last);
+        assert_eq!(answer(&list), answer(&[2, last]), "{last}");
+    }
+}
+
 /// Checks the answers to small files with what is printed for each.
 pub fn check_by_hand(mut wanted: impl AnsweringWanted) {
     for (rows, rules, list, printed) in BY_HAND {

@@ -1,6 +1,6 @@
 //! The plain program's catalogue pages.
 
-use compare::catalogues::{check_by_hand, check_most_names, check_random_pages};
+use compare::catalogues::{check_by_hand, check_large_examples, check_most_names, check_random_pages};
 use compare::checks::STACK;
 use compare::{check_catalogue_cases, on_stack};
 use plain::{answer_wanting, catalogue};
@@ -18,6 +18,11 @@ fn small_files_by_hand() {
 #[test]
 fn thirty_two_names_and_chains() {
     check_most_names(catalogue);
+}
+
+#[test]
+fn large_examples() {
+    check_large_examples(catalogue, answer_wanting);
 }
 
 #[test]

@@ -16,8 +16,8 @@
 //!
 //! In order: the calls ([`fit`](fit()), [`fit_wanted`], [`catalogue`](catalogue()), [`text`] and [`convert`], which makes a rule file of
 //! a draft with "not" and "if"), the space that they work in ([`space`]), what comes back ([`verdict`], [`refusal`], [`example`],
-//! [`row_set`], [`catalogue`](mod@catalogue), [`names`], [`conversion`]), the C convention. The engine and the converter are proved; this crate only hands slices over and reads the numbers and bytes that
-//! come back. But for [`Space`] it allocates nothing.
+//! [`row_set`], [`catalogue`](mod@catalogue), [`names`], [`conversion`]), the C convention. The engine, the catalogue and the converter are
+//! proved; this crate only hands slices over and reads the numbers and bytes that come back. But for [`Space`] it allocates nothing.
 //!
 //! The archive is for x86-64 Linux only. For a call of this build a stack of 1 MiB suffices; a thread of Rust has 2 by default.
 

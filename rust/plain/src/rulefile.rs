@@ -1,5 +1,6 @@
 //! The rule file and its checks, refusals 1 to 8 and then 16 (document 01, "The rule file" and "Refusals, in checking order"; document
-//! 02, [6]). Wanted rows may be given in place of the file's own (document 02, [7]). A draft passes the same checks with two kinds of row more (document 02, [1]), so what a row can say is a parameter.
+//! 02, [6]). Wanted rows may be given in place of the file's own (document 02, [7]), and a draft passes the same checks with two kinds of
+//! row more (document 02, [1]): so the wanted rows and what a row can say are parameters.
 
 use crate::concept::{Concept, Kinds, Row, ROW};
 use crate::draft::DraftConcept;
