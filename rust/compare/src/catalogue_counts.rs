@@ -1,6 +1,6 @@
 //! How often things happened with catalogue pages.
 
-use crate::tally::Tally;
+use crate::tally::{cases_of_checks, Tally};
 use plain::catalogue::{CAN, CANNOT, UNDECIDED};
 use plain::{Answer, Page};
 
@@ -42,17 +42,6 @@ impl Seen<'_> {
 
     /// Which refusal comes, and how long the area is.
     fn cases_of_refusal(&self) -> Vec<(&'static str, bool)> {
-        const WHATS: [(&str, u8); 9] = [
-            ("refusal 1", 1),
-            ("refusal 2", 2),
-            ("refusal 3", 3),
-            ("refusal 4", 4),
-            ("refusal 5", 5),
-            ("refusal 6", 6),
-            ("refusal 7", 7),
-            ("refusal 8", 8),
-            ("refusal 16", 16),
-        ];
         let (table, names) = self.table();
         let is_filled = matches!(self.page, Page::Filled { .. });
         let one_short = matches!(self.page, Page::Short { names } if self.area + 1 == names.len() * names.len());
@@ -68,7 +57,7 @@ impl Seen<'_> {
             ("a name that has no kind 2 row", is_filled && self.one_row[0]),
             ("a name that has no kind 1 row", is_filled && self.one_row[1]),
         ];
-        WHATS.into_iter().map(|(what, number)| (what, *self.page == Page::Refused(number))).chain(others).collect()
+        [cases_of_checks(|number| *self.page == Page::Refused(number)), others.to_vec()].concat()
     }
 
     /// Which entries there are.
@@ -77,7 +66,9 @@ impl Seen<'_> {
         let has = |entry: u8| table.contains(&entry);
         let apart = |&(a, b): &(usize, usize)| a != b && table[a * names + b] == CANNOT;
         let pairs = || (0..names).flat_map(|a| (0..names).map(move |b| (a, b)));
-        let is_empty = |a: usize| (0..names).all(|b| table[a * names + b] == CANNOT);
+        let all_ones = |a: usize| (0..names).all(|b| table[a * names + b] == CANNOT);
+        let any_run = |passes: &dyn Fn(&Answer) -> bool| self.answers.iter().any(passes);
+        let cannot = |run: &Answer| if let Answer::Cannot { used } = run { Some(*used) } else { None };
         vec![
             ("an entry 0", has(CAN)),
             ("an entry 1", has(CANNOT)),
@@ -85,11 +76,10 @@ impl Seen<'_> {
             ("an entry 2", has(UNDECIDED)),
             ("each of 0, 1 and 2", has(CAN) && has(CANNOT) && has(UNDECIDED)),
             ("only entries 2", names > 0 && table.iter().all(|&entry| entry == UNDECIDED)),
-            ("a name that nothing can have", names > 1 && (0..names).any(is_empty)),
-            (
-                "an entry 0 whose example is refused with 11",
-                self.answers.iter().any(|a| matches!(a, Answer::TooLong { .. })),
-            ),
+            ("a row of entries 1", names > 1 && (0..names).any(all_ones)),
+            ("an entry 0 that would be refused with 11", any_run(&|run| matches!(run, Answer::TooLong { .. }))),
+            ("an entry 1 by a run of twenty nodes or more", any_run(&|run| cannot(run).is_some_and(|u| u.nodes >= 20))),
+            ("an entry 1 by a run with alternatives", any_run(&|run| cannot(run).is_some_and(|u| u.alternatives > 0))),
         ]
     }
 

@@ -178,11 +178,9 @@ fn random_work(prng: &mut Prng) -> Lent {
 /// Has a name only a kind 1 row, and has one only a kind 2 row?
 fn one_row(file: &[u8]) -> [bool; 2] {
     let rows = Ontology::decode(file).map_or(Vec::new(), |ontology| ontology.rows);
-    let has = |row: &Concept| rows.contains(row);
-    [
-        (0..64).any(|n| has(&Concept::Name(n)) && !has(&Concept::NotName(n))),
-        (0..64).any(|n| has(&Concept::NotName(n)) && !has(&Concept::Name(n))),
-    ]
+    let both = (0..64).map(|name| [Concept::Name(name), Concept::NotName(name)].map(|row| rows.contains(&row)));
+    let both: Vec<[bool; 2]> = both.collect();
+    [[true, false], [false, true]].map(|one| both.contains(&one))
 }
 
 // ---- what is true of a page

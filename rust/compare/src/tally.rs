@@ -27,3 +27,19 @@ impl Tally {
         }
     }
 }
+
+/// Of each file check, whether it refuses a file: 1 to 8 and 16.
+pub fn cases_of_checks(refused: impl Fn(u8) -> bool) -> Vec<(&'static str, bool)> {
+    let checks = [
+        ("refusal 1", 1),
+        ("refusal 2", 2),
+        ("refusal 3", 3),
+        ("refusal 4", 4),
+        ("refusal 5", 5),
+        ("refusal 6", 6),
+        ("refusal 7", 7),
+        ("refusal 8", 8),
+        ("refusal 16", 16),
+    ];
+    checks.into_iter().map(|(what, number)| (what, refused(number))).collect()
+}

@@ -7,7 +7,7 @@ use crate::checks::{check_judged, AnsweringWanted};
 use crate::files::{encode, Row};
 use crate::inclusions::{with_inclusions, Parts, INCLUSION};
 use crate::small_worlds::{check_found, random_areas};
-use crate::tally::Tally;
+use crate::tally::{cases_of_checks, Tally};
 use crate::{damage, one_line, random_bytes, random_file, random_lent, whole_answer, Answering, Prng, Shape};
 use plain::{answer_wanting, Answer, Lent};
 use worlds::Ontology;
@@ -221,17 +221,6 @@ impl Asked<'_> {
 
     /// Which check refuses the file, and whether it looks at the list and not at the file's own wanted row.
     fn cases_of_checks(&self) -> Vec<(&'static str, bool)> {
-        const WHATS: [(&str, u8); 9] = [
-            ("refusal 1", 1),
-            ("refusal 2", 2),
-            ("refusal 3", 3),
-            ("refusal 4", 4),
-            ("refusal 5", 5),
-            ("refusal 6", 6),
-            ("refusal 7", 7),
-            ("refusal 8", 8),
-            ("refusal 16", 16),
-        ];
         let refused = |number: u8| self.answer == Answer::Refused(number);
         let file_refused = |number: u8| self.of_file == Answer::Refused(number);
         let is_file_accepted = !matches!(self.of_file, Answer::Refused(_));
@@ -245,7 +234,7 @@ impl Asked<'_> {
                 file_refused(8) && self.is_accepted() && self.list.is_empty(),
             ),
         ];
-        WHATS.into_iter().map(|(what, number)| (what, refused(number))).chain(by_list).collect()
+        [cases_of_checks(refused), by_list.to_vec()].concat()
     }
 
     /// What the answer is, and what several rows have to do with it.
