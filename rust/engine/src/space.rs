@@ -164,6 +164,26 @@ impl Space {
 
     /// Fills the table of a rule file's kinds, as [`catalogue`](crate::catalogue()) does. The table is lent, since it outlasts the runs: a
     /// page is made of it, and it is kept beside the rule file.
+    ///
+    /// ```
+    /// use gumbyra::{IsA, Refusal, Space};
+    /// # // Names 0 and 1, each with its opposite; either not 1 or 0, a rule.
+    /// # let rows = [[1, 0, 0, 0], [2, 0, 0, 0], [1, 0, 1, 0], [2, 0, 1, 0], [4, 0, 3, 0]];
+    /// # let file = [rows.as_flattened(), &[4], &[0, 0, 5, 1, 2], b"FIT"].concat();
+    ///
+    /// // An area of no bytes tells which names there are.
+    /// let mut space = Space::usual();
+    /// let Err(Refusal::TableShort { names }) = space.catalogue(&file, &mut []) else { panic!("there are names") };
+    /// let mut table = vec![0; names.len() * names.len()];
+    /// let page = space.catalogue(&file, &mut table)?;
+    /// for (a, b) in names.iter().flat_map(|a| names.iter().map(move |b| (a, b))) {
+    ///     if a != b && page.is_a(a, b) == Some(IsA::Always) {
+    ///         println!("every {a} is a {b}");
+    ///     }
+    /// }
+    /// # assert_eq!(page.table(), [1, 0, 1, 1]);
+    /// # Ok::<(), Refusal>(())
+    /// ```
     pub fn catalogue<'a>(&mut self, file: &[u8], table: &'a mut [u8]) -> Result<Catalogue<'a>, Refusal> {
         let Space { nodes, edges, alternatives, .. } = self;
         catalogue(file, WorkAreas { nodes, edges, alternatives }, table)
