@@ -17,7 +17,7 @@ pub enum IsA {
     Always,
     /// 0: no. One that isn't can exist.
     NotAlways,
-    /// 2: the work areas did not suffice to decide it. In larger ones it becomes one of the others, and no other entry changes.
+    /// 2: the work areas did not suffice to decide it. Larger ones may, and change no entry that is decided.
     Undecided,
 }
 
