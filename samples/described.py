@@ -1,4 +1,5 @@
-"""The samples in words: what make.py builds the rule files and drafts from. Those with narrower roles are in ways.py.
+"""The samples in words: what make.py builds the rule files and drafts from. Those with narrower roles are in ways.py, that
+with a catalogue page in kinds.py.
 
 In order: the kinds of row; the samples; which file each is in.
 
@@ -62,6 +63,7 @@ class Sample:
     rows: dict
     rules: list
     wanted: str
+    tells_names: bool = False  # the text has the names with their numbers, for a program that shows them
     added_later: str = ""  # put before the text when the file was finished, so that its trailer no longer fits
 
 

@@ -1,5 +1,5 @@
 #!/usr/bin/env python3
-"""The sample rule files and drafts, built from the descriptions in described.py and ways.py.
+"""The sample rule files and drafts, built from the descriptions in described.py, ways.py and kinds.py.
 
     samples/make.py             writes the .fit and .draft files
     samples/make.py --check     says whether these files and the tables of README.md are what it would write; exit status 1 if not
@@ -15,9 +15,10 @@ import sys
 
 sys.dont_write_bytecode = True  # no folder of Python's own beside the samples
 from described import INCLUSION, SAMPLES
+from kinds import KIND_SAMPLES
 from ways import WAYS_SAMPLES
 
-ALL_SAMPLES = SAMPLES | WAYS_SAMPLES
+ALL_SAMPLES = SAMPLES | WAYS_SAMPLES | KIND_SAMPLES
 
 HERE = pathlib.Path(__file__).resolve().parent
 
@@ -51,7 +52,10 @@ def text(sample):
     """The text part: plain words that name each role, row and rule. A draft's text goes into its result as it is, so it says whose
     numbers these are."""
     of_draft, in_draft = (" of the draft", " in the draft") if any(row[0] > INCLUSION for row in sample.rows.values()) else ("", "")
-    lines = [sample.title] + ["Role codes:"] * (sample.roles != [])
+    lines = [sample.title]
+    if sample.tells_names:
+        lines += ["Names:"] + [f"{number} {words}" for number, words in enumerate(sample.names)]
+    lines += ["Role codes:"] * (sample.roles != [])
     for k, (forwards, backwards) in enumerate(sample.roles):
         lines += [f"{2 * k} {forwards}", f"{2 * k + 1} {backwards}"]
     lines += [f"Rows{of_draft}:"] + [f"{number} {says}" for number, says in enumerate(sample.rows)]

@@ -1,11 +1,11 @@
 //! The questions of tests/vectors with their answers; the README beside them tells how to read them.
 
-use crate::questions::{Convert, Fit};
+use crate::questions::{Convert, Fit, Kinds, Wanted};
 use plain::Lent;
 use std::path::PathBuf;
 
 /// The vectors that are in force.
-const VECTORS: &str = "../../tests/vectors/level-06.txt";
+const VECTORS: &str = "../../tests/vectors/level-07.txt";
 
 /// A question `fit` with its answer.
 pub struct Case {
@@ -31,21 +31,33 @@ pub fn vectors() -> Vec<(String, String)> {
     lines.map(|(question, answer)| (question.to_string(), answer.to_string())).collect()
 }
 
+/// The questions with this word and a space among them, each read by this; then the question itself and its answer.
+fn asked<Q>(word: &str, parse: impl Fn(&str) -> Option<Q>) -> Vec<(Q, String, String)> {
+    let asked = |(question, expected): (String, String)| {
+        let read = parse(question.strip_prefix(word)?).unwrap_or_else(|| panic!("no question: `{question}`"));
+        Some((read, question, expected))
+    };
+    vectors().into_iter().filter_map(asked).collect()
+}
+
 /// The questions `fit` among them.
 pub fn cases() -> Vec<Case> {
-    let case = |(question, expected): (String, String)| {
-        let fit = Fit::parse(question.strip_prefix("fit ")?).unwrap_or_else(|| panic!("no question: `{question}`"));
-        Some(Case { question, file: fit.file, lent: fit.lent, expected })
-    };
-    vectors().into_iter().filter_map(case).collect()
+    let case = |(Fit { file, lent }, question, expected)| Case { question, file, lent, expected };
+    asked("fit ", Fit::parse).into_iter().map(case).collect()
 }
 
 /// The questions `convert` among them.
 pub fn draft_cases() -> Vec<DraftCase> {
-    let case = |(question, expected): (String, String)| {
-        let words = question.strip_prefix("convert ")?;
-        let Convert { draft, area } = Convert::parse(words).unwrap_or_else(|| panic!("no question: `{question}`"));
-        Some(DraftCase { question, draft, area, expected })
-    };
-    vectors().into_iter().filter_map(case).collect()
+    let case = |(Convert { draft, area }, question, expected)| DraftCase { question, draft, area, expected };
+    asked("convert ", Convert::parse).into_iter().map(case).collect()
+}
+
+/// The questions `wanted` among them, each with itself and its answer.
+pub fn wanted_cases() -> Vec<(Wanted, String, String)> {
+    asked("wanted ", Wanted::parse)
+}
+
+/// The questions `catalogue` among them, each with itself and its answer.
+pub fn catalogue_cases() -> Vec<(Kinds, String, String)> {
+    asked("catalogue ", Kinds::parse)
 }

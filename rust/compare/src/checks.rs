@@ -1,14 +1,25 @@
-//! Checks of an answering function, `plain::answer` or another with the same words, and of a converting one.
+//! Checks of an answering function, `plain::answer` or another with the same words, also with wanted rows given, of a converting one and
+//! of a cataloguing one.
 
-use crate::questions::{conversion_line, one_line, Conversion};
-use crate::{cases, draft_cases};
-use plain::{records, Answer, Lent};
+use crate::cases::{cases, catalogue_cases, draft_cases, wanted_cases};
+use crate::questions::{conversion_line, one_line, page_line, Conversion, Kinds, Wanted};
+use plain::{records, Answer, Lent, Page};
 use worlds::{Concept, Example, Ontology, World};
 
 /// An answering function: the answer to a file, given the lengths of the areas.
 pub trait Answering: FnMut(&[u8], &Lent) -> Answer {}
 
 impl<F: FnMut(&[u8], &Lent) -> Answer> Answering for F {}
+
+/// An answering function with wanted rows in place of the file's own: file, rows, lengths of the areas.
+pub trait AnsweringWanted: FnMut(&[u8], &[u8], &Lent) -> Answer {}
+
+impl<F: FnMut(&[u8], &[u8], &Lent) -> Answer> AnsweringWanted for F {}
+
+/// A cataloguing function: the page of a file, given the length of its table's area and those of the work areas.
+pub trait Cataloguing: FnMut(&[u8], usize, &Lent) -> Page {}
+
+impl<F: FnMut(&[u8], usize, &Lent) -> Page> Cataloguing for F {}
 
 /// A converting function: what becomes of a draft in an area of so many bytes.
 pub trait Converting: FnMut(&[u8], usize) -> Conversion {}
@@ -47,6 +58,28 @@ pub fn check_draft_cases(mut convert: impl Converting) {
     }
 }
 
+/// Every question `wanted` of tests/vectors, as those of `fit`.
+pub fn check_wanted_cases(mut answer: impl AnsweringWanted) {
+    let cases = wanted_cases();
+    assert!(cases.len() > 100, "the vectors are there");
+    for (Wanted { file, rows, lent }, question, expected) in cases {
+        let mut answer = |file: &[u8], lent: &Lent| answer(file, &rows, lent);
+        let first = answer(&file, &lent);
+        assert_eq!(one_line(&first), expected, "{question}");
+        let whole = whole_answer(&mut answer, &file, &lent, first);
+        check_judged(&file, Ontology::decode_wanting(&file, &rows).as_ref(), &whole);
+    }
+}
+
+/// Every question `catalogue` of tests/vectors: the answer is equal.
+pub fn check_catalogue_cases(mut catalogue: impl Cataloguing) {
+    let cases = catalogue_cases();
+    assert!(cases.len() > 50, "the vectors are there");
+    for (Kinds { file, area, lent }, question, expected) in cases {
+        assert_eq!(page_line(&catalogue(&file, area, &lent)), expected, "{question}");
+    }
+}
+
 /// The same answer, or, after refusal 11, the answer in example areas of just the records that it says are needed.
 pub fn whole_answer(answer: &mut impl Answering, file: &[u8], lent: &Lent, first: Answer) -> Answer {
     let Answer::TooLong { elements, links } = first else { return first };
@@ -62,12 +95,18 @@ pub fn whole_answer(answer: &mut impl Answering, file: &[u8], lent: &Lent, first
 /// example is judged. `worlds` reads files apart from `plain`, so this compares the two readers as well.
 pub fn check_example(file: &[u8], answer: &Answer) {
     let ontology = Ontology::decode(file);
-    assert_eq!(ontology.is_none(), matches!(answer, Answer::Refused(_)), "{answer:?} to {file:02x?}");
     let literal = |row: &Concept| matches!(row, Concept::Name(_) | Concept::NotName(_));
     assert!(ontology.iter().all(|ontology| ontology.rows.iter().any(literal)), "accepted: {file:02x?}");
+    check_judged(file, ontology.as_ref(), answer);
+}
+
+/// A file gets past the checks exactly if this is its meaning, with its own wanted row or with others in its place, and every example is
+/// judged by that.
+pub fn check_judged(file: &[u8], ontology: Option<&Ontology>, answer: &Answer) {
+    assert_eq!(ontology.is_none(), matches!(answer, Answer::Refused(_)), "{answer:?} to {file:02x?}");
     if let (Answer::Can { elements, links, .. }, Some(ontology)) = (answer, ontology) {
         let [elements, links] = records(elements, links);
-        check_records(file, &ontology, &Example::read(&elements, &links).expect("whole records"));
+        check_records(file, ontology, &Example::read(&elements, &links).expect("whole records"));
     }
 }
 

@@ -69,8 +69,8 @@ pub(crate) fn check_meaning(draft: &[u8], file: &[u8], shape: Shape, prng: &mut 
         for (place, (&rule, &of_file)) in meant.tbox.iter().zip(&written.tbox).enumerate() {
             assert_eq!(truth[rule], of_result[of_file], "rule {place} of {draft:02x?} in {world:?}");
         }
-        let wanted = &truth[meant.wanted];
-        assert_eq!(wanted, &of_result[written.wanted], "wanted row of {draft:02x?} in {world:?}");
+        let wanted = &truth[meant.wanted[0]];
+        assert_eq!(wanted, &of_result[written.wanted[0]], "wanted row of {draft:02x?} in {world:?}");
         telling += usize::from(wanted.contains(&true) && wanted.contains(&false));
     }
     telling

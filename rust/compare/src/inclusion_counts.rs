@@ -1,9 +1,10 @@
-//! How often things happened in runs of files with kind 7 rows; a property that never came up was not tested.
+//! How often things happened in runs of files with kind 7 rows.
 //!
 //! In order: the counts; where "all" rows reach along narrower roles in the graph of a run, which is the plain program's; pairs of an
 //! example that belong to a role only by a narrower one; the cases.
 
 use crate::inclusions::{Follow, Parts, Wider, INCLUSION};
+use crate::tally::Tally;
 use plain::concept::{inverse, Concept, Role};
 use plain::graph::{Above, Graph, Link};
 use plain::set_tests::existentials;
@@ -12,10 +13,7 @@ use worlds::{Example, Ontology};
 
 /// In how many files each case happened.
 #[derive(Default)]
-pub struct InclusionCounts {
-    files: usize,
-    times: Vec<(&'static str, usize)>,
-}
+pub struct InclusionCounts(Tally);
 
 impl InclusionCounts {
     /// Counts what happened with a file and its answer, which must be right.
@@ -26,22 +24,12 @@ impl InclusionCounts {
         let reaches = graph.iter().flat_map(|graph| reaches(&file, graph, &parts)).collect();
         let graph_roles = graph.iter().flat_map(roles_taken).collect();
         let seen = Seen { bytes, parts, answer, reaches, graph_roles };
-        let cases = [seen.cases_of_file(), seen.cases_of_reaches(), seen.cases_of_example()].concat();
-        self.files += 1;
-        self.times.resize(cases.len(), ("", 0));
-        for (count, (what, happened)) in self.times.iter_mut().zip(cases) {
-            *count = (what, count.1 + usize::from(happened));
-        }
+        self.0.add([seen.cases_of_file(), seen.cases_of_reaches(), seen.cases_of_example()].concat());
     }
 
     /// Prints the counts and fails if a case was rare.
     pub fn assert_often(&self, least: usize) {
-        println!("files: {}; those in which", self.files);
-        self.times.iter().for_each(|(what, times)| println!("  {what}: {times}"));
-        assert!(!self.times.is_empty(), "no files");
-        for (what, times) in &self.times {
-            assert!(*times >= least, "{what}: only {times} times");
-        }
+        self.0.assert_often("files", least);
     }
 }
 

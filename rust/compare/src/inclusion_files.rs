@@ -3,10 +3,10 @@
 
 use crate::inclusion_counts::InclusionCounts;
 use crate::inclusions::with_inclusions;
-use crate::small_worlds::{random_areas, MAX_ELEMENTS};
+use crate::small_worlds::{check_found, random_areas};
 use crate::{check_example, random_file, random_lent, whole_answer, Answering, Prng, Shape};
 use plain::{Answer, Lent};
-use worlds::{search, Ontology};
+use worlds::Ontology;
 
 /// Few roles, so that what is narrower than what matters; some with many; and how many files.
 const SHAPES: [(Shape, usize); 5] = [
@@ -59,16 +59,6 @@ fn check_worlds(answer: &mut impl Answering, file: &[u8], lent: &Lent) -> Answer
     assert_eq!(first, plain::answer(file, lent), "{file:02x?} in {lent:?}");
     let whole = whole_answer(answer, file, lent, first);
     check_example(file, &whole);
-    let ontology = Ontology::decode(file).expect("a random file is of the accepted form");
-    let found = search(&ontology, MAX_ELEMENTS);
-    assert!(found.iter().all(|world| world.is_model(&ontology, 0)), "the search is wrong about {file:02x?}");
-    match &whole {
-        Answer::Refused(_) | Answer::TooLong { .. } => panic!("{whole:?} to {file:02x?}"),
-        Answer::Short { .. } => (),
-        Answer::Cannot { .. } => assert!(found.is_none(), "cannot, but there is a world: {file:02x?}"),
-        Answer::Can { elements, .. } => {
-            assert!(elements.len() > MAX_ELEMENTS || found.is_some(), "the search missed a world: {file:02x?}");
-        }
-    }
+    check_found(file, &Ontology::decode(file).expect("a random file is of the accepted form"), &whole);
     whole
 }

@@ -1,8 +1,9 @@
-//! How often things happened in the rows that elements list; a property that never came up was not tested.
+//! How often things happened in the rows that elements list.
 //!
 //! In order: the counts; what there is to see in one example; the cases.
 
 use crate::needs::needs;
+use crate::tally::Tally;
 use plain::{answer_as_placed, records, Answer, Lent, RowSet};
 use std::collections::HashSet;
 use worlds::ontology::RoleUse;
@@ -11,10 +12,7 @@ use worlds::{Concept, Example, Ontology, World};
 
 /// In how many examples each case happened. The placed sets are those of `plain`.
 #[derive(Default)]
-pub struct ListingCounts {
-    examples: usize,
-    times: Vec<(&'static str, usize)>,
-}
+pub struct ListingCounts(Tally);
 
 impl ListingCounts {
     /// Counts what happened in the example of an answer, if it has one. The listing must be right.
@@ -28,22 +26,12 @@ impl ListingCounts {
         let world = example.world(&ontology);
         let truth = world.truth(&ontology);
         let seen = Seen { ontology: &ontology, world: &world, truth: &truth, links: example.links().collect(), placed };
-        self.examples += 1;
-        let cases = seen.cases();
-        self.times.resize(cases.len(), ("", 0));
-        for (count, (what, happened)) in self.times.iter_mut().zip(cases) {
-            *count = (what, count.1 + usize::from(happened));
-        }
+        self.0.add(seen.cases());
     }
 
     /// Prints the counts and fails if a case was rare.
     pub fn assert_often(&self, least: usize) {
-        println!("examples: {}; those in which", self.examples);
-        self.times.iter().for_each(|(what, times)| println!("  {what}: {times}"));
-        assert!(!self.times.is_empty(), "no examples");
-        for (what, times) in &self.times {
-            assert!(*times >= least, "{what}: only {times} times");
-        }
+        self.0.assert_often("examples", least);
     }
 }
 

@@ -5,7 +5,7 @@ use worlds::{Concept, Ontology};
 /// For each row: is it needed itself, is its opposite? Arguments are lower rows, so one pass downwards settles all.
 pub fn needs(ontology: &Ontology) -> Vec<[bool; 2]> {
     let mut needs = vec![[false; 2]; ontology.rows.len()];
-    ontology.tbox.iter().chain([&ontology.wanted]).for_each(|&row| needs[row][0] = true);
+    ontology.tbox.iter().chain(&ontology.wanted).for_each(|&row| needs[row][0] = true);
     for row in (0..needs.len()).rev() {
         for (argument, turned) in arguments(ontology.rows[row]) {
             let [itself, opposite] = needs[row];

@@ -24,7 +24,7 @@ fn samples() -> Vec<(PathBuf, Vec<u8>, String)> {
 /// In the areas of the printing program each sample gets what is in the text beside it.
 pub fn check_samples(mut answer: impl Answering) {
     let samples = samples();
-    assert!(samples.len() >= 16, "the samples are there");
+    assert!(samples.len() >= 17, "the samples are there");
     for (path, file, printed) in samples {
         let answer = answer(&file, &Lent::by_program());
         assert_eq!(print(&answer), printed, "{}", path.display());

@@ -58,11 +58,25 @@ fn padded(file: &[u8], most: usize) -> Vec<u8> {
     encode(text, &table.rows, rules, trailer[4])
 }
 
-/// Files of 64 rows, 62 of them of kinds 5 and 6. Their examples have 1,221 elements and 2,031 links; 512 and 1,536; 256 and 1,792; 128
-/// and 1,920; 64 and 1,984.
+/// The lines. Their examples have 1,221 elements and 2,031 links; 512 and 1,536; 256 and 1,792; 128 and 1,920; 64 and 1,984.
+fn lines() -> [Vec<u8>; 5] {
+    [line_with_pause(13, 5), line(9, 1), line(8, 5), line(7, 13), line(6, 29)]
+}
+
+/// Files of 64 rows, 62 of them of kinds 5 and 6, with these examples.
 pub fn wide() -> Vec<Vec<u8>> {
-    let lines = [line_with_pause(13, 5), line(9, 1), line(8, 5), line(7, 13), line(6, 29)];
-    lines.iter().map(|file| padded(file, MOST_ROWS)).collect()
+    lines().iter().map(|file| padded(file, MOST_ROWS)).collect()
+}
+
+/// The same lines with kind 2 rows of their two names, so that a catalogue lists both. By a rule every element is a 0; not every one is a 1,
+/// and an example with one that isn't is at least as large as the line's.
+pub fn wide_kinds() -> Vec<Vec<u8>> {
+    let with_both = |file: &Vec<u8>| {
+        let mut parts = Parts::of(&padded(file, MOST_ROWS - 2));
+        parts.rows.extend([[2, 0, 0, 0], [2, 0, 1, 0]]);
+        parts.bytes()
+    };
+    lines().iter().map(with_both).collect()
 }
 
 /// Files of 64 rows, half of them of kind 7 in one long chain of all roles, so that a pair belongs to up to 16 roles. Their examples have 256

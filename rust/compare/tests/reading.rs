@@ -12,7 +12,7 @@ fn the_text_is_the_leading_part_of_the_file() {
     let file = RuleFile::read(&bytes).expect("the file is accepted");
     assert_eq!(file.text, b"flush valve");
     assert_eq!(file.text.as_ptr(), bytes.as_ptr(), "uncopied");
-    assert_eq!((file.tbox, file.wanted), (vec![1, 1], 2));
+    assert_eq!((file.tbox, file.wanted), (vec![1, 1], vec![2]));
 }
 
 #[test]

@@ -79,7 +79,7 @@ fn convert_slowly(draft: &[u8]) -> Conversion {
     let ontology = Ontology::decode_draft(draft).expect("a draft");
     let mut rows: Vec<(Term, Row)> = ontology.inclusions().map(inclusion).collect();
     let rules: Vec<u8> = ontology.tbox.iter().map(|&rule| number(&term(&ontology, rule), &mut rows)).collect();
-    let wanted = number(&term(&ontology, ontology.wanted), &mut rows);
+    let wanted = number(&term(&ontology, ontology.wanted[0]), &mut rows);
     let rows: Vec<Row> = rows.into_iter().map(|(_, row)| row).collect();
     let text = draft.len() - 8 - ontology.tbox.len() - 4 * ontology.rows.len();
     let file = encode(&draft[..text], &rows, &rules, wanted);

@@ -1,5 +1,6 @@
-/* The fit engine: two calls on a rule file, and one that makes a rule file of a draft. Link with libgumbyra.a, which is for
-   x86-64 Linux only. examples/eight_nodes.c, examples/enlarge.c, examples/draft.c and examples/fitted.c are whole programs.
+/* The fit engine: three calls on a rule file, one that tells which of its kinds are which, and one that makes a rule file of a draft.
+   Link with libgumbyra.a, which is for x86-64 Linux only. examples/eight_nodes.c, examples/enlarge.c, examples/draft.c,
+   examples/fitted.c and examples/catalogue.c are whole programs.
 
    In all calls a pointer may not be null, even with length 0. Nothing is kept after a call, and there is no state: threads may
    call at the same time, with areas of their own. For a call of this build a stack of 1 MiB suffices. */
@@ -58,6 +59,44 @@ gumbyra_answer gumbyra_fit(const uint8_t *file, size_t file_len,
                            uint8_t *alternatives, size_t alternatives_len,
                            uint8_t *elements, size_t elements_len,
                            uint8_t *links, size_t links_len);
+
+/* The same with a list of wanted rows, a byte each, in place of the file's own wanted row, which is not looked at: can there be a member
+   of all of them? The list may have any length, repeats, and no row at all: then any element is a member. 8 and 16 come if one of the
+   list is no row, or one of kind 7. It is only read; no area may overlap it. */
+gumbyra_answer gumbyra_fit_wanted(const uint8_t *file, size_t file_len,
+                                  const uint8_t *wanted, size_t wanted_len,
+                                  uint8_t *nodes, size_t nodes_len,
+                                  uint8_t *edges, size_t edges_len,
+                                  uint8_t *alternatives, size_t alternatives_len,
+                                  uint8_t *elements, size_t elements_len,
+                                  uint8_t *links, size_t links_len);
+
+/* The most names of a catalogue, and the most bytes of its table: an area of so many suffices for gumbyra_catalogue. */
+enum { GUMBYRA_MOST_NAMES = 32, GUMBYRA_LARGEST_TABLE = 1024 };
+
+/* The entries of a table: an a that isn't a b can exist, cannot, or the work areas did not suffice to decide it. */
+enum { GUMBYRA_NOT_ALWAYS = 0, GUMBYRA_ALWAYS = 1, GUMBYRA_UNDECIDED = 2 };
+
+/* The refusal of a catalogue whose table has more bytes than its area. It comes after all checks of the file. */
+enum { GUMBYRA_TABLE_SHORT = 17 };
+
+typedef struct {
+    uint32_t refusal; /* 0 if the table is filled; else 1 to 8, 16: the file; 17: the table's area is short */
+    uint32_t count;   /* how many names are listed, the table being the square of them; zero with 1 to 8 and 16 */
+    uint64_t names;   /* bit n is set if name n is listed; zero with 1 to 8 and 16 */
+} gumbyra_page;
+
+/* Is every part with the one name a part with the other? Listed are the names that have both a kind 1 and a kind 2 row, rising. The first
+   count * count bytes of table are filled, row after row: row a, column b is for the a-th and the b-th name listed, and is GUMBYRA_ALWAYS
+   if every a is a b. Each entry is by a run of its own in the same work areas. Of a name that nothing can have the whole row is so.
+   The file is checked as it stands, its own wanted row too. The areas may be of any length and hold anything; no two may overlap, nor one
+   the file. With a table every byte of nodes, edges and alternatives is zero afterwards, and bytes of table past it are as they were; after
+   a refusal all areas are. */
+gumbyra_page gumbyra_catalogue(const uint8_t *file, size_t file_len,
+                               uint8_t *nodes, size_t nodes_len,
+                               uint8_t *edges, size_t edges_len,
+                               uint8_t *alternatives, size_t alternatives_len,
+                               uint8_t *table, size_t table_len);
 
 /* How many leading bytes of a rule file are its text; 0 for a file that is refused with 1 to 8 or 16. */
 size_t gumbyra_text(const uint8_t *file, size_t file_len);

@@ -1,6 +1,6 @@
 //! The calls by the C convention, as in include/gumbyra.h. The only unsafe code.
 
-use crate::Areas;
+use crate::{Areas, WorkAreas};
 
 /// The numbers of an answer.
 #[repr(C)]
@@ -24,6 +24,15 @@ pub struct Conversion {
     pub length: u32,
 }
 
+/// The numbers of a catalogue page.
+#[repr(C)]
+#[derive(Debug)]
+pub struct Page {
+    pub refusal: u32,
+    pub count: u32,
+    pub names: u64,
+}
+
 extern "C" {
     fn gumbyra_fit(
         file: *const u8,
@@ -39,6 +48,36 @@ extern "C" {
         links: *mut u8,
         links_len: usize,
     ) -> Answer;
+
+    fn gumbyra_fit_wanted(
+        file: *const u8,
+        file_len: usize,
+        wanted: *const u8,
+        wanted_len: usize,
+        nodes: *mut u8,
+        nodes_len: usize,
+        edges: *mut u8,
+        edges_len: usize,
+        alternatives: *mut u8,
+        alternatives_len: usize,
+        elements: *mut u8,
+        elements_len: usize,
+        links: *mut u8,
+        links_len: usize,
+    ) -> Answer;
+
+    fn gumbyra_catalogue(
+        file: *const u8,
+        file_len: usize,
+        nodes: *mut u8,
+        nodes_len: usize,
+        edges: *mut u8,
+        edges_len: usize,
+        alternatives: *mut u8,
+        alternatives_len: usize,
+        table: *mut u8,
+        table_len: usize,
+    ) -> Page;
 
     fn gumbyra_text(file: *const u8, file_len: usize) -> usize;
 
@@ -63,6 +102,49 @@ pub fn fit(file: &[u8], areas: &mut Areas) -> Answer {
             areas.elements.len(),
             areas.links.as_mut_ptr(),
             areas.links.len(),
+        )
+    }
+}
+
+/// Decides a rule file with these wanted rows in place of its own.
+pub fn fit_wanted(file: &[u8], wanted: &[u8], areas: &mut Areas) -> Answer {
+    // SAFETY: as for `fit`. The wanted rows are only read, and only during the call.
+    unsafe {
+        gumbyra_fit_wanted(
+            file.as_ptr(),
+            file.len(),
+            wanted.as_ptr(),
+            wanted.len(),
+            areas.nodes.as_mut_ptr(),
+            areas.nodes.len(),
+            areas.edges.as_mut_ptr(),
+            areas.edges.len(),
+            areas.alternatives.as_mut_ptr(),
+            areas.alternatives.len(),
+            areas.elements.as_mut_ptr(),
+            areas.elements.len(),
+            areas.links.as_mut_ptr(),
+            areas.links.len(),
+        )
+    }
+}
+
+/// Fills the table of a rule file's kinds.
+pub fn catalogue(file: &[u8], work: WorkAreas, table: &mut [u8]) -> Page {
+    // SAFETY: each pointer comes with the length of its slice. The slices are borrowed until the call ends, the areas alone,
+    // so no two overlap. The catalogue keeps no pointer and has no state of its own.
+    unsafe {
+        gumbyra_catalogue(
+            file.as_ptr(),
+            file.len(),
+            work.nodes.as_mut_ptr(),
+            work.nodes.len(),
+            work.edges.as_mut_ptr(),
+            work.edges.len(),
+            work.alternatives.as_mut_ptr(),
+            work.alternatives.len(),
+            table.as_mut_ptr(),
+            table.len(),
         )
     }
 }

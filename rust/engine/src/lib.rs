@@ -14,27 +14,31 @@
 //! }
 //! ```
 //!
-//! In order: the calls ([`fit`](fit()), [`text`] and [`convert`], which makes a rule file of a draft with "not" and "if"), the
-//! space that they work in ([`space`]), what comes back ([`verdict`], [`refusal`], [`example`], [`row_set`], [`conversion`]), the
-//! C convention. The engine and the converter are proved; this crate only hands slices over and reads the numbers and bytes that
-//! come back. But for [`Space`] it allocates nothing.
+//! In order: the calls ([`fit`](fit()), [`fit_wanted`], [`catalogue`](catalogue()), [`text`] and [`convert`], which makes a rule file of
+//! a draft with "not" and "if"), the space that they work in ([`space`]), what comes back ([`verdict`], [`refusal`], [`example`],
+//! [`row_set`], [`catalogue`](mod@catalogue), [`names`], [`conversion`]), the C convention. The engine, the catalogue and the converter are
+//! proved; this crate only hands slices over and reads the numbers and bytes that come back. But for [`Space`] it allocates nothing.
 //!
 //! The archive is for x86-64 Linux only. For a call of this build a stack of 1 MiB suffices; a thread of Rust has 2 by default.
 
+pub mod catalogue;
 #[allow(unsafe_code)]
 mod convention;
 pub mod conversion;
 pub mod example;
+pub mod names;
 pub mod refusal;
 pub mod row_set;
 pub mod space;
 pub mod verdict;
 
+pub use catalogue::{Catalogue, IsA, LARGEST_TABLE, MOST_NAMES};
 pub use conversion::LONGEST_FILE;
 pub use example::{Example, Link, LINK_BYTES};
+pub use names::Names;
 pub use refusal::Refusal;
 pub use row_set::{RowSet, ELEMENT_BYTES};
-pub use space::{Areas, Sizes, Space, ALTERNATIVE_BYTES, EDGE_BYTES, MOST_RECORDS, NODE_BYTES};
+pub use space::{Areas, Sizes, Space, WorkAreas, ALTERNATIVE_BYTES, EDGE_BYTES, MOST_RECORDS, NODE_BYTES};
 pub use verdict::{Used, Verdict};
 
 /// Decides a rule file in lent areas. [`Space`] has areas of its own. With "can" each element of the example lists the rows that hold
@@ -98,6 +102,79 @@ pub fn fit<'a>(file: &[u8], mut areas: Areas<'a>) -> Result<Verdict<'a>, Refusal
     let answer = convention::fit(file, &mut areas);
     verdict::outcome(&answer, [areas.elements, areas.links])
         .unwrap_or_else(|| panic!("no answer of the engine: {answer:?}"))
+}
+
+/// Decides a rule file with a list of wanted rows in place of its own wanted row: can there be a member of all of them? [`fit`](fit()) is
+/// this with the file's one row.
+///
+/// The list may have any length, repeats, and no row at all: then any element is a member. The file's own wanted row is not looked at, and
+/// refusals 8 and 16 come if one of the list is no row, or one of kind 7.
+///
+/// ```
+/// use gumbyra::{Refusal, Space, Verdict};
+///
+/// // Rows: is a dosing pump; is no dosing pump; is a peristaltic pump; is no peristaltic pump; either row 3 or row 0, the only rule: a
+/// // peristaltic pump is a dosing pump. The file itself wants row 2.
+/// let rows = [[1, 0, 0, 0], [2, 0, 0, 0], [1, 0, 1, 0], [2, 0, 1, 0], [4, 0, 3, 0]];
+/// let file = [rows.as_flattened(), &[4], &[0, 0, 5, 1, 2], b"FIT"].concat();
+///
+/// let mut space = Space::usual();
+/// let mut can = |wanted: &[u8]| Ok::<bool, Refusal>(matches!(space.fit_wanted(&file, wanted)?, Verdict::Can { .. }));
+/// assert!(can(&[2])? && can(&[1])?, "there are peristaltic pumps, and things that are no dosing pump");
+/// assert!(!can(&[2, 1])?, "but nothing is both");
+/// assert!(!can(&[1, 2, 2, 1])?, "in whichever order and however often they are named");
+/// assert!(can(&[])?, "there is something at all");
+/// assert_eq!(can(&[2, 5]), Err(Refusal::NoSuchRow));
+/// # Ok::<(), Refusal>(())
+/// ```
+///
+/// # Panics
+/// As [`fit`](fit()).
+pub fn fit_wanted<'a>(file: &[u8], wanted: &[u8], mut areas: Areas<'a>) -> Result<Verdict<'a>, Refusal> {
+    let answer = convention::fit_wanted(file, wanted, &mut areas);
+    verdict::outcome(&answer, [areas.elements, areas.links])
+        .unwrap_or_else(|| panic!("no answer of the engine: {answer:?}"))
+}
+
+/// Which kinds of part are which: fills a square table of the names of a rule file that have both a kind 1 and a kind 2 row, in order of
+/// name. Row a, column b says whether every a is a b, each entry by a run of its own in the same work areas.
+///
+/// The file is checked as it stands, its own wanted row too, but that has no say in the table. After a catalogue the bytes of the table's
+/// area past the table are as they were; after a refusal all areas are. [`LARGEST_TABLE`] bytes suffice for every table.
+///
+/// ```
+/// use gumbyra::{catalogue, IsA, Refusal, WorkAreas, ALTERNATIVE_BYTES, EDGE_BYTES, NODE_BYTES};
+///
+/// // Names: 3 dosing pump, 5 peristaltic pump, 9 hose. Rows: of each that it is one, and that it is none; has only fitted to it what is
+/// // no hose. Rules: a peristaltic pump has some hose fitted to it; what has some hose fitted to it is a dosing pump.
+/// let rows = [[1, 0, 3, 0], [2, 0, 3, 0], [1, 0, 5, 0], [2, 0, 5, 0], [1, 0, 9, 0], [2, 0, 9, 0], [5, 1, 5, 0]];
+/// let more = [[6, 1, 4, 0], [4, 0, 3, 7], [4, 0, 6, 0]];
+/// let file = [rows.as_flattened(), more.as_flattened(), &[8, 9], &[0, 0, 10, 2, 0], b"FIT"].concat();
+///
+/// let (mut nodes, mut edges, mut alternatives) = ([0; 64 * NODE_BYTES], [0; 64 * EDGE_BYTES], [0; 8 * ALTERNATIVE_BYTES]);
+/// let mut table = [7; 10];
+/// let work = WorkAreas { nodes: &mut nodes, edges: &mut edges, alternatives: &mut alternatives };
+/// let page = catalogue(&file, work, &mut table)?;
+/// assert_eq!(page.names().iter().collect::<Vec<_>>(), [3, 5, 9]);
+/// assert_eq!(page.is_a(5, 3), Some(IsA::Always), "every peristaltic pump is a dosing pump");
+/// assert_eq!(page.is_a(3, 5), Some(IsA::NotAlways), "but not the other way");
+/// assert_eq!(page.is_a(5, 4), None, "there is no name 4");
+/// assert_eq!(table, [1, 0, 0, 1, 1, 0, 0, 0, 1, 7], "row after row; the last byte is not the table's");
+///
+/// // Without nodes nothing is decided, and nine bytes are needed.
+/// let work = WorkAreas { nodes: &mut [], edges: &mut edges, alternatives: &mut alternatives };
+/// assert_eq!(catalogue(&file, work, &mut table)?.is_a(5, 5), Some(IsA::Undecided));
+/// let work = WorkAreas { nodes: &mut nodes, edges: &mut edges, alternatives: &mut alternatives };
+/// let Err(Refusal::TableShort { names }) = catalogue(&file, work, &mut table[..8]) else { panic!("a short area") };
+/// assert_eq!(names.len(), 3);
+/// # Ok::<(), Refusal>(())
+/// ```
+///
+/// # Panics
+/// If the numbers or the table that come back are of no answer: then the archive is not the one that this crate was written for.
+pub fn catalogue<'a>(file: &[u8], work: WorkAreas, table: &'a mut [u8]) -> Result<Catalogue<'a>, Refusal> {
+    let page = convention::catalogue(file, work, table);
+    catalogue::outcome(&page, table).unwrap_or_else(|| panic!("no answer of the catalogue: {page:?}"))
 }
 
 /// The text of a rule file: the part of the file before its rows, uncopied. Of a file that a file check refuses (1 to 8 and 16) it is

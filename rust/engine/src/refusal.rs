@@ -1,9 +1,11 @@
-//! Refusals: their numbers and their sentences (document 01, "Refusals, in checking order"; document 02, [1], [4] and [6]).
+//! Refusals: their numbers and their sentences (document 01, "Refusals, in checking order"; document 02, [1], [4], [6] and [7]).
 
+use crate::catalogue::MOST_NAMES;
+use crate::names::Names;
 use crate::space::MOST_RECORDS;
 use std::fmt;
 
-/// Why there is no verdict, or no file from a draft.
+/// Why there is no verdict, no file from a draft, or no catalogue page.
 ///
 /// Later versions of the engine have more refusals, and may give up one of these. There is no 9: it was "No row has kind 1 or 2",
 /// and no file got as far as that check to fail it (document 02, [3]). The number is not used again. There is no 10 either: it was
@@ -25,7 +27,7 @@ pub enum Refusal {
     Argument,
     /// 7: a row that repeats another.
     Repeat,
-    /// 8: a rule or the wanted row.
+    /// 8: a rule or the wanted row; where a list of wanted rows takes its place, one of them.
     NoSuchRow,
     /// 11: the kit can exist, but the example areas don't hold so many records.
     ExampleTooLong { elements: usize, links: usize },
@@ -41,6 +43,9 @@ pub enum Refusal {
     AlternativesShort { lent: usize },
     /// 16: a row of kind 7, which speaks of roles, in a place for a row that speaks of elements. The check comes after that of 8.
     Inclusion,
+    /// 17: the area for the table of a catalogue is shorter than the square of how many names are listed. It comes after all checks of the
+    /// file. [`LARGEST_TABLE`](crate::LARGEST_TABLE) bytes suffice for every table.
+    TableShort { names: Names },
 }
 
 /// The refusals by a check of the file or the draft, in checking order.
@@ -75,6 +80,15 @@ impl Refusal {
         match number {
             12 => Some(Refusal::ResultTooLong),
             _ => Refusal::of_check(number),
+        }
+    }
+
+    /// The refusal of a catalogue page with this number and these names; `None` if the engine never gives these.
+    pub(crate) fn of_page(number: u32, names: Names) -> Option<Refusal> {
+        match (number, names.len()) {
+            (17, 1..=MOST_NAMES) => Some(Refusal::TableShort { names }),
+            (_, 0) => Refusal::of_check(number),
+            _ => None,
         }
     }
 
@@ -115,11 +129,12 @@ impl Refusal {
             Refusal::EdgesShort { .. } => (14, "The procedure's next edge has no place in its area."),
             Refusal::AlternativesShort { .. } => (15, "The procedure's next alternative has no place in its area."),
             Refusal::Inclusion => (16, "A row of kind 7 serves as an argument, a rule or the wanted row."),
+            Refusal::TableShort { .. } => (17, "The table's area is shorter than the square of its names."),
         }
     }
 }
 
-/// The number and the sentence, the counts of 11 and the count of 13, 14 and 15.
+/// The number and the sentence, the counts of 11 and the count of 13, 14, 15 and 17.
 impl fmt::Display for Refusal {
     fn fmt(&self, f: &mut fmt::Formatter) -> fmt::Result {
         let (number, sentence) = self.entry();
@@ -129,6 +144,7 @@ impl fmt::Display for Refusal {
             Refusal::NodesShort { lent } => write!(f, " Nodes lent: {lent}."),
             Refusal::EdgesShort { lent } => write!(f, " Edges lent: {lent}."),
             Refusal::AlternativesShort { lent } => write!(f, " Alternatives lent: {lent}."),
+            Refusal::TableShort { names } => write!(f, " Names: {}.", names.len()),
             _ => Ok(()),
         }
     }
@@ -147,6 +163,7 @@ mod tests {
         for check in CHECKS {
             assert_eq!(Refusal::of_run(check.number().into(), [0, 0], 0), Some(check));
             assert_eq!(Refusal::of_conversion(check.number().into()), Some(check));
+            assert_eq!(Refusal::of_page(check.number().into(), names(0)), Some(check));
         }
         let too_long = Refusal::ExampleTooLong { elements: 2, links: 1 };
         assert_eq!(Refusal::of_run(11, [2, 1], 0), Some(too_long));
@@ -158,6 +175,15 @@ mod tests {
                 assert_eq!(u32::from(short.number()), number);
             }
         }
+        for names in [1, 7, MOST_NAMES].map(names) {
+            assert_eq!(Refusal::of_page(17, names), Some(Refusal::TableShort { names }));
+            assert_eq!(Refusal::TableShort { names }.number(), 17);
+        }
+    }
+
+    /// So many names.
+    fn names(count: usize) -> Names {
+        Names::of_bits((1 << count) - 1)
     }
 
     /// Refusals 13, 14 and 15.
@@ -182,6 +208,12 @@ mod tests {
             }
         }
         assert!([0, 9, 10, 11, 13, 14, 15, 17].into_iter().all(|number| Refusal::of_conversion(number).is_none()));
+        for number in [0, 9, 10, 11, 12, 13, 14, 15, 18] {
+            assert_eq!([0, 1, 7].map(|count| Refusal::of_page(number, names(count))), [None; 3], "{number}");
+        }
+        for (number, count) in [(1, 1), (8, 7), (16, 1), (17, 0), (17, MOST_NAMES + 1)] {
+            assert_eq!(Refusal::of_page(number, names(count)), None, "{number} {count}");
+        }
     }
 
     /// For translators: samples/README.md has each number with its sentence, rising, and no other.
@@ -191,7 +223,11 @@ mod tests {
         let readme = std::fs::read_to_string(path).expect("samples/README.md");
         let (_, list) = readme.split_once("| number | sentence |\n|---|---|\n").expect("the list of messages");
         let listed: Vec<&str> = list.lines().take_while(|line| line.starts_with('|')).collect();
-        let others = [Refusal::ExampleTooLong { elements: 0, links: 0 }, Refusal::ResultTooLong];
+        let others = [
+            Refusal::ExampleTooLong { elements: 0, links: 0 },
+            Refusal::ResultTooLong,
+            Refusal::TableShort { names: names(0) },
+        ];
         let mut all = [CHECKS.as_slice(), &others, &short(0)].concat();
         all.sort_by_key(Refusal::number);
         let lines: Vec<String> = all.iter().map(|r| format!("| {} | {} |", r.number(), r.sentence())).collect();
@@ -212,5 +248,7 @@ mod tests {
             edges.starts_with("refusal 14: ") && edges.ends_with("next edge has no place in its area. Edges lent: 7.")
         );
         assert!(alternatives.ends_with("next alternative has no place in its area. Alternatives lent: 7."));
+        let table = "refusal 17: The table's area is shorter than the square of its names. Names: 7.";
+        assert_eq!(Refusal::TableShort { names: names(7) }.to_string(), table);
     }
 }

@@ -1,6 +1,6 @@
 //! The space that a run works in: five areas, lent as slices or owned (document 01, "Areas").
 
-use crate::{fit, Refusal, Verdict, ELEMENT_BYTES, LINK_BYTES};
+use crate::{catalogue, fit, fit_wanted, Catalogue, Refusal, Verdict, ELEMENT_BYTES, LINK_BYTES};
 
 /// A node's record.
 pub const NODE_BYTES: usize = 64;
@@ -26,6 +26,18 @@ pub struct Areas<'a> {
     pub elements: &'a mut [u8],
     /// The example's links, [`LINK_BYTES`] each.
     pub links: &'a mut [u8],
+}
+
+/// Three lent areas, for a [`catalogue`](crate::catalogue()). What they hold before has no say in it, and they may be of any length.
+///
+/// After a catalogue every byte of them is zero; after a refusal they are as they were.
+pub struct WorkAreas<'a> {
+    /// Nodes, [`NODE_BYTES`] each.
+    pub nodes: &'a mut [u8],
+    /// Graph edges, [`EDGE_BYTES`] each.
+    pub edges: &'a mut [u8],
+    /// Alternatives, [`ALTERNATIVE_BYTES`] each.
+    pub alternatives: &'a mut [u8],
 }
 
 /// How many records each area of a [`Space`] holds.
@@ -142,7 +154,44 @@ impl Space {
 
     /// Decides a rule file, as [`fit`](crate::fit()) does.
     pub fn fit(&mut self, file: &[u8]) -> Result<Verdict<'_>, Refusal> {
+        fit(file, self.areas())
+    }
+
+    /// Decides a rule file with these wanted rows in place of its own, as [`fit_wanted`](crate::fit_wanted()) does.
+    pub fn fit_wanted(&mut self, file: &[u8], wanted: &[u8]) -> Result<Verdict<'_>, Refusal> {
+        fit_wanted(file, wanted, self.areas())
+    }
+
+    /// Fills the table of a rule file's kinds, as [`catalogue`](crate::catalogue()) does. The table is lent, since it outlasts the runs: a
+    /// page is made of it, and it is kept beside the rule file.
+    ///
+    /// ```
+    /// use gumbyra::{IsA, Refusal, Space};
+    /// # // Names 0 and 1, each with its opposite; either not 1 or 0, a rule.
+    /// # let rows = [[1, 0, 0, 0], [2, 0, 0, 0], [1, 0, 1, 0], [2, 0, 1, 0], [4, 0, 3, 0]];
+    /// # let file = [rows.as_flattened(), &[4], &[0, 0, 5, 1, 2], b"FIT"].concat();
+    ///
+    /// // An area of no bytes tells which names there are.
+    /// let mut space = Space::usual();
+    /// let Err(Refusal::TableShort { names }) = space.catalogue(&file, &mut []) else { panic!("there are names") };
+    /// let mut table = vec![0; names.len() * names.len()];
+    /// let page = space.catalogue(&file, &mut table)?;
+    /// for (a, b) in names.iter().flat_map(|a| names.iter().map(move |b| (a, b))) {
+    ///     if a != b && page.is_a(a, b) == Some(IsA::Always) {
+    ///         println!("every {a} is a {b}");
+    ///     }
+    /// }
+    /// # assert_eq!(page.table(), [1, 0, 1, 1]);
+    /// # Ok::<(), Refusal>(())
+    /// ```
+    pub fn catalogue<'a>(&mut self, file: &[u8], table: &'a mut [u8]) -> Result<Catalogue<'a>, Refusal> {
+        let Space { nodes, edges, alternatives, .. } = self;
+        catalogue(file, WorkAreas { nodes, edges, alternatives }, table)
+    }
+
+    /// The five areas.
+    fn areas(&mut self) -> Areas<'_> {
         let Space { nodes, edges, alternatives, elements, links } = self;
-        fit(file, Areas { nodes, edges, alternatives, elements, links })
+        Areas { nodes, edges, alternatives, elements, links }
     }
 }

@@ -39,6 +39,20 @@ row 7 wanted: verdict 2, refusal 0
 row 0 wanted: verdict 0, refusal 16
 ";
 
+/// With six nodes what needs a hose, and what need not be a dosing pump, is mostly undecided; eight bytes are no room for three names.
+const CATALOGUE: &str = "\
+64 nodes, 1024 bytes: refusal 0, 3 names
+dosing pump      yes   -   -
+peristaltic pump yes yes   -
+hose               -   - yes
+6 nodes, 9 bytes: refusal 0, 3 names
+dosing pump      yes   -   -
+peristaltic pump   ? yes   ?
+hose               ?   - yes
+64 nodes, 8 bytes: refusal 17, 3 names
+a peristaltic pump that isn't a dosing pump: verdict 2
+";
+
 /// What an example prints.
 fn output(example: &str) -> String {
     let crate_dir = Path::new(env!("CARGO_MANIFEST_DIR"));
@@ -75,4 +89,9 @@ fn the_c_example_converts_a_draft() {
 #[test]
 fn the_c_example_goes_by_narrower_roles() {
     assert_eq!(output("fitted"), FITTED);
+}
+
+#[test]
+fn the_c_example_tells_which_kinds_are_which() {
+    assert_eq!(output("catalogue"), CATALOGUE);
 }

@@ -89,7 +89,7 @@ pub enum Answer {
     Short { area: Area, lent: usize },
     /// Refusal 11: the verdict is "can" and an example area is too short for so many.
     TooLong { elements: usize, links: usize },
-    /// The wanted row cannot hold anywhere.
+    /// The wanted rows cannot hold together anywhere.
     Cannot { used: Used },
     /// It can, and this is an example; an element lists every row that holds there.
     Can { used: Used, elements: Vec<RowSet>, links: Vec<RoleLink> },
@@ -97,18 +97,27 @@ pub enum Answer {
 
 /// The answer to a file, given the lengths of the areas.
 pub fn answer(file: &[u8], lent: &Lent) -> Answer {
-    answer_listing(file, lent, Example::evaluated)
+    answer_listing(RuleFile::read(file), lent, Example::evaluated)
+}
+
+/// The answer to a file with these wanted rows in place of its own: can there be a member of all of them? (Document 02, [7].)
+pub fn answer_wanting(file: &[u8], wanted: &[u8], lent: &Lent) -> Answer {
+    answer_listing(RuleFile::read_wanting(file, wanted), lent, Example::evaluated)
 }
 
 /// The same, but an element of the example lists the rows that the procedure placed there and no other, as before request 2 of
 /// document 02. The tests compare the two examples.
 pub fn answer_as_placed(file: &[u8], lent: &Lent) -> Answer {
-    answer_listing(file, lent, |example, _| example)
+    answer_listing(RuleFile::read(file), lent, |example, _| example)
 }
 
-/// The answer, with the rows of an example listed in one way or the other.
-fn answer_listing(file: &[u8], lent: &Lent, list: impl FnOnce(Example, &[Concept]) -> Example) -> Answer {
-    let file = match RuleFile::read(file) {
+/// The answer to a file that was read, with the rows of an example listed in one way or the other.
+fn answer_listing(
+    read: Result<RuleFile, u8>,
+    lent: &Lent,
+    list: impl FnOnce(Example, &[Concept]) -> Example,
+) -> Answer {
+    let file = match read {
         Ok(file) => file,
         Err(number) => return Answer::Refused(number),
     };
@@ -119,6 +128,11 @@ fn answer_listing(file: &[u8], lent: &Lent, list: impl FnOnce(Example, &[Concept
 }
 
 /// Root yes or open means "can"; never or small means "cannot".
+pub(crate) fn is_can(graph: &Graph) -> bool {
+    !matches!(graph.nodes[ROOT].status, Status::Unsat | Status::TooSmall)
+}
+
+/// The answer that a run's graph gives.
 fn verdict(
     concepts: &[Concept],
     graph: &Graph,
@@ -126,7 +140,7 @@ fn verdict(
     list: impl FnOnce(Example, &[Concept]) -> Example,
 ) -> Answer {
     let used = Used { nodes: graph.nodes.len(), edges: graph.edges.len(), alternatives: graph.alternatives.len() };
-    if matches!(graph.nodes[ROOT].status, Status::Unsat | Status::TooSmall) {
+    if !is_can(graph) {
         return Answer::Cannot { used };
     }
     let placed = example(concepts, graph);

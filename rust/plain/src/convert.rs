@@ -13,7 +13,8 @@ pub fn convert(draft: &[u8], area: usize) -> Result<Vec<u8>, u8> {
     let draft = Draft::read(draft)?;
     let mut table = Table::new(&draft.concepts);
     let rules: Vec<u8> = draft.tbox.iter().map(|&rule| table.write(rule, Sign::Itself)).collect();
-    let wanted = table.write(draft.wanted, Sign::Itself);
+    let &[wanted] = draft.wanted.as_slice() else { unreachable!("a draft is read with its own wanted row") };
+    let wanted = table.write(wanted, Sign::Itself);
     let file = encode(draft.text, &table.rows, &rules, wanted);
     let fits = table.rows.len() <= MOST_ROWS && file.len() <= LONGEST_FILE.min(area);
     Some(file).filter(|_| fits).ok_or(TOO_LONG)

@@ -1,5 +1,6 @@
 //! The rule file and its checks, refusals 1 to 8 and then 16 (document 01, "The rule file" and "Refusals, in checking order"; document
-//! 02, [6]). A draft passes the same checks with two kinds of row more (document 02, [1]), so what a row can say is a parameter.
+//! 02, [6]). Wanted rows may be given in place of the file's own (document 02, [7]), and a draft passes the same checks with two kinds of
+//! row more (document 02, [1]): so the wanted rows and what a row can say are parameters.
 
 use crate::concept::{Concept, Kinds, Row, ROW};
 use crate::draft::DraftConcept;
@@ -19,8 +20,8 @@ pub struct Accepted<'a, C> {
     pub concepts: Vec<C>,
     /// The rules: numbers of rows, repeats allowed.
     pub tbox: Vec<usize>,
-    /// The number of the wanted row.
-    pub wanted: usize,
+    /// The wanted rows, a member being a member of all of them: the file's own one, or those given in its place.
+    pub wanted: Vec<usize>,
 }
 
 /// An accepted rule file: kinds 1 to 7.
@@ -32,7 +33,16 @@ pub type Draft<'a> = Accepted<'a, DraftConcept>;
 impl<'a, C: Kinds> Accepted<'a, C> {
     /// Reads a file or draft, or gives the number of the first check that refuses it.
     pub fn read(bytes: &'a [u8]) -> Result<Accepted<'a, C>, u8> {
-        let parts = Parts::of(bytes)?;
+        Accepted::of_parts(Parts::of(bytes)?)
+    }
+
+    /// The same with these wanted rows in place of its own, which is not looked at (document 02, [7]).
+    pub fn read_wanting(bytes: &'a [u8], wanted: &'a [u8]) -> Result<Accepted<'a, C>, u8> {
+        Accepted::of_parts(Parts { wanted, ..Parts::of(bytes)? })
+    }
+
+    /// Checks 5 to 8 and 16.
+    fn of_parts(parts: Parts<'a>) -> Result<Accepted<'a, C>, u8> {
         let concepts = check_rows::<C>(&parts.rows)?;
         check_rules(&parts, concepts.len())?;
         check_inclusions(&parts, &concepts)?;
@@ -40,7 +50,7 @@ impl<'a, C: Kinds> Accepted<'a, C> {
             text: parts.text,
             concepts,
             tbox: parts.rules.iter().map(|&rule| usize::from(rule)).collect(),
-            wanted: usize::from(parts.wanted),
+            wanted: parts.wanted.iter().map(|&row| usize::from(row)).collect(),
         })
     }
 }
@@ -65,7 +75,7 @@ struct Parts<'a> {
     text: &'a [u8],
     rows: Vec<Row>,
     rules: &'a [u8],
-    wanted: u8,
+    wanted: &'a [u8],
 }
 
 impl<'a> Parts<'a> {
@@ -81,7 +91,7 @@ impl<'a> Parts<'a> {
         let (text, rest) = body.split_at(first_row);
         let (table, rules) = rest.split_at(ROW * rows);
         let rows = table.chunks_exact(ROW).map(|r| [r[0], r[1], r[2], r[3]]).collect();
-        Ok(Parts { text, rows, rules, wanted: trailer[4] })
+        Ok(Parts { text, rows, rules, wanted: &trailer[4..5] })
     }
 }
 
@@ -95,18 +105,17 @@ fn check_rows<C: Kinds>(rows: &[Row]) -> Result<Vec<C>, u8> {
     Ok(concepts)
 }
 
-/// Check 8: the rules and the wanted row are rows.
+/// Check 8: the rules and the wanted rows are rows.
 fn check_rules(parts: &Parts, rows: usize) -> Result<(), u8> {
-    let is_row = |&row: &u8| usize::from(row) < rows;
-    require(parts.rules.iter().all(is_row) && is_row(&parts.wanted), 8)
+    require(parts.rules.iter().chain(parts.wanted).all(|&row| usize::from(row) < rows), 8)
 }
 
 /// Check 16: no argument, no rule and no wanted row is of kind 7. All of them are rows by now.
 fn check_inclusions<C: Kinds>(parts: &Parts, concepts: &[C]) -> Result<(), u8> {
     let may_serve = |row: usize| concepts[row].inclusion().is_none();
     let arguments = concepts.iter().all(|c| c.arguments_pass(may_serve));
-    let rules = parts.rules.iter().all(|&rule| may_serve(rule.into()));
-    require(arguments && rules && may_serve(parts.wanted.into()), 16)
+    let mut named = parts.rules.iter().chain(parts.wanted);
+    require(arguments && named.all(|&row| may_serve(row.into())), 16)
 }
 
 /// Refuses with the number unless the condition holds.

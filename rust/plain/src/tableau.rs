@@ -22,7 +22,7 @@ pub fn run(file: &RuleFile, capacity: Capacity) -> Result<Graph, Area> {
         concepts: &file.concepts,
         hierarchy: RoleHierarchy::of(&file.concepts),
         tbox: file.tbox.iter().copied().collect(),
-        wanted: file.wanted,
+        wanted: file.wanted.iter().copied().collect(),
         graph: Graph::new(capacity),
     };
     tableau.graph.add_node(Node::state(RowSet::EMPTY))?;
@@ -34,7 +34,7 @@ struct Tableau<'a> {
     concepts: &'a [Concept],
     hierarchy: RoleHierarchy,
     tbox: RowSet,
-    wanted: usize,
+    wanted: RowSet,
     graph: Graph,
 }
 
@@ -75,9 +75,9 @@ impl Tableau<'_> {
         Ok(())
     }
 
-    /// The root puts the wanted row and all rules.
+    /// The root puts the wanted rows and all rules.
     fn put_wanted(&mut self) -> Step {
-        self.put(ROOT, Above { state: ROOT, role: NO_ROLE }, self.tbox.with(self.wanted))
+        self.put(ROOT, Above { state: ROOT, role: NO_ROLE }, self.tbox.union(self.wanted))
     }
 
     /// For each kind 6 row, rising: its argument, the arguments of kind 5 rows with the same role or a wider one, and all rules.

@@ -1,9 +1,10 @@
-//! The line protocol of the tests: an answer for each question, by the engine or the converter in watched areas. One function for
-//! each word.
+//! The line protocol of the tests: an answer for each question, by the engine, the converter or the catalogue in watched areas. One function
+//! for each word.
 
+use crate::cataloguer::Cataloguer;
 use crate::converter::Converter;
 use crate::lending::Lending;
-use compare::{conversion_line, one_line, with_broken_records, Convert, Fit, Prng};
+use compare::{conversion_line, one_line, page_line, with_broken_records, Convert, Fit, Kinds, Prng, Wanted};
 
 /// Why a question has no answer.
 enum Trouble {
@@ -13,20 +14,23 @@ enum Trouble {
     Broken(String),
 }
 
-const WORDS: &str = "the words are: fit, convert";
+const WORDS: &str = "the words are: fit, convert, wanted, catalogue";
 const FIT: &str = "fit FILE N E A EB LB";
 const CONVERT: &str = "convert DRAFT AREA";
+const WANTED: &str = "wanted FILE ROWS N E A EB LB";
+const CATALOGUE: &str = "catalogue FILE AREA N E A";
 
 /// Where questions are answered.
 pub struct Desk {
     lending: Lending,
     converter: Converter,
+    cataloguer: Cataloguer,
 }
 
 impl Desk {
-    /// A desk that asks this engine and this converter.
-    pub fn new(lending: Lending, converter: Converter) -> Desk {
-        Desk { lending, converter }
+    /// A desk that asks this engine, this converter and this catalogue.
+    pub fn new(lending: Lending, converter: Converter, cataloguer: Cataloguer) -> Desk {
+        Desk { lending, converter, cataloguer }
     }
 
     /// The answer to a question, one line. It begins with `BROKEN` if a promise is broken, and with `UNKNOWN` if the line is no
@@ -45,6 +49,8 @@ impl Desk {
         match word {
             "fit" => self.fit(rest),
             "convert" => self.convert(rest),
+            "wanted" => self.wanted(rest),
+            "catalogue" => self.catalogue(rest),
             _ => Err(Trouble::Unknown(WORDS)),
         }
     }
@@ -63,14 +69,31 @@ impl Desk {
         let conversion = self.converter.watch(&draft, area).map_err(Trouble::Broken)?;
         Ok(conversion_line(&conversion))
     }
+
+    /// What the printing program would print with these sizes lent and these rows wanted.
+    fn wanted(&mut self, rest: &str) -> Result<String, Trouble> {
+        let Wanted { file, rows, lent } = Wanted::parse(rest).ok_or(Trouble::Unknown(WANTED))?;
+        let lent = with_broken_records(lent, &mut Prng::of_bytes(rest.as_bytes()));
+        let answer = self.lending.watch_wanted(&file, &rows, &lent).map_err(Trouble::Broken)?;
+        Ok(one_line(&answer))
+    }
+
+    /// The table in an area of this length, or the refusal.
+    fn catalogue(&mut self, rest: &str) -> Result<String, Trouble> {
+        let Kinds { file, area, lent } = Kinds::parse(rest).ok_or(Trouble::Unknown(CATALOGUE))?;
+        let lent = with_broken_records(lent, &mut Prng::of_bytes(rest.as_bytes()));
+        let page = self.cataloguer.watch(&file, area, &lent).map_err(Trouble::Broken)?;
+        Ok(page_line(&page))
+    }
 }
 
 #[cfg(test)]
 mod tests {
     use super::*;
+    use crate::cataloguer;
     use crate::converter::Call;
-    use crate::lending::Engine;
-    use gumbyra::{convert, fit, Areas, Refusal, Verdict};
+    use crate::lending::{Engine, WantedEngine};
+    use gumbyra::{catalogue, convert, fit, fit_wanted, Areas, Catalogue, Refusal, Verdict, WorkAreas};
 
     const CAN: &[u8] = b"fit 010000000000010000464954 9 9 9 99 99";
     const CANNOT: &[u8] = b"fit 0100000002000000030000010000030002464954 9 9 9 99 99";
@@ -80,7 +103,7 @@ mod tests {
     const INCLUSION: &[u8] = b"fit 070000000000010000464954 9 9 9 99 99";
 
     fn answer(engine: Engine, question: &[u8]) -> String {
-        Desk::new(Lending::to(engine), Converter::new()).answer(question)
+        Desk::new(Lending::to(engine), Converter::new(), Cataloguer::new()).answer(question)
     }
 
     #[test]
@@ -156,6 +179,12 @@ mod tests {
         let other_converts =
             [b"convert".as_slice(), b"convert ", b"convert 0 1", b"convert -", b"convert - 1 1", b"convert - 1\r"];
         assert!(other_converts.iter().all(|line| answer(fit, line) == format!("UNKNOWN {CONVERT}")));
+        let other_wanteds =
+            [b"wanted".as_slice(), b"wanted - 1 1 1 1 1", b"wanted - 0 1 1 1 1 1", b"wanted - - 1 1 1 1 1\r"];
+        assert!(other_wanteds.iter().all(|line| answer(fit, line) == format!("UNKNOWN {WANTED}")));
+        let other_catalogues =
+            [b"catalogue".as_slice(), b"catalogue - 1 1 1", b"catalogue - 1 1 1 1 1", b"catalogue - - 1 1 1"];
+        assert!(other_catalogues.iter().all(|line| answer(fit, line) == format!("UNKNOWN {CATALOGUE}")));
     }
 
     /// A name and its opposite, wanted, in an area with some bytes more.
@@ -165,7 +194,7 @@ mod tests {
     const OF_INCLUSION: &[u8] = b"convert 070000000000010000464954 20";
 
     fn answer_draft(converter: Call, question: &[u8]) -> String {
-        Desk::new(Lending::new(), Converter::to(converter)).answer(question)
+        Desk::new(Lending::new(), Converter::to(converter), Cataloguer::new()).answer(question)
     }
 
     #[test]
@@ -209,5 +238,96 @@ mod tests {
     #[test]
     fn a_conversion_without_answer_is_told() {
         assert_eq!(answer_draft(failing_draft, CONVERTED), "BROKEN no answer of the converter");
+    }
+
+    /// A name and its opposite, both wanted, neither, and no row.
+    const BOTH: &[u8] = b"wanted 01000000020000000000020009464954 0001 9 9 9 99 99";
+    const NEITHER: &[u8] = b"wanted 01000000020000000000020009464954 - 9 9 9 99 99";
+    const NO_ROW: &[u8] = b"wanted 01000000020000000000020000464954 0002 9 9 9 99 99";
+
+    fn answer_wanted(engine: WantedEngine, question: &[u8]) -> String {
+        Desk::new(Lending::new().with_wanted(engine), Converter::new(), Cataloguer::new()).answer(question)
+    }
+
+    #[test]
+    fn with_wanted_rows_the_engine_breaks_no_promise() {
+        assert_eq!(answer_wanted(fit_wanted, BOTH), "CANNOT;USED 2 1 0");
+        assert_eq!(answer_wanted(fit_wanted, NEITHER), "CAN 1 0;USED 3 2 0;E 0 0000000000000002");
+        assert_eq!(answer_wanted(fit_wanted, NO_ROW), "REFUSED 8");
+    }
+
+    /// Touches the last byte of an example area, and of a work area before a refusal is sure.
+    fn touching_wanted<'a>(file: &[u8], wanted: &[u8], areas: Areas<'a>) -> Result<Verdict<'a>, Refusal> {
+        let (Some(node), Some(link)) = (areas.nodes.last_mut(), areas.links.last_mut()) else { panic!("no bytes") };
+        (*node, *link) = (node.wrapping_add(1), link.wrapping_add(1));
+        fit_wanted(file, wanted, areas)
+    }
+
+    #[test]
+    fn with_wanted_rows_a_touched_byte_is_told() {
+        assert_eq!(answer_wanted(touching_wanted, BOTH), "BROKEN links: the area changed");
+        assert_eq!(answer_wanted(touching_wanted, NEITHER), "BROKEN links: bytes past the result changed");
+        assert_eq!(answer_wanted(touching_wanted, NO_ROW), "BROKEN nodes: the area changed");
+    }
+
+    /// One name with both rows, its table in just one byte, in more, in none; and a file whose own wanted row is no row.
+    const JUST: &[u8] = b"catalogue 01000000020000000000020000464954 1 9 9 9";
+    const MORE: &[u8] = b"catalogue 01000000020000000000020000464954 5 9 9 9";
+    const NO_ROOM: &[u8] = b"catalogue 01000000020000000000020000464954 0 9 9 9";
+    const NO_FILE: &[u8] = b"catalogue 01000000020000000000020002464954 5 9 9 9";
+
+    fn answer_kinds(call: cataloguer::Call, question: &[u8]) -> String {
+        Desk::new(Lending::new(), Converter::new(), Cataloguer::to(call)).answer(question)
+    }
+
+    #[test]
+    fn the_catalogue_breaks_no_promise() {
+        let answers = [JUST, MORE, NO_ROOM, NO_FILE].map(|question| answer_kinds(catalogue, question));
+        assert_eq!(answers, ["TABLE 1 01", "TABLE 1 01", "REFUSED 17", "REFUSED 8"]);
+    }
+
+    /// Touches the last byte of the table's area.
+    fn touching_table<'a>(file: &[u8], work: WorkAreas, table: &'a mut [u8]) -> Result<Catalogue<'a>, Refusal> {
+        table.iter_mut().last().into_iter().for_each(|last| *last = last.wrapping_add(1));
+        catalogue(file, work, table)
+    }
+
+    /// Touches the last byte of a work area.
+    fn touching_work<'a>(file: &[u8], work: WorkAreas, table: &'a mut [u8]) -> Result<Catalogue<'a>, Refusal> {
+        work.alternatives.iter_mut().last().into_iter().for_each(|last| *last = last.wrapping_add(1));
+        catalogue(file, work, table)
+    }
+
+    #[test]
+    fn a_byte_that_a_catalogue_touched_is_told() {
+        let answers = [JUST, MORE, NO_ROOM, NO_FILE].map(|question| answer_kinds(touching_table, question));
+        let changed = ["BROKEN table: bytes past the result changed", "REFUSED 17", "BROKEN table: the area changed"];
+        assert_eq!(answers, ["TABLE 1 01", changed[0], changed[1], changed[2]]);
+        let answers = [JUST, MORE, NO_ROOM, NO_FILE].map(|question| answer_kinds(touching_work, question));
+        let changed = "BROKEN alternatives: the area changed";
+        assert_eq!(answers, ["TABLE 1 01", "TABLE 1 01", changed, changed]);
+    }
+
+    /// Leaves the last bytes of a work area as they were.
+    fn leaving_work<'a>(file: &[u8], work: WorkAreas, table: &'a mut [u8]) -> Result<Catalogue<'a>, Refusal> {
+        let all_but_eight = work.edges.len() - 8;
+        catalogue(file, WorkAreas { edges: &mut work.edges[..all_but_eight], ..work }, table)
+    }
+
+    /// Writes one byte further on and gives that part.
+    fn shifted_table<'a>(file: &[u8], work: WorkAreas, table: &'a mut [u8]) -> Result<Catalogue<'a>, Refusal> {
+        catalogue(file, work, &mut table[1..])
+    }
+
+    fn failing_catalogue<'a>(_: &[u8], _: WorkAreas, _: &'a mut [u8]) -> Result<Catalogue<'a>, Refusal> {
+        panic!("no answer\nof the catalogue")
+    }
+
+    #[test]
+    fn other_faults_of_a_catalogue_are_told() {
+        assert_eq!(answer_kinds(leaving_work, MORE), "BROKEN edges: a byte is not zero");
+        assert_eq!(answer_kinds(leaving_work, NO_ROOM), "REFUSED 17");
+        assert_eq!(answer_kinds(shifted_table, MORE), "BROKEN the table is not at the start of the area");
+        assert_eq!(answer_kinds(failing_catalogue, MORE), "BROKEN no answer of the catalogue");
     }
 }

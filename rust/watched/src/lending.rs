@@ -13,9 +13,13 @@ const NAMES: [&str; 5] = ["nodes", "edges", "alternatives", "elements", "links"]
 /// The engine's call, `gumbyra::fit`, or what stands in for it.
 pub type Engine = for<'a> fn(&[u8], Areas<'a>) -> Result<Verdict<'a>, Refusal>;
 
+/// The engine's call with wanted rows, `gumbyra::fit_wanted`, or what stands in for it.
+pub type WantedEngine = for<'a> fn(&[u8], &[u8], Areas<'a>) -> Result<Verdict<'a>, Refusal>;
+
 /// An engine with areas to run in.
 pub struct Lending {
     engine: Engine,
+    with_wanted: WantedEngine,
     areas: [Area; 5],
     /// The lengths of the last run.
     lent: Lent,
@@ -29,12 +33,35 @@ impl Lending {
 
     /// Areas for what stands in for the engine.
     pub fn to(engine: Engine) -> Lending {
-        Lending { engine, areas: [1, 2, 3, 4, 5].map(Area::new), lent: Lent::records(0, 0, 0, 0, 0) }
+        let (areas, lent) = ([1, 2, 3, 4, 5].map(Area::new), Lent::records(0, 0, 0, 0, 0));
+        Lending { engine, with_wanted: gumbyra::fit_wanted, areas, lent }
+    }
+
+    /// The same areas, with what stands in for the engine's call with wanted rows.
+    pub fn with_wanted(self, with_wanted: WantedEngine) -> Lending {
+        Lending { with_wanted, ..self }
     }
 
     /// Runs the engine in areas of these lengths, full of noise. The same file in the same lengths meets the same noise. An
     /// error tells why there is no answer.
     pub fn run(&mut self, file: &[u8], lent: &Lent) -> Result<Answer, String> {
+        let engine = self.engine;
+        self.call(file, lent, |areas| engine(file, areas))
+    }
+
+    /// The same with these wanted rows in place of the file's own.
+    pub fn run_wanted(&mut self, file: &[u8], wanted: &[u8], lent: &Lent) -> Result<Answer, String> {
+        let engine = self.with_wanted;
+        self.call(file, lent, |areas| engine(file, wanted, areas))
+    }
+
+    /// What a call on a file answers in such areas.
+    fn call(
+        &mut self,
+        file: &[u8],
+        lent: &Lent,
+        call: impl for<'a> FnOnce(Areas<'a>) -> Result<Verdict<'a>, Refusal>,
+    ) -> Result<Answer, String> {
         let mut prng = Prng::of_bytes(file);
         self.lent = *lent;
         let Lent { nodes, edges, alternatives, elements, links } = *lent;
@@ -42,7 +69,7 @@ impl Lending {
         let [nodes, edges, alternatives, elements, links] =
             self.areas.each_mut().map(|area| area.lend(lengths.next().expect("five lengths"), &mut prng));
         let areas = Areas { nodes, edges, alternatives, elements, links };
-        let run = || (self.engine)(file, areas).map_or_else(refused, decided);
+        let run = || call(areas).map_or_else(refused, decided);
         catch_unwind(AssertUnwindSafe(run)).map_err(reason)
     }
 
@@ -67,12 +94,27 @@ impl Lending {
         self.broken(&answer).map_or(Ok(answer), Err)
     }
 
+    /// The same with these wanted rows in place of the file's own.
+    pub fn watch_wanted(&mut self, file: &[u8], wanted: &[u8], lent: &Lent) -> Result<Answer, String> {
+        let answer = self.run_wanted(file, wanted, lent)?;
+        self.broken(&answer).map_or(Ok(answer), Err)
+    }
+
     /// The engine as an answering function.
     ///
     /// # Panics
     /// If a promise is broken.
     pub fn answer(&mut self, file: &[u8], lent: &Lent) -> Answer {
         self.watch(file, lent).unwrap_or_else(|broken| panic!("{broken}: {file:02x?} in {lent:?}"))
+    }
+
+    /// The engine as an answering function with wanted rows.
+    ///
+    /// # Panics
+    /// If a promise is broken.
+    pub fn answer_wanted(&mut self, file: &[u8], wanted: &[u8], lent: &Lent) -> Answer {
+        let watched = self.watch_wanted(file, wanted, lent);
+        watched.unwrap_or_else(|broken| panic!("{broken}: {file:02x?} wanting {wanted:?} in {lent:?}"))
     }
 }
 

@@ -39,12 +39,16 @@ fn every_question_of_the_vectors_gets_its_answer() {
 #[test]
 fn each_line_gets_a_line() {
     let (question, answer) = ("fit - 1 1 1 1 1", "REFUSED 1");
-    let unknown = "UNKNOWN the words are: fit, convert";
+    let unknown = "UNKNOWN the words are: fit, convert, wanted, catalogue";
     assert_eq!(answers(Vec::new()), "");
     assert_eq!(answers(b"\n\xff\n".to_vec()), format!("{unknown}\n{unknown}\n"));
     assert_eq!(
         answers(format!("{question}\nfit\nconvert\n{question}\nconvert - 0").into_bytes()),
         format!("{answer}\nUNKNOWN fit FILE N E A EB LB\nUNKNOWN convert DRAFT AREA\n{answer}\n{answer}\n")
+    );
+    assert_eq!(
+        answers(b"wanted\ncatalogue\nwanted - - 1 1 1 1 1\ncatalogue - 1 1 1 1".to_vec()),
+        format!("UNKNOWN wanted FILE ROWS N E A EB LB\nUNKNOWN catalogue FILE AREA N E A\n{answer}\n{answer}\n")
     );
 }
 

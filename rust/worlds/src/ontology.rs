@@ -40,41 +40,66 @@ pub enum Concept {
     IfThen(usize, usize),
 }
 
-/// An accepted rule file or draft: every row of `tbox` must hold everywhere, `wanted` somewhere. Neither is of kind 7, and no argument is.
+/// An accepted rule file or draft: every row of `tbox` must hold everywhere, all of `wanted` at one element: the file's own wanted row, or
+/// those given in its place. None of these is of kind 7, and no argument is.
 #[derive(Clone, Debug, PartialEq, Eq)]
 pub struct Ontology {
     pub rows: Vec<Concept>,
     pub tbox: Vec<usize>,
-    pub wanted: usize,
+    pub wanted: Vec<usize>,
 }
+
+/// The kinds of row of a rule file, and of a draft.
+const RULE_FILE: [u8; 7] = [1, 2, 3, 4, 5, 6, 7];
+const DRAFT: [u8; 9] = [1, 2, 3, 4, 5, 6, 7, 8, 9];
 
 impl Ontology {
     /// Decodes a file; `None` if document 01's checks refuse it, whichever does.
     pub fn decode(file: &[u8]) -> Option<Ontology> {
-        Ontology::decode_kinds(file, &[1, 2, 3, 4, 5, 6, 7])
+        Ontology::decode_kinds(file, &RULE_FILE, None)
+    }
+
+    /// Decodes a file with these wanted rows in place of its own (document 02, [7]): a member is a member of all of them.
+    pub fn decode_wanting(file: &[u8], wanted: &[u8]) -> Option<Ontology> {
+        Ontology::decode_kinds(file, &RULE_FILE, Some(wanted))
     }
 
     /// Decodes a draft (document 02, [1]): kinds 8 and 9 pass too.
     pub fn decode_draft(draft: &[u8]) -> Option<Ontology> {
-        Ontology::decode_kinds(draft, &[1, 2, 3, 4, 5, 6, 7, 8, 9])
+        Ontology::decode_kinds(draft, &DRAFT, None)
     }
 
-    fn decode_kinds(file: &[u8], kinds: &[u8]) -> Option<Ontology> {
+    fn decode_kinds(file: &[u8], kinds: &[u8], wanted: Option<&[u8]>) -> Option<Ontology> {
         if file.len() > 4096 {
             return None;
         }
         let (body, trailer) = file.split_last_chunk::<8>()?;
-        let &[low, high, rows, rules, wanted, b'F', b'I', b'T'] = trailer else { return None };
-        let (rows, rules, wanted) = (usize::from(rows), usize::from(rules), usize::from(wanted));
+        let &[low, high, rows, rules, own, b'F', b'I', b'T'] = trailer else { return None };
+        let (rows, rules) = (usize::from(rows), usize::from(rules));
         let table = body.get(usize::from(low) + 256 * usize::from(high)..)?;
-        if rows == 0 || rows > 64 || rules > 64 || table.len() != 4 * rows + rules || wanted >= rows {
+        if rows == 0 || rows > 64 || rules > 64 || table.len() != 4 * rows + rules {
             return None;
         }
         let (table, tbox) = table.split_at(4 * rows);
         let rows = decode_rows(table, kinds)?;
-        let tbox: Vec<usize> = tbox.iter().map(|&rule| usize::from(rule)).collect();
-        let serves = tbox.iter().chain([&wanted]).all(|&row| speaks_of_elements(&rows, row));
-        serves.then_some(Ontology { rows, tbox, wanted })
+        let [tbox, wanted] = [tbox, wanted.unwrap_or(&[own])].map(|list| list.iter().map(|&row| row.into()).collect());
+        let ontology = Ontology { rows, tbox, wanted };
+        let serves = |&row: &usize| speaks_of_elements(&ontology.rows, row);
+        ontology.tbox.iter().chain(&ontology.wanted).all(serves).then_some(ontology)
+    }
+
+    /// The names that have a row for them and a row against them, rising.
+    pub fn kinds(&self) -> Vec<usize> {
+        let has_both =
+            |&name: &usize| [Concept::Name(name), Concept::NotName(name)].iter().all(|c| self.rows.contains(c));
+        (0..64).filter(has_both).collect()
+    }
+
+    /// The same rules, and wanted is an `a` that isn't a `b`. This is said in two rows of its own, whichever the file has.
+    pub fn wanting_but_not(&self, a: usize, b: usize) -> Ontology {
+        let (mut rows, first) = (self.rows.clone(), self.rows.len());
+        rows.extend([Concept::Name(a), Concept::NotName(b)]);
+        Ontology { rows, tbox: self.tbox.clone(), wanted: vec![first, first + 1] }
     }
 
     /// The kind 7 rows: narrower role, wider role.

@@ -28,10 +28,10 @@ fn extend(ontology: &Ontology, partial: &PartialWorld, size: usize) -> Option<Wo
     }
 }
 
-/// The rows that must hold, and where: the wanted row at element 0, every rule at each element.
+/// The rows that must hold, and where: the wanted rows at element 0, every rule at each element.
 fn goals(ontology: &Ontology, size: usize) -> impl Iterator<Item = (usize, usize)> + '_ {
     let rules = ontology.tbox.iter().flat_map(move |&rule| (0..size).map(move |d| (rule, d)));
-    std::iter::once((ontology.wanted, 0)).chain(rules)
+    ontology.wanted.iter().map(|&row| (row, 0)).chain(rules)
 }
 
 fn is_unmet(bounds: &[Bounds], (row, d): (usize, usize)) -> bool {

@@ -98,10 +98,11 @@ impl World {
         truth
     }
 
-    /// Does the world obey every rule and every kind 7 row, and is the element a member of the kit?
+    /// Does the world obey every rule and every kind 7 row, and is the element a member of the kit, every wanted row holding there?
     pub fn is_model(&self, ontology: &Ontology, element: usize) -> bool {
         let truth = self.truth(ontology);
         let obeys = ontology.tbox.iter().all(|&rule| truth[rule].iter().all(|&holds| holds));
-        obeys && self.obeys_inclusions(ontology) && element < self.size() && truth[ontology.wanted][element]
+        let is_member = element < self.size() && ontology.wanted.iter().all(|&row| truth[row][element]);
+        obeys && self.obeys_inclusions(ontology) && is_member
     }
 }

@@ -30,7 +30,8 @@ fn enumerate(worlds: &[World], ontology: &Ontology) -> bool {
     worlds.iter().any(|world| {
         let truth = world.truth(ontology);
         let obeys = ontology.tbox.iter().all(|&rule| truth[rule].iter().all(|&holds| holds));
-        obeys && truth[ontology.wanted].iter().any(|&holds| holds) && world.obeys_inclusions(ontology)
+        let is_member = |d: usize| ontology.wanted.iter().all(|&row| truth[row][d]);
+        obeys && (0..world.size()).any(is_member) && world.obeys_inclusions(ontology)
     })
 }
 
@@ -108,6 +109,47 @@ fn search_finds_a_world_exactly_if_there_is_one() {
 fn search_finds_a_world_of_a_draft_exactly_if_there_is_one() {
     let mut seed = 2;
     compare(3, 1, 1500, || Ontology::decode_draft(&file(&mut seed, &[3, 4, 5, 6, 8, 9], 1, 0)));
+}
+
+/// Up to three rows take the place of the file's own.
+#[test]
+fn search_finds_a_member_of_all_wanted_rows_exactly_if_there_is_one() {
+    let (mut seed, mut several, mut none) = (4, 0, 0);
+    compare(3, 1, 1500, || {
+        let file = file(&mut seed, &[3, 4, 5, 6], 1, 0);
+        let rows = u64::from(file[file.len() - 6]);
+        let list: Vec<u8> = (0..next(&mut seed, 4)).map(|_| next(&mut seed, rows)).collect();
+        let ontology = Ontology::decode_wanting(&file, &list)?;
+        several += usize::from(list.len() > 1);
+        none += usize::from(list.is_empty());
+        Some(ontology)
+    });
+    assert!(several > 500 && none > 200, "{several} {none}");
+}
+
+/// The list is looked at, and not the file's own wanted row, which is no row here.
+#[test]
+fn lists_of_wanted_rows_that_are_refused() {
+    let rows = [[1, 0, 0, 0], [7, 0, 0, 0], [2, 0, 0, 0]];
+    let file = [rows.as_flattened(), &[0, 0, 3, 0, 9], b"FIT"].concat();
+    let wanted = |list: &[u8]| Ontology::decode_wanting(&file, list).map(|ontology| ontology.wanted);
+    assert!(Ontology::decode(&file).is_none());
+    assert_eq!(wanted(&[]), Some(vec![]));
+    assert_eq!(wanted(&[2, 0, 2]), Some(vec![2, 0, 2]));
+    assert_eq!([[0, 3], [255, 0], [0, 1], [1, 1]].map(|list| wanted(&list)), [const { None }; 4]);
+}
+
+/// Names 0 and 2 have both rows, 1 and 3 one each. The rule: what is a 0 is a 2.
+#[test]
+fn an_a_that_is_no_b() {
+    let rows = [[2, 0, 2, 0], [1, 0, 0, 0], [2, 0, 0, 0], [1, 0, 1, 0], [2, 0, 3, 0], [1, 0, 2, 0], [4, 0, 2, 5]];
+    let file = [rows.as_flattened(), &[6], &[0, 0, 7, 1, 0], b"FIT"].concat();
+    let ontology = Ontology::decode(&file).expect("a rule file");
+    assert_eq!(ontology.kinds(), [0, 2]);
+    let found = |a: usize, b: usize| search(&ontology.wanting_but_not(a, b), 3).is_some();
+    assert_eq!([found(0, 0), found(0, 2), found(2, 0), found(2, 2)], [false, false, true, false]);
+    // Names of which the file has no such row are names of a world all the same.
+    assert!(found(1, 3) && found(0, 1) && !found(7, 7));
 }
 
 /// One role can only be narrower than its own inverse; with two there are chains, and one can be narrower than the other's inverse.

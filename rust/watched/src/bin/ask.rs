@@ -2,7 +2,7 @@
 //! says.
 
 use std::io::{BufRead, BufReader, BufWriter, Result, Write};
-use watched::{Converter, Desk, Lending};
+use watched::{Cataloguer, Converter, Desk, Lending};
 
 /// Bytes read at once.
 const BUFFER: usize = 1 << 16;
@@ -10,7 +10,7 @@ const BUFFER: usize = 1 << 16;
 fn main() -> Result<()> {
     let mut questions = BufReader::with_capacity(BUFFER, std::io::stdin().lock());
     let mut answers = BufWriter::new(std::io::stdout().lock());
-    let mut desk = Desk::new(Lending::new(), Converter::new());
+    let mut desk = Desk::new(Lending::new(), Converter::new(), Cataloguer::new());
     let mut question = Vec::new();
     while questions.read_until(b'\n', &mut question)? > 0 {
         answers.write_all(desk.answer(question.strip_suffix(b"\n").unwrap_or(&question)).as_bytes())?;

@@ -1,11 +1,12 @@
-//! The files and drafts that are timed, in their groups. All files get a verdict in the areas of their group, all drafts are
-//! converted.
+//! The files and drafts that are timed, in their groups. All files get a verdict in the areas of their group, each entry of a catalogue page
+//! is decided there, and all drafts are converted.
 
+use compare::catalogue_files::{chain, most_names, random_kinds, LONGEST_CHAIN};
 use compare::chains::{alternatives, delay_line, shift_register, Delay, THOUSAND_STATES};
 use compare::inclusions::{long_chain, Parts};
 use compare::wide::wide;
 use compare::{random_draft, random_file, Prng, Shape};
-use plain::{answer, Answer, Lent, Used};
+use plain::{answer, answer_wanting, Answer, Lent, Page, Used};
 use std::ops::Range;
 
 /// A file with areas that are just enough for it.
@@ -52,6 +53,44 @@ pub fn groups() -> Vec<Group> {
     ]
 }
 
+/// All groups of files whose catalogue pages are made. What is just enough for a page is so for the largest of its runs.
+pub fn page_groups() -> Vec<Group> {
+    let lent = Lent::by_program();
+    let pages = |files: Vec<Vec<u8>>| files.into_iter().filter_map(|file| page(file, &lent)).collect();
+    let mut prng = Prng::new(23);
+    let random = std::iter::repeat_with(|| random_kinds(&mut prng, KINDS)).filter_map(|file| page(file, &lent));
+    let middling = random.filter(|subject| rows(&subject.file) >= 40 && subject.used.nodes >= 40).take(10).collect();
+    vec![
+        Group { name: "page of 32 names", lent, subjects: pages(vec![most_names(&[], &[]), most_names(&[0], &[37])]) },
+        Group { name: "of 21, in a chain", lent, subjects: pages(vec![chain(LONGEST_CHAIN)]) },
+        Group { name: "of 5 to 10 names", lent, subjects: middling },
+    ]
+}
+
+/// A file with the records of the largest run of its page; `None` if that has less than five names or an entry that is not decided.
+fn page(file: Vec<u8>, lent: &Lent) -> Option<Subject> {
+    let Page::Filled { names, .. } = plain::catalogue(&file, usize::MAX, lent) else { return None };
+    let rows = Parts::of(&file).rows;
+    let place = |kind: u8, name: u8| rows.iter().position(|&row| row == [kind, 0, name, 0]).expect("a row") as u8;
+    let mut most = Used { nodes: 0, edges: 0, alternatives: 0 };
+    for list in names.iter().flat_map(|&a| names.iter().map(move |&b| [(1, a), (2, b)])) {
+        match answer_wanting(&file, &list.map(|(kind, name)| place(kind, name)), lent) {
+            Answer::Cannot { used } | Answer::Can { used, .. } => most = larger(most, used),
+            Answer::Refused(_) | Answer::Short { .. } | Answer::TooLong { .. } => return None,
+        }
+    }
+    (names.len() >= 5).then(|| Subject { file, used: most, enough: Lent::just(most, 0, 0) })
+}
+
+/// The larger number of each kind of record.
+fn larger(one: Used, other: Used) -> Used {
+    Used {
+        nodes: one.nodes.max(other.nodes),
+        edges: one.edges.max(other.edges),
+        alternatives: one.alternatives.max(other.alternatives),
+    }
+}
+
 /// Drafts that are alike.
 pub struct DraftGroup {
     pub name: &'static str,
@@ -76,6 +115,7 @@ pub fn rising() -> Vec<Subject> {
 const SMALL: Shape = Shape { names: 2, roles: 2, compound: 10, rules: 3, text: 0 };
 const LARGE: Shape = Shape { names: 6, roles: 3, compound: 52, rules: 12, text: 0 };
 const INVERSE: Shape = Shape { names: 3, roles: 1, compound: 30, rules: 3, text: 0 };
+const KINDS: Shape = Shape { names: 10, roles: 3, compound: 16, rules: 1, text: 0 };
 /// Half as many rows as a file can have, and room for as many of kind 7.
 const HALF: Shape = Shape { names: 4, roles: 3, compound: 24, rules: 6, text: 0 };
 const HALF_ROWS: usize = 32;

@@ -3,9 +3,9 @@
 mod groups;
 mod timing;
 
-use groups::{draft_groups, groups, rising, Group, Subject};
+use groups::{draft_groups, groups, page_groups, rising, Group, Subject};
 use plain::Lent;
-use timing::{convert_times, evaluation, least, times, Evaluation, Times};
+use timing::{convert_times, evaluation, least, page_times, times, Evaluation, Times};
 
 const ROUNDS: usize = 15;
 /// No group should be above this ratio.
@@ -17,6 +17,8 @@ before left. It leaves its work areas zero, all of them, and that is in its time
 Areas: what a program lends (1,024 nodes, 4,096 edges and alternatives; for a thousand states and for large examples 4,096 of each),
 or just enough.
 A draft is converted in an area of 4,096 bytes.
+A page is the catalogue of a file, a run for each two of its names in the same areas: of 32 names over 64 rows, of 21 names each of which is
+the next, and of random files of 40 rows and more.
 32 rows: then the same files with 32 rows of kind 7 more, in one long chain: of roles that no other row has, so that the runs are the same
 and only their table is longer; and of all roles.
 Times are the least of all rounds, the mean of the group's files. ratio: engine over plain; rounds, files: its lowest and highest over them.
@@ -28,9 +30,10 @@ fn main() {
     println!("{:<18} {:<12} files   engine µs    plain µs   ratio   rounds         files", "group", "areas");
     let (groups, mut above) = (groups(), Vec::new());
     for group in &groups {
-        let by_program = print_group(group, "as a program", rounds, |_| group.lent);
-        let enough = print_group(group, "just enough", rounds, |subject| subject.enough);
-        above.extend([by_program, enough].iter().any(|&ratio| ratio > AIM).then_some(group.name));
+        above.extend((print_group(group, rounds, times) > AIM).then_some(group.name));
+    }
+    for group in page_groups() {
+        above.extend((print_group(&group, rounds, page_times) > AIM).then_some(group.name));
     }
     for group in draft_groups() {
         let all = group.drafts.iter().map(|draft| convert_times(draft, rounds)).collect();
@@ -48,10 +51,11 @@ fn main() {
     print_growth(rounds);
 }
 
-/// Prints a group's line and gives its ratio.
-fn print_group(group: &Group, areas: &str, rounds: usize, lent: impl Fn(&Subject) -> Lent) -> f64 {
-    let all = group.subjects.iter().map(|subject| times(subject, &lent(subject), rounds)).collect();
-    print_times(group.name, areas, rounds, all)
+/// Prints a group's two lines and gives the higher ratio.
+fn print_group(group: &Group, rounds: usize, times: fn(&Subject, &Lent, usize) -> Times) -> f64 {
+    let all_in = |lent: &dyn Fn(&Subject) -> Lent| group.subjects.iter().map(|s| times(s, &lent(s), rounds)).collect();
+    let by_program = print_times(group.name, "as a program", rounds, all_in(&|_| group.lent));
+    by_program.max(print_times(group.name, "just enough", rounds, all_in(&|subject| subject.enough)))
 }
 
 /// Prints the line of some files or drafts and gives their ratio.

@@ -1,7 +1,7 @@
 //! Times of one file or draft in the engine and in the plain program, taken by turns; and of a part of the plain program's.
 
 use crate::groups::Subject;
-use gumbyra::{convert, fit, Areas, LONGEST_FILE};
+use gumbyra::{catalogue, convert, fit, Areas, WorkAreas, LARGEST_TABLE, LONGEST_FILE};
 use plain::example::Example;
 use plain::{answer_as_placed, Answer, Lent, RuleFile};
 use std::hint::black_box;
@@ -34,6 +34,21 @@ pub fn times(subject: &Subject, lent: &Lent, rounds: usize) -> Times {
     };
     let plain = || {
         black_box(plain::answer(black_box(&subject.file), lent));
+    };
+    let (engine, plain) = by_turns(engine, plain, rounds);
+    Times { engine, plain }
+}
+
+/// Takes the times of a file's catalogue page in work areas of these lengths, its table in an area that suffices for every page.
+pub fn page_times(subject: &Subject, lent: &Lent, rounds: usize) -> Times {
+    let mut buffers = [lent.nodes, lent.edges, lent.alternatives, LARGEST_TABLE].map(|length| vec![0; length]);
+    let engine = || {
+        let [nodes, edges, alternatives, table] = buffers.each_mut().map(Vec::as_mut_slice);
+        let page = catalogue(black_box(&subject.file), WorkAreas { nodes, edges, alternatives }, table);
+        black_box(page.is_ok());
+    };
+    let plain = || {
+        black_box(plain::catalogue(black_box(&subject.file), LARGEST_TABLE, lent));
     };
     let (engine, plain) = by_turns(engine, plain, rounds);
     Times { engine, plain }

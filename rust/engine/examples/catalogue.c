@@ -1,0 +1,37 @@
+/* Which kinds of pump are which: cc -I include examples/catalogue.c -L DIR -lgumbyra, DIR being the archive's folder. */
+#include <stdio.h>
+#include "gumbyra.h"
+
+/* Names: 0 dosing pump, 1 peristaltic pump, 2 hose. Rows 0 to 5: of each that it is one, and that it is none. Row 6: has some hose fitted to
+   it (code 1). Row 7: has none. Rules: a peristaltic pump has some hose fitted to it (row 8); what has some is a dosing pump (row 9). */
+static const char *const words[] = {"dosing pump", "peristaltic pump", "hose"};
+static const uint8_t file[] = {1, 0, 0, 0, 2, 0, 0, 0, 1, 0, 1, 0, 2, 0, 1, 0, 1, 0, 2, 0, 2, 0, 2, 0,
+                               6, 1, 4, 0, 5, 1, 5, 0, 4, 0, 3, 6, 4, 0, 7, 0,
+                               8, 9,
+                               0, 0, 10, 2, 0, 'F', 'I', 'T'};
+
+static uint8_t nodes[64 * GUMBYRA_NODE], edges[64 * GUMBYRA_EDGE], alternatives[8 * GUMBYRA_ALTERNATIVE], elements[64], links[64];
+static uint8_t table[GUMBYRA_LARGEST_TABLE];
+
+/* Fills the table with so many nodes lent, in so many bytes, and prints it. */
+static gumbyra_page fill(size_t lent, size_t table_len) {
+    static const char *const entries[] = {"-", "yes", "?"};
+    gumbyra_page p = gumbyra_catalogue(file, sizeof file, nodes, lent * GUMBYRA_NODE, edges, sizeof edges, alternatives, sizeof alternatives,
+                                       table, table_len);
+    printf("%zu nodes, %zu bytes: refusal %u, %u names\n", lent, table_len, p.refusal, p.count);
+    for (uint32_t a = 0; p.refusal == 0 && a < p.count; a++) { /* names 0, 1 and 2 are listed, so the a-th is name a */
+        printf("%-16s", words[a]);
+        for (uint32_t b = 0; b < p.count; b++) printf(" %3s", entries[table[a * p.count + b]]);
+        printf("\n");
+    }
+    return p;
+}
+
+int main(void) {
+    gumbyra_page whole = fill(64, sizeof table), undecided = fill(6, 9), refused = fill(64, 8);
+    static const uint8_t wanted[] = {2, 1}; /* is a peristaltic pump; is no dosing pump */
+    gumbyra_answer a = gumbyra_fit_wanted(file, sizeof file, wanted, sizeof wanted, nodes, sizeof nodes, edges, sizeof edges,
+                                          alternatives, sizeof alternatives, elements, sizeof elements, links, sizeof links);
+    printf("a peristaltic pump that isn't a dosing pump: verdict %u\n", a.verdict);
+    return whole.names != 7 || undecided.refusal != 0 || refused.refusal != GUMBYRA_TABLE_SHORT || a.verdict != GUMBYRA_CANNOT;
+}
