@@ -204,7 +204,15 @@ pub fn fit(
         (numbersOf r)
         (areasOf (now (nodes .exit)) (now (edges .exit)) (now (alternatives .exit)) (now (elements .exit)) (now (links .exit))) ⌝ }
 {
-    fit_wanted(file, wanted_of(file), nodes, edges, alternatives, elements, links)
+    fit_wanted(
+        file,
+        wanted_of(file),
+        nodes,
+        edges,
+        alternatives,
+        elements,
+        links,
+    )
 }
 
 // How much of the file is its text, which is the part before the rows: nothing of a refused file. The text is so many bytes at the start of the file.

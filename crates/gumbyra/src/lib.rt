@@ -51,15 +51,7 @@ pub extern "C" fn gumbyra_fit_wanted(
         (numbersOf r)
         (areasOf (now (nodes .exit)) (now (edges .exit)) (now (alternatives .exit)) (now (elements .exit)) (now (links .exit))) ⌝ }
 {
-    engine::fit_wanted(
-        file,
-        wanted,
-        nodes,
-        edges,
-        alternatives,
-        elements,
-        links,
-    )
+    engine::fit_wanted(file, wanted, nodes, edges, alternatives, elements, links)
 }
 
 // How much of the rule file is its text: `engine::text_length`.

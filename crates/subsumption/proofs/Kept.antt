@@ -63,7 +63,7 @@ module _ (file : Bytes) (before : Areas) (f : RuleFile) (e : reading file ≡ ac
   entry-there : (i j : ℕ) → i < m → j < m → EntryRight f (lent before) (getD ns i 0) (getD ns j 0) (entryAt (bytes ++ drop (length bytes) (before .table)) m i j)
   entry-there i j hi hj =
       let there = List·getD-append bytes (drop (length bytes) (before .table)) 0 (i * m + j) (omega (arith, inside i j hi hj, length-rowAfterRow (entry file (lent before) (f .table)) ns ns))
-          ∙ getD-rowAfterRow (entry file (lent before) (f .table)) ns ns i j hi hj in
+      ∙ getD-rowAfterRow (entry file (lent before) (f .table)) ns ns i j hi hj in
       rw there (entry-right file f e (lent before) (getD ns i 0) (getD ns j 0) (getD-mem ns i 0 hi) (getD-mem ns j 0 hj))
 
   by-room : (short : Bool) → ltb (length (before .table)) (m * m) ≡ short

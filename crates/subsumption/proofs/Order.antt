@@ -27,10 +27,22 @@ by-the-middle {f} {a} {b} {c} first second x = by (x .world .named b (x .element
   where
     by : (t : Bool) → x .world .named b (x .element) ≡ t → ⊥
     by true e = second (record {
-      world = x .world; obeys = x .obeys; includes = x .includes; element = x .element; inside = x .inside; isA = rw e tt; isNoB = x .isNoB;
+      world = x .world;
+      obeys = x .obeys;
+      includes = x .includes;
+      element = x .element;
+      inside = x .inside;
+      isA = rw e tt;
+      isNoB = x .isNoB;
     })
     by false e = first (record {
-      world = x .world; obeys = x .obeys; includes = x .includes; element = x .element; inside = x .inside; isA = x .isA; isNoB = rw e tt;
+      world = x .world;
+      obeys = x .obeys;
+      includes = x .includes;
+      element = x .element;
+      inside = x .inside;
+      isA = x .isA;
+      isNoB = rw e tt;
     })
 
 module _ {f : RuleFile} {l : Lengths} where

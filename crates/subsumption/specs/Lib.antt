@@ -4,3 +4,4 @@ pub mod Names
 pub mod Catalogue
 pub mod Promise
 pub mod NameLaws
+pub mod NameCountLaws

@@ -1,0 +1,25 @@
+-- How large a catalogue can be: at most 32 names, so an area of 1,024 bytes has room for every table.
+-- Assumes nothing.
+use mathlib.Core.Path.{_≡_, refl, sym}
+use Prim.Native.Nat.{ℕ, _*_, _≤_}
+use native.Mathlib.Nat.{mul-le-mul}
+use native.Mathlib.Omega.{arith}
+use lib.ListN.{length}
+use Rattle.decoding.specs.Decoding.{ruleKinds}
+use Rattle.rulefile.specs.Format.{Bytes, wantedRows, RuleFile, Reading, refused, accepted, reading}
+use Rattle.rulefile.specs.FormatLaws.{accepted-admitted}
+use Rattle.subsumption.specs.NameCountLaws.{names-half}
+use Rattle.subsumption.specs.Catalogue.{Areas, Numbers}
+use Rattle.subsumption.specs.Promise.{Promise}
+
+module _ {file : Bytes} {before : Areas} {r : Numbers} {after : Areas} (P : Promise file before r after) where
+  -- each name has two of the 64 rows
+  pub count-most : r .count ≤ 32
+  count-most = by (reading file) refl
+    where
+      by : (x : Reading) → reading file ≡ x → r .count ≤ 32
+      by (refused n) e = rw (P .refusal n e .0) (omega arith)
+      by (accepted f) e = omega (arith, P .right f e .countIs, names-half (f .table), accepted-admitted ruleKinds (wantedRows file) file f e .fewRows)
+
+  pub table-most : r .count * r .count ≤ 1024
+  table-most = mul-le-mul {n₂ = 32} {m₂ = 32} count-most count-most
