@@ -2,7 +2,7 @@
 --
 -- In order: what a run says and what the engine answers; the words of an accepted file, its entries and its names; the answer with 17, and with the table filled; the promise.
 -- Assumes nothing.
-use mathlib.Core.Path.{_≡_, refl, sym, ap, ap₂, _∙_, subst, subst₂}
+use mathlib.Core.Path.{_≡_, refl, sym, ap, _∙_, subst, subst₂}
 use mathlib.Core.Bool.{Bool, true, false}
 use mathlib.Core.List.{List, List·Memᴰ}
 use mathlib.Core.Option.{Option, none, some}
@@ -15,7 +15,7 @@ use Rattle.concepts.specs.Concept.{Table}
 use Rattle.concepts.specs.RowSet.{fromList}
 use Rattle.words.specs.Words.{overwrite}
 use Rattle.decoding.specs.Decoding.{ruleKinds}
-use Rattle.rulefile.specs.Format.{Bytes, wantedRows, RuleFile, refused, accepted, reading}
+use Rattle.rulefile.specs.Format.{Bytes, wantedRows, RuleFile, refused, reading}
 use Rattle.rulefile.specs.Read.{LaidFor, Laid}
 use Rattle.rulefile.specs.PartLaws.{laid-placed}
 use Rattle.rulefile.specs.WantedLaws as Wanted
@@ -25,17 +25,15 @@ use Rattle.procedure.specs.Problem.{Problem, problem}
 use Rattle.procedure.specs.Graph.{Graph, Result, reached, noPlace, outOfFuel, nodeAt}
 use Rattle.procedure.specs.Tableau.{run}
 use Rattle.procedure.specs.Example.{Example}
-use Rattle.run.specs.Run.{Lengths, capacity, shown, used, fits, can, tooLong, answerCan, answerRoot, answerResult, answerFor}
+use Rattle.run.specs.Run.{Lengths, capacity, shown, used, fits, can, tooLong, answerCan, answerRoot, answerResult}
 use Rattle.run.proofs.Verdict.{Backs, answer-accepted, answer-backed}
-use Rattle.problem.specs.Decoded.{tableOf, problemOf, Decoded}
+use Rattle.problem.specs.Decoded.{tableOf}
 use Rattle.problem.specs.FileProblem.{FileDecoded}
-use Rattle.graph.specs.Graphs.{work, capacityOf}
-use Rattle.conclusion.specs.Contracts.{goodRoot}
 use Rattle.subsumption.specs.Names.{positive, negative, names, rowAfterRow}
 use Rattle.subsumption.specs.NameLaws.{rowAfterRow-same}
 use Rattle.subsumption.specs.Catalogue.{Areas, areasOf, lent, entryOf, entry, Catalogue, tooShort, listed, listedIn, catalogue, Numbers, numbers, areasAfter}
 use Rattle.subsumption.specs.Promise.{Promise}
-use Rattle.subsumption.proofs.Entry.{rowsFor, rows-serve, reads-rows}
+use Rattle.subsumption.proofs.Entry.{rowsFor, reads-rows}
 use Rattle.subsumption.proofs.Kept.{entriesOf, catalogue-refused, catalogue-accepted, promise-kept}
 use Rattle.catalogue.specs.Contracts.{Lists, entryResult, ranEntry, wantingBoth, FillGives, Answered}
 use Rattle.catalogue.specs.ListedLaws.{listed-table}

@@ -1,8 +1,9 @@
 -- What the checks give: laws of Format.
 --
--- In order: what an accepted file holds, whichever rows are wanted (`Admitted`, `accepted-admitted`, `accepted-length`; of a rule file, `accepted-normal`). That it has a row of kind 1 or 2 is in LiteralRowLaws.
+-- In order: what an accepted file holds, whichever rows are wanted (`Admitted`, `accepted-admitted`, `accepted-length`; of a rule file, `accepted-normal`).
+-- That a file with its own wanted row has a row of kind 1 or 2 is in LiteralRowLaws.
 -- Assumes nothing.
-use mathlib.Core.Path.{_≡_, refl, sym, ap, _∙_, subst}
+use mathlib.Core.Path.{_≡_, sym, ap, _∙_, subst}
 use mathlib.Core.Bool.{true, false, not, _||_}
 use mathlib.Core.List.{List, List·Memᴰ, List·Memᴰ·not-nil, Memᴰ·of-map}
 use Prim.Native.Nat.{ℕ, _≤_, _<_}

@@ -4,24 +4,23 @@
 -- only checks 8 and 16 look at them.
 -- Assumes nothing.
 use mathlib.Core.Path.{_≡_, sym, ap, ap₂, _∙_, subst}
-use mathlib.Core.Bool.{Bool, false, _||_}
-use mathlib.Core.List.{List, [], _∷_, List·Memᴰ}
-use mathlib.Core.Option.{Option, none, some}
+use mathlib.Core.Bool.{false, _||_}
+use mathlib.Core.List.{List, List·Memᴰ}
 use Prim.Native.Nat.{ℕ, _<_}
+use native.Mathlib.Nat.{not-suc-le-zero}
 use native.Mathlib.Omega.{arith}
-use lib.Dec.{eqb, leb}
+use lib.Dec.{leb}
 use lib.ListN.{length}
 use borrow.Author.Tests.{lt-leb}
 use Rattle.concepts.specs.Tests.{as-false}
-use Rattle.concepts.specs.Lists.{first}
-use Rattle.concepts.specs.ListLaws.{any-none}
-use Rattle.concepts.specs.Concept.{conceptAt, isInclusion, NoInclusion}
+use Rattle.concepts.specs.ListLaws.{any-none, NoneBelow-suc}
+use Rattle.concepts.specs.Concept.{isInclusion, NoInclusion}
 use Rattle.decoding.specs.Decoding.{Kinds}
 use Rattle.decoding.specs.RowPartLaws.{row-parts}
-use Rattle.rulefile.specs.Format.{Bytes, rowCount, rowByte, someRow, badLength, badMark, badCounts, badPlace, badRow, badArgument, repeated, badRule}
-use Rattle.rulefile.specs.Format.{inclusionAt, inclusionServes, checks, refusalBy, refusalFor, RuleFile, contentsFor, Reading, refused, accepted, readingFor}
-use Rattle.rulefile.specs.Checks.{PassedAll}
-use Rattle.rulefile.specs.CheckLaws.{refusal-none, accepted-contents, accepted-passed}
+use Rattle.rulefile.specs.Format.{Bytes, rowCount, rowByte, badRow, badRule}
+use Rattle.rulefile.specs.Format.{inclusionAt, inclusionServes, checks, RuleFile, contentsFor, accepted, readingFor}
+use Rattle.rulefile.specs.Checks.{refusesAt, PassedAll}
+use Rattle.rulefile.specs.CheckLaws.{reading-accepted, accepted-contents, accepted-passed}
 use Rattle.rulefile.specs.FormatLaws.{rows-known, inclusions-idle, row-formed, row-at, rows-length}
 use Rattle.rulefile.specs.ReadLaws.{inclusion-row}
 
@@ -53,32 +52,25 @@ module _ (kinds : Kinds) (wanted : List ℕ) (b : Bytes) (passed : PassedAll kin
         let (rows, rules, kit) = inclusions-idle kinds wanted b passed in
         ap₂ _||_ rows (ap₂ _||_ rules (any-none (inclusionAt b) others (λ k m. none-by-bytes k (inside k m) (serve k m .1))))
 
-    -- by what checks 8 and 16 find
-    by-two : Bool → Bool → Option ℕ
-    by-two eight sixteen =
-        refusalBy
-        (record { number = 1; refuses = badLength }
-        ∷ record { number = 2; refuses = badMark }
-        ∷ record { number = 3; refuses = badCounts }
-        ∷ record { number = 4; refuses = badPlace }
-        ∷ record { number = 5; refuses = λ b. someRow b (badRow kinds b) }
-        ∷ record { number = 6; refuses = λ b. someRow b (badArgument kinds b) }
-        ∷ record { number = 7; refuses = λ b. someRow b (repeated b) }
-        ∷ record { number = 8; refuses = λ _. eight }
-        ∷ record { number = 16; refuses = λ _. sixteen }
-        ∷ []) b
-
-    others-pass : refusalFor kinds others b ≡ none
-    unfolding refusalFor checks first by-two
-    others-pass =
-        ap₂ by-two (others-known ∙ sym (passed 7 (omega arith))) (others-idle ∙ sym (passed 8 (omega arith))) ∙ refusal-none kinds wanted b passed
+    -- the other checks do not look at wanted rows
+    others-passed : PassedAll kinds others b
+    unfolding checks
+    others-passed =
+        let next = NoneBelow-suc (refusesAt kinds others b) in
+        let p₁ = next 0 (λ k h. absurd (not-suc-le-zero h)) (passed 0 (omega arith)) in
+        let p₂ = next 1 p₁ (passed 1 (omega arith)) in
+        let p₃ = next 2 p₂ (passed 2 (omega arith)) in
+        let p₄ = next 3 p₃ (passed 3 (omega arith)) in
+        let p₅ = next 4 p₄ (passed 4 (omega arith)) in
+        let p₆ = next 5 p₅ (passed 5 (omega arith)) in
+        let p₇ = next 6 p₆ (passed 6 (omega arith)) in
+        let p₈ = next 7 p₇ others-known in
+        next 8 p₈ others-idle
 
 pub reading-wanting : (kinds : Kinds) (wanted : List ℕ) (b : Bytes) (f : RuleFile) → readingFor kinds wanted b ≡ accepted f → (others : List ℕ)
     → ((k : ℕ) → List·Memᴰ k others → (k < length (f .table)) × NoInclusion (f .table) k) → readingFor kinds others b ≡ accepted (wanting others f)
-unfolding readingFor
 reading-wanting kinds wanted b f e others serve =
     let holds = accepted-contents kinds wanted b f e in
     let passed = accepted-passed kinds wanted b f e in
     let here = subst (λ (g : RuleFile). (k : ℕ) → List·Memᴰ k others → (k < length (g .table)) × NoInclusion (g .table) k) holds serve in
-    ap (λ (o : Option ℕ). elim o as (λ _. Reading) [ some n ↦ refused n | none ↦ accepted (contentsFor kinds others b) ]) (others-pass kinds wanted b passed others here)
-    ∙ ap (λ (k : RuleFile). accepted (wanting others k)) (sym holds)
+    reading-accepted kinds others b (others-passed kinds wanted b passed others here) ∙ ap (λ (k : RuleFile). accepted (wanting others k)) (sym holds)

@@ -2,16 +2,14 @@
 --
 -- In order: the rows of listed names may be wanted; a model of the two rows is a counterexample, and back; the entry of an answer (`answered-right`); of a file (`entry-right`).
 -- Assumes nothing.
-use mathlib.Core.Path.{_≡_, refl, sym, ap, _∙_, subst}
-use mathlib.Core.Bool.{not}
+use mathlib.Core.Path.{_≡_, refl, ap, _∙_}
 use mathlib.Core.List.{List, [], _∷_, List·Memᴰ, List·Memᴰ·head, List·Memᴰ·tail, List·Memᴰ·not-nil}
-use mathlib.Core.Logic.{_⊎_, inl, inr}
+use mathlib.Core.Logic.{inl, inr}
 use Prim.Native.Nat.{ℕ, _<_}
 use native.Mathlib.Omega.{arith}
-use lib.Dec.{T}
 use lib.ListN.{length}
-use Rattle.concepts.specs.Concept.{Concept, atomic, negated, conceptAt, isInclusion, NoInclusion, Ordered}
-use Rattle.meaning.specs.Meaning.{Model, finite, Holds, Means}
+use Rattle.concepts.specs.Concept.{atomic, negated, conceptAt, NoInclusion, Ordered}
+use Rattle.meaning.specs.Meaning.{Model, finite, Holds}
 use Rattle.meaning.specs.MeaningLaws.{holds-as}
 use Rattle.decoding.specs.Decoding.{ruleKinds}
 use Rattle.rulefile.specs.Format.{Bytes, wantedRows, RuleFile, accepted, reading, readingFor}

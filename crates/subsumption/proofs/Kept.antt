@@ -10,15 +10,14 @@ use native.Mathlib.Nat.{suc-mul, mul-le-mul-right}
 use native.Mathlib.Omega.{arith}
 use lib.Dec.{ltb}
 use lib.ListN.{length, getD, drop, List·getD-append}
-use borrow.Author.Tests.{ltb-true, ltb-false, lt-ltb}
-use Rattle.concepts.specs.Tests.{impossible}
+use borrow.Author.Tests.{ltb-true, ltb-false}
 use Rattle.concepts.specs.ListLaws.{getD-mem}
 use Rattle.concepts.specs.RowSet.{empty}
 use Rattle.rulefile.specs.Format.{Bytes, RuleFile, refused, accepted, reading}
 use Rattle.run.specs.Run.{Lengths}
 use Rattle.subsumption.specs.Names.{names, rowAfterRow}
 use Rattle.subsumption.specs.NameLaws.{length-rowAfterRow, getD-rowAfterRow}
-use Rattle.subsumption.specs.Catalogue.{Areas, lent, entry, Catalogue, refusedWith, tooShort, listed, listedIn, catalogueReading, catalogue, Numbers, numbers, areasAfter}
+use Rattle.subsumption.specs.Catalogue.{Areas, lent, entry, Catalogue, refusedWith, tooShort, listed, listedIn, catalogueReading, catalogue, numbers, areasAfter}
 use Rattle.subsumption.specs.Promise.{EntryRight, entryAt, Right, Promise}
 use Rattle.subsumption.proofs.Entry.{entry-right}
 

@@ -1,12 +1,11 @@
 -- How large a catalogue can be: at most 32 names, so an area of 1,024 bytes has room for every table.
 -- Assumes nothing.
-use mathlib.Core.Path.{_≡_, refl, sym}
-use Prim.Native.Nat.{ℕ, _*_, _≤_}
+use mathlib.Core.Path.{_≡_, refl}
+use Prim.Native.Nat.{_*_, _≤_}
 use native.Mathlib.Nat.{mul-le-mul}
 use native.Mathlib.Omega.{arith}
-use lib.ListN.{length}
 use Rattle.decoding.specs.Decoding.{ruleKinds}
-use Rattle.rulefile.specs.Format.{Bytes, wantedRows, RuleFile, Reading, refused, accepted, reading}
+use Rattle.rulefile.specs.Format.{Bytes, wantedRows, Reading, refused, accepted, reading}
 use Rattle.rulefile.specs.FormatLaws.{accepted-admitted}
 use Rattle.subsumption.specs.NameCountLaws.{names-half}
 use Rattle.subsumption.specs.Catalogue.{Areas, Numbers}

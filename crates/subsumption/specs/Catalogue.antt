@@ -2,14 +2,14 @@
 --
 -- In order: what is lent; an entry of the table; the answer; its numbers; the areas afterwards. The names and their rows are in Names.
 -- Assumes nothing.
-use mathlib.Core.Bool.{Bool, true, false}
+use mathlib.Core.Bool.{true, false}
 use mathlib.Core.List.{List, [], _∷_}
 use Prim.Native.Nat.{ℕ, _*_}
 use lib.Dec.{ltb}
 use lib.ListN.{length}
 use Rattle.concepts.specs.Concept.{Table}
 use Rattle.concepts.specs.RowSet.{RowSet, empty, fromList}
-use Rattle.rulefile.specs.Format.{Bytes, RuleFile, Reading, refused, accepted, reading}
+use Rattle.rulefile.specs.Format.{Bytes, Reading, refused, accepted, reading}
 use Rattle.words.specs.Words.{overwrite}
 use Rattle.run.specs.Run as Run
 use Rattle.run.specs.Run.{Lengths, lengths, Answer, refusedFile, short, cannot, can, tooLong, undefined, answerFor, zeros}

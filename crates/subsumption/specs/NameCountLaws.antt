@@ -2,11 +2,11 @@
 --
 -- In order: no name is listed twice; the rows of some names, two for each; no row is of two names, nor of both kinds; the count.
 -- Assumes nothing.
-use mathlib.Core.Path.{_≡_, refl, sym, ap, _∙_, subst}
+use mathlib.Core.Path.{_≡_, refl}
 use mathlib.Core.Bool.{Bool, true, false}
 use mathlib.Core.List.{List, [], _∷_, List·Memᴰ, List·Memᴰ·head, List·Memᴰ·tail, List·Memᴰ·not-nil}
 use mathlib.Core.Logic.{_⊎_, inl, inr}
-use mathlib.Core.Option.{Option, none, some}
+use mathlib.Core.Option.{none}
 use Prim.Native.Nat.{ℕ, zero, suc, _*_, _≤_, _<_}
 use native.Mathlib.Omega.{arith}
 use lib.ListN.{length}
@@ -14,7 +14,7 @@ use Rattle.concepts.specs.Tests.{impossible}
 use Rattle.concepts.specs.Lists.{range, select}
 use Rattle.concepts.specs.ListLaws.{select-mem, range-mem}
 use Rattle.concepts.specs.Counting.{Distinct, distinct-below}
-use Rattle.concepts.specs.Concept.{Concept, atomic, negated, asAtomic, asNegated, Table, conceptAt}
+use Rattle.concepts.specs.Concept.{atomic, negated, Table, conceptAt}
 use Rattle.subsumption.specs.Names.{positive, negative, hasBoth, names}
 use Rattle.subsumption.specs.NameLaws.{names-positive, names-negative}
 

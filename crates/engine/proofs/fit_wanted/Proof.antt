@@ -27,4 +27,5 @@ fit-wanted-spec =
     -- the end: what fit_accepted returned
     (λ c. search needs) (λ c. search needs) (λ c. search needs) (λ c. search needs) (λ c. search needs)
     (λ c. let s : tie.Start = search in let f : tie.After-fit-accepted = search in
-    promised (s .args .wanted .now) (s .args .file .now) (areasOf (s .args .nodes .now) (s .args .edges .now) (s .args .alternatives .now) (s .args .elements .now) (s .args .links .now)) _ _ (f .fit-accepted .ensures)))
+    promised (s .args .wanted .now) (s .args .file .now)
+    (areasOf (s .args .nodes .now) (s .args .edges .now) (s .args .alternatives .now) (s .args .elements .now) (s .args .links .now)) _ _ (f .fit-accepted .ensures)))
