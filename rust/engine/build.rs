@@ -1,6 +1,9 @@
-//! Finds the archive: in the folder that GUMBYRA_LIB_DIR names, or where `rt staticlib gumbyra` writes it.
+//! Finds the two archives: in the folder that GUMBYRA_LIB_DIR names, or where `rt staticlib` writes them.
 
 use std::path::PathBuf;
+
+/// The engine's call and the converter's; the engine's with several wanted rows and the catalogue's.
+const ARCHIVES: [&str; 2] = ["gumbyra", "gumbyra_kinds"];
 
 fn main() {
     println!("cargo:rerun-if-env-changed=GUMBYRA_LIB_DIR");
@@ -9,13 +12,16 @@ fn main() {
         Some(dir) => PathBuf::from(dir),
         None => crate_dir.join("../../target/staticlib"),
     };
-    let archive = lib_dir.join("libgumbyra.a");
-    println!("cargo:rerun-if-changed={}", archive.display());
-    let Ok(lib_dir) = lib_dir.canonicalize().and_then(|dir| archive.metadata().map(|_| dir)) else {
-        panic!("no {}: run `rt staticlib gumbyra`, or set GUMBYRA_LIB_DIR to the archive's folder", archive.display());
-    };
+    for name in ARCHIVES {
+        let archive = lib_dir.join(format!("lib{name}.a"));
+        println!("cargo:rerun-if-changed={}", archive.display());
+        if archive.metadata().is_err() {
+            panic!("no {}: run `rt staticlib {name}`, or set GUMBYRA_LIB_DIR to the archives' folder", archive.display());
+        }
+        println!("cargo:rustc-link-lib=static={name}");
+    }
+    let lib_dir = lib_dir.canonicalize().expect("the archives' folder is there");
     println!("cargo:rustc-link-search=native={}", lib_dir.display());
-    println!("cargo:rustc-link-lib=static=gumbyra");
-    // The test of the C examples links the same archive.
+    // The test of the C examples links the same archives.
     println!("cargo:rustc-env=GUMBYRA_LIB_DIR={}", lib_dir.display());
 }

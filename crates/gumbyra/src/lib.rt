@@ -1,20 +1,16 @@
-// The calls of the archive, through the C convention: what each promises is what the function that it calls promises.
+// The calls of the archive `libgumbyra.a`, through the C convention: what each promises is what the function that it calls promises.
 //
-// In order: the engine's calls; the text of a rule file; the converter's call; the catalogue's.
+// In order: the engine's call; the text of a rule file; the converter's call. Several wanted rows and the catalogue are in `gumbyra_kinds`.
 ghost use mathlib.Core.Path.{_≡_};
 ghost use lib.ListN.{length, take};
 ghost use Rattle.decoding.specs.Decoding.{ruleKinds};
 ghost use Rattle.rulefile.specs.Format.{textOf};
 ghost use Rattle.run.specs.Run.{areasOf};
-ghost use Rattle.run.specs.Promise.{PromiseFor, Promise};
+ghost use Rattle.run.specs.Promise.{Promise};
 ghost use Rattle.answers.specs.Numbers.{numbersOf};
 ghost use Rattle.drafts.specs.Promise as Drafts;
 ghost use Rattle.converter.specs.Contracts as Converter;
-ghost use Rattle.subsumption.specs.Catalogue as Catalogue;
-ghost use Rattle.subsumption.specs.Promise as Subsumption;
-ghost use Rattle.catalogue.specs.Contracts as Pages;
 use answers::Answer;
-use catalogue::Page;
 use converter::Conversion;
 
 // Whether the kit that the rule file wants can exist: `engine::fit`.
@@ -35,25 +31,6 @@ pub extern "C" fn gumbyra_fit(
     engine::fit(file, nodes, edges, alternatives, elements, links)
 }
 
-// Whether a member of all the wanted rows can exist: `engine::fit_wanted`.
-#[no_mangle]
-pub extern "C" fn gumbyra_fit_wanted(
-    file: &[u8],
-    wanted: &[u8],
-    nodes: &mut [u8],
-    edges: &mut [u8],
-    alternatives: &mut [u8],
-    elements: &mut [u8],
-    links: &mut [u8],
-) -> Answer
-    ensures { λ r. ⌜ PromiseFor (now (wanted .entry)) (now (file .entry))
-        (areasOf (now (nodes .entry)) (now (edges .entry)) (now (alternatives .entry)) (now (elements .entry)) (now (links .entry)))
-        (numbersOf r)
-        (areasOf (now (nodes .exit)) (now (edges .exit)) (now (alternatives .exit)) (now (elements .exit)) (now (links .exit))) ⌝ }
-{
-    engine::fit_wanted(file, wanted, nodes, edges, alternatives, elements, links)
-}
-
 // How much of the rule file is its text: `engine::text_length`.
 #[no_mangle]
 pub extern "C" fn gumbyra_text(file: &[u8]) -> usize
@@ -68,21 +45,4 @@ pub extern "C" fn gumbyra_convert(draft: &[u8], area: &mut [u8]) -> Conversion
     ensures { λ r. ⌜ Drafts.Promise (now (draft .entry)) (now (area .entry)) (Converter.numbersOf r) (now (area .exit)) ⌝ }
 {
     converter::convert(draft, area)
-}
-
-// Which names are under which, written into the table: `catalogue::classify`.
-#[no_mangle]
-pub extern "C" fn gumbyra_catalogue(
-    file: &[u8],
-    nodes: &mut [u8],
-    edges: &mut [u8],
-    alternatives: &mut [u8],
-    table: &mut [u8],
-) -> Page
-    ensures { λ r. ⌜ Subsumption.Promise (now (file .entry))
-        (Catalogue.areasOf (now (nodes .entry)) (now (edges .entry)) (now (alternatives .entry)) (now (table .entry)))
-        (Pages.numbersOf r)
-        (Catalogue.areasOf (now (nodes .exit)) (now (edges .exit)) (now (alternatives .exit)) (now (table .exit))) ⌝ }
-{
-    catalogue::classify(file, nodes, edges, alternatives, table)
 }

@@ -1,4 +1,4 @@
-/* Which kinds of pump are which: cc -I include examples/catalogue.c -L DIR -lgumbyra, DIR being the archive's folder. */
+/* Which kinds of pump are which: cc -I include examples/catalogue.c -L DIR -lgumbyra_kinds, DIR being the archive's folder. */
 #include <stdio.h>
 #include "gumbyra.h"
 

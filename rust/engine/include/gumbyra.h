@@ -1,6 +1,6 @@
 /* The fit engine: three calls on a rule file, one that tells which of its kinds are which, and one that makes a rule file of a draft.
-   Link with libgumbyra.a, which is for x86-64 Linux only. examples/eight_nodes.c, examples/enlarge.c, examples/draft.c,
-   examples/fitted.c and examples/catalogue.c are whole programs.
+   Link with libgumbyra.a, and for gumbyra_fit_wanted and gumbyra_catalogue with libgumbyra_kinds.a; both are for x86-64 Linux only.
+   examples/eight_nodes.c, examples/enlarge.c, examples/draft.c, examples/fitted.c and examples/catalogue.c are whole programs.
 
    In all calls a pointer may not be null, even with length 0. Nothing is kept after a call, and there is no state: threads may
    call at the same time, with areas of their own. For a call of this build a stack of 1 MiB suffices. */

@@ -61,7 +61,7 @@ fn output(example: &str) -> String {
         .args(["-std=c11", "-Wall", "-Wextra", "-Wpedantic", "-Werror", "-I"])
         .arg(crate_dir.join("include"))
         .arg(crate_dir.join("examples").join(example).with_extension("c"))
-        .args(["-L", env!("GUMBYRA_LIB_DIR"), "-lgumbyra", "-o"])
+        .args(["-L", env!("GUMBYRA_LIB_DIR"), "-lgumbyra", "-lgumbyra_kinds", "-o"])
         .arg(&program)
         .output()
         .expect("there is a C compiler, cc");
