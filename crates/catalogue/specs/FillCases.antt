@@ -65,7 +65,8 @@ overwrite-behind xs ys area =
     ∙ ap (λ (l : List ℕ). xs ++ (ys ++ l)) (ap (λ (n : ℕ). drop n area) (length-append xs ys) ∙ sym (drop-drop (length ys) (length xs) area))
 
 -- a piece more, behind the first ones
-overwrite-piece : (xs ys area : List ℕ) {at : ℕ} {area′ : List ℕ} → at ≡ length xs → area′ ≡ overwrite xs area → take at area′ ++ overwrite ys (drop at area′) ≡ overwrite (xs ++ ys) area
+overwrite-piece : (xs ys area : List ℕ) {at : ℕ} {area′ : List ℕ} → at ≡ length xs → area′ ≡ overwrite xs area
+    → take at area′ ++ overwrite ys (drop at area′) ≡ overwrite (xs ++ ys) area
 overwrite-piece xs ys area {at} e h =
     (λ i. take at (h i) ++ overwrite ys (drop at (h i)))
     ∙ ap₂ (λ (l r : List ℕ). l ++ overwrite ys r) (take-at xs (drop (length xs) area) at (sym e)) (drop-at xs (drop (length xs) area) at (sym e))
@@ -77,7 +78,8 @@ put-back area end {at} h =
     ap (λ (l : List ℕ). take at area ++ (end ++ l)) (post-is at (length area) area h ∙ drop-length area) ∙ ap (λ (l : List ℕ). take at area ++ l) (append-nil end)
 
 -- a byte more
-overwrite-byte : (xs area : List ℕ) (x : ℕ) {at : ℕ} {area′ : List ℕ} → at ≡ length xs → at < length area → area′ ≡ overwrite xs area → set area′ at x ≡ overwrite (xs ++ x ∷ []) area
+overwrite-byte : (xs area : List ℕ) (x : ℕ) {at : ℕ} {area′ : List ℕ} → at ≡ length xs → at < length area → area′ ≡ overwrite xs area
+    → set area′ at x ≡ overwrite (xs ++ x ∷ []) area
 overwrite-byte xs area x {at} e l h =
     let cut : drop (length xs) area ≡ getD area (length xs) 0 ∷ drop (suc (length xs)) area = drop-cons area (length xs) 0 (omega arith) in
     ap (λ (b : List ℕ). set b at x) (h ∙ ap (λ (b : List ℕ). xs ++ b) cut) ∙ set-at xs (getD area (length xs) 0) (drop (suc (length xs)) area) x at (sym e)
@@ -94,7 +96,8 @@ module _ {upTo : ℕ → List ℕ} {count : ℕ} {ws : List ℕ} {w : Work} {are
   }
 
   module _ {i : ℕ} {ws′ : List ℕ} {w′ : Work} {area′ : List ℕ} (L : Written upTo count ws w area i ws′ w′ area′) where
-    written-more : i < count → {ws″ : List ℕ} {w″ : Work} {area″ : List ℕ} → SameRows ws′ ws″ → length ws″ ≡ length ws′ → Sized w′ w″ → area″ ≡ overwrite (upTo (i + 1)) area
+    written-more : i < count → {ws″ : List ℕ} {w″ : Work} {area″ : List ℕ} → SameRows ws′ ws″ → length ws″ ≡ length ws′ → Sized w′ w″
+        → area″ ≡ overwrite (upTo (i + 1)) area
         → Written upTo count ws w area (i + 1) ws″ w″ area″
     written-more h S words Z e = record {
       within = omega arith;
@@ -131,7 +134,8 @@ module _ {ws : List ℕ} {p : ℕ} {negatives row : List ℕ} (A : RowAsks ws p 
       negative = same-serve (L .same) (A .negative (getD negatives j 0) (getD-mem negatives j 0 h));
     }
 
-    pub row-more : j < length negatives → {r : ℕ} {ws″ : List ℕ} {w″ : Work} → EntryGives ws′ (capacityOf w′) p (getD negatives j 0) r ws″ → length ws″ ≡ length ws′ → Sized w′ w″
+    pub row-more : j < length negatives → {r : ℕ} {ws″ : List ℕ} {w″ : Work}
+        → EntryGives ws′ (capacityOf w′) p (getD negatives j 0) r ws″ → length ws″ ≡ length ws′ → Sized w′ w″
         → Written (rowUpTo ws w p negatives) (length negatives) ws w row (j + 1) ws″ w″ (set row′ j r)
     row-more h {r} G words Z =
         let f = ranEntry ws (capacityOf w) p in

@@ -207,7 +207,8 @@ module _ {ws : List ℕ} {a p n : ℕ} {l : Listed} (A : NameAsks ws a p n l) wh
       row-more : (f : ℕ → ℕ) (xs : List ℕ) {xs′ : List ℕ} {x count : ℕ} → count ≡ l .count + 1 → xs′ ≡ set xs (l .count) x → length xs ≡ 64
           → take (l .count) xs ≡ map f (namesBelow table a) → x ≡ f a → take count xs′ ≡ map f (namesBelow table a ++ a ∷ [])
       row-more f xs {xs′} {x} {count} ec es h before ex =
-          (λ i. take ((ec ∙ add-one (l .count)) i) (es i)) ∙ take-suc-set xs (l .count) x (omega (arith, name-room)) ∙ (λ i. before i ++ ex i ∷ []) ∙ sym (map-append f (namesBelow table a) (a ∷ []))
+          (λ i. take ((ec ∙ add-one (l .count)) i) (es i)) ∙ take-suc-set xs (l .count) x (omega (arith, name-room))
+          ∙ (λ i. before i ++ ex i ∷ []) ∙ sym (map-append f (namesBelow table a) (a ∷ []))
 
 -- ---- all names
 

@@ -1,7 +1,7 @@
 // The catalogue of names (02, [7]): which names are under which, by a run for each pair of names.
 //
 // In order: the names that are listed; the answer; what a run says that wants two rows; such answers in a row, and row after row; an accepted file; every file.
-// How the names are listed is in names.rt. Through the C convention the call is in `gumbyra`.
+// How the names are listed is in names.rt. Through the C convention the call is in `gumbyra_kinds`.
 ghost use mathlib.Core.Path.{_≡_};
 ghost use mathlib.Core.List.{[], _∷_};
 ghost use Prim.Native.Nat.{_<_};

@@ -1,4 +1,4 @@
-// The engine (00, demands 1 to 3; 02, [4] and [7]): a rule file, wanted rows and five lent areas in, the answer out. Through the C convention it is called in `gumbyra`.
+// The engine (00, demands 1 to 3; 02, [4] and [7]): a rule file, wanted rows and five lent areas in, the answer out. Through the C convention it is called in `gumbyra` and `gumbyra_kinds`.
 //
 // In order: the answer's numbers; an accepted file; every file, with wanted rows that are given and with its own; the text of a file.
 ghost use mathlib.Core.Path.{_≡_};

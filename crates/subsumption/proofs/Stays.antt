@@ -41,7 +41,8 @@ not-short f l (short s n) B d r e = d refl
 not-short f l (refusedFile n) B d r e = B
 not-short f l undefined B d r e = B
 
-module _ (file : Bytes) (f : RuleFile) (e : reading file ≡ accepted f) (l m : Lengths) (E : Enlarged l m) (a b : ℕ) (ma : List·Memᴰ a (names (f .table))) (mb : List·Memᴰ b (names (f .table))) where
+module _ (file : Bytes) (f : RuleFile) (e : reading file ≡ accepted f) (l m : Lengths) (E : Enlarged l m)
+    (a b : ℕ) (ma : List·Memᴰ a (names (f .table))) (mb : List·Memᴰ b (names (f .table))) where
   pub decided-stays : Decided (entry file l (f .table) a b) → entry file m (f .table) a b ≡ entry file l (f .table) a b
   unfolding entry
   decided-stays d =
