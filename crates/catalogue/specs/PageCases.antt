@@ -31,7 +31,7 @@ use Rattle.problem.specs.Decoded.{tableOf}
 use Rattle.problem.specs.FileProblem.{FileDecoded}
 use Rattle.subsumption.specs.Names.{positive, negative, names, rowAfterRow}
 use Rattle.subsumption.specs.NameLaws.{rowAfterRow-same}
-use Rattle.subsumption.specs.Catalogue.{Areas, areasOf, lent, entryOf, entry, Catalogue, tooShort, listed, listedIn, catalogue, Numbers, numbers, areasAfter}
+use Rattle.subsumption.specs.Catalogue.{Areas, areasOf, lent, entryOf, entry, Catalogue, refusedWith, listed, listedIn, catalogue, Numbers, refusalAlone, numbers, areasAfter}
 use Rattle.subsumption.specs.Promise.{Promise}
 use Rattle.subsumption.proofs.Entry.{rowsFor, reads-rows}
 use Rattle.subsumption.proofs.Kept.{entriesOf, catalogue-refused, catalogue-accepted, promise-kept}
@@ -117,22 +117,22 @@ module _ {b : Bytes} {l : Layout} (L : Laid ruleKinds b l) {ws : List ℕ} (F : 
 
       -- the answer, by whether the area is shorter than the square
       answer-by : (x : Bool) → ltb (length (before .table)) (length (names t) * length (names t)) ≡ x
-          → catalogue b room (length (before .table)) ≡ elim x as (λ _. Catalogue) [ true ↦ tooShort (names t) | false ↦ listed (names t) (entriesOf b room (L .file)) ]
+          → catalogue b room (length (before .table)) ≡ elim x as (λ _. Catalogue) [ true ↦ refusedWith 17 | false ↦ listed (names t) (entriesOf b room (L .file)) ]
       unfolding listedIn
       answer-by x e =
           catalogue-accepted b room (length (before .table)) (L .file) (L .reads)
-          ∙ ap (λ (y : Bool). elim y as (λ _. Catalogue) [ true ↦ tooShort (names t) | false ↦ listed (names t) (entriesOf b room (L .file)) ]) e
+          ∙ ap (λ (y : Bool). elim y as (λ _. Catalogue) [ true ↦ refusedWith 17 | false ↦ listed (names t) (entriesOf b room (L .file)) ]) e
 
       square : length (names t) * length (names t) ≡ k .count * k .count
       square = ap (λ (n : ℕ). n * n) (sym (count-is))
 
       -- "no area is then changed"
-      pub page-short : {r : Numbers} → r ≡ record { refusal = 17; count = k .count; names = k .names } → length (before .table) < k .count * k .count → Answered b before r before
+      pub page-short : {r : Numbers} → r ≡ refusalAlone 17 → length (before .table) < k .count * k .count → Answered b before r before
       unfolding numbers areasAfter
       page-short hr h =
           let is = answer-by true (lt-ltb (length (before .table)) (length (names t) * length (names t)) (omega (arith, square, h))) in
           record {
-            numbersAre = hr ∙ (λ i. record { refusal = 17; count = count-is i; names = names-are i }) ∙ sym (ap numbers is);
+            numbersAre = hr ∙ sym (ap numbers is);
             areasAre = sym (ap (λ (c : Catalogue). areasAfter c before) is);
           }
 
@@ -159,7 +159,7 @@ module _ (b : Bytes) (before : Areas) where
   pub promised : (r : Numbers) (after : Areas) → Answered b before r after → Promise b before r after
   promised r after A = subst₂ (λ (x : Numbers) (y : Areas). Promise b before x y) (sym (A .numbersAre)) (sym (A .areasAre)) (promise-kept b before)
 
-  pub refused-answered : (n : ℕ) → reading b ≡ refused n → (r : Numbers) → r ≡ record { refusal = n; count = 0; names = 0 } → Promise b before r before
+  pub refused-answered : (n : ℕ) → reading b ≡ refused n → (r : Numbers) → r ≡ refusalAlone n → Promise b before r before
   unfolding numbers areasAfter
   refused-answered n e r hr =
       let q = catalogue-refused b (lent before) (length (before .table)) n e in

@@ -39,7 +39,7 @@ pub struct Listed {
     pub negatives: [u8; 64],
 }
 
-// The answer: a refusal, or 0 if the table is filled; how many names are listed, and which, name n as bit n: also with refusal 17, and 0 with any other.
+// The answer: a refusal, or 0 if the table is filled; how many names are listed, and which, name n as bit n: both 0 with a refusal.
 #[repr(C)]
 pub struct Page {
     pub refusal: u32,
@@ -161,8 +161,8 @@ fn classify_accepted(
     if table.len() < count * count {
         return Page {
             refusal: TABLE_SHORT,
-            count: count as u32,
-            names,
+            count: 0,
+            names: 0,
         };
     }
     let positives = list.positives;

@@ -1,11 +1,11 @@
 // The engine (00, demands 1 to 3; 02, [4] and [7]): a rule file, wanted rows and five lent areas in, the answer out. Through the C convention it is called in `gumbyra` and `gumbyra_kinds`.
 //
-// In order: the answer's numbers; an accepted file; every file, with wanted rows that are given and with its own; the text of a file.
+// In order: the answer's numbers; an accepted file; every file, with wanted rows that are given and with its own; the text of a file, likewise.
 ghost use mathlib.Core.Path.{_≡_};
 ghost use Prim.Native.Nat.{_≤_};
 ghost use Rattle.answers.specs.Numbers.{numbersOf};
 ghost use lib.ListN.{length, take};
-ghost use Rattle.rulefile.specs.Format.{textOf};
+ghost use Rattle.rulefile.specs.Format.{textFor, textOf};
 ghost use Rattle.decoding.specs.Decoding.{ruleKinds};
 ghost use Rattle.rulefile.specs.Read.{LaidFor};
 ghost use Rattle.words.specs.Sizes.{mostRecords};
@@ -34,6 +34,7 @@ use rulefile::Layout;
 use rulefile::Outcome;
 use rulefile::read_for;
 use rulefile::text;
+use rulefile::text_for;
 use rulefile::wanted_of;
 
 // A refusal: "Each gives its number and zeros elsewhere".
@@ -215,7 +216,16 @@ pub fn fit(
     )
 }
 
-// How much of the file is its text, which is the part before the rows: nothing of a refused file. The text is so many bytes at the start of the file.
+// How much of a file that is read with these wanted rows is its text, which is the part before the rows: nothing of a refused file.
+// The text is so many bytes at the start of the file.
+pub fn text_length_wanted(file: &[u8], wanted: &[u8]) -> usize
+    ensures { λ r. ⌜ (r ≡ length (textFor ruleKinds (now (wanted .entry)) (now (file .entry))))
+        × (take r (now (file .entry)) ≡ textFor ruleKinds (now (wanted .entry)) (now (file .entry))) ⌝ }
+{
+    text_for(file, RULE_KINDS, wanted).len()
+}
+
+// The same with the file's own wanted row.
 pub fn text_length(file: &[u8]) -> usize
     ensures { λ r. ⌜ (r ≡ length (textOf ruleKinds (now (file .entry)))) × (take r (now (file .entry)) ≡ textOf ruleKinds (now (file .entry))) ⌝ }
 {

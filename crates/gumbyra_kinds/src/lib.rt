@@ -1,7 +1,11 @@
 // The calls of the archive `libgumbyra_kinds.a`, through the C convention: what each promises is what the function that it calls promises.
 //
-// In order: the engine's call with several wanted rows; the catalogue's call.
+// In order: the engine's call with several wanted rows; the text of a file that is read with them; the catalogue's call.
 // They are no calls of `gumbyra`, since what calls of one archive share is not inlined into each, and the order program's call would be slower (docs/DECISIONS.md, The archives).
+ghost use mathlib.Core.Path.{_≡_};
+ghost use lib.ListN.{length, take};
+ghost use Rattle.decoding.specs.Decoding.{ruleKinds};
+ghost use Rattle.rulefile.specs.Format.{textFor};
 ghost use Rattle.answers.specs.Numbers as Answers;
 ghost use Rattle.run.specs.Run as Run;
 ghost use Rattle.run.specs.Promise.{PromiseFor};
@@ -28,6 +32,15 @@ pub extern "C" fn gumbyra_fit_wanted(
         (Run.areasOf (now (nodes .exit)) (now (edges .exit)) (now (alternatives .exit)) (now (elements .exit)) (now (links .exit))) ⌝ }
 {
     engine::fit_wanted(file, wanted, nodes, edges, alternatives, elements, links)
+}
+
+// How much of a rule file that is read with these wanted rows is its text: `engine::text_length_wanted`.
+#[no_mangle]
+pub extern "C" fn gumbyra_text_wanted(file: &[u8], wanted: &[u8]) -> usize
+    ensures { λ r. ⌜ (r ≡ length (textFor ruleKinds (now (wanted .entry)) (now (file .entry))))
+        × (take r (now (file .entry)) ≡ textFor ruleKinds (now (wanted .entry)) (now (file .entry))) ⌝ }
+{
+    engine::text_length_wanted(file, wanted)
 }
 
 // Which names are under which, written into the table: `catalogue::classify`.

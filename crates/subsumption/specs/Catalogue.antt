@@ -49,13 +49,12 @@ entry file l t a b = entryOf (answerFor (positive t a ∷ negative t b ∷ []) f
 -- ---- the answer
 
 pub data Catalogue : Type 0 where
-  refusedWith : ℕ → Catalogue  -- a file check refuses the file: 1 to 8, or 16
-  tooShort : List ℕ → Catalogue  -- refusal 17: the area is shorter than the square of these names
+  refusedWith : ℕ → Catalogue  -- a file check refuses the file: 1 to 8, or 16; or 17
   listed : List ℕ → Bytes → Catalogue  -- these names, and the entries of their table
 
 -- "Refusal 17 .. is given if the area is shorter than the square"
 unfoldable pub listedIn : ℕ → List ℕ → Bytes → Catalogue
-listedIn room ns entries = elim (ltb room (length ns * length ns)) [ true ↦ tooShort ns | false ↦ listed ns entries ]
+listedIn room ns entries = elim (ltb room (length ns * length ns)) [ true ↦ refusedWith 17 | false ↦ listed ns entries ]
 
 -- "after all file checks"
 unfoldable pub catalogueReading : Bytes → Lengths → ℕ → Reading → Catalogue
@@ -70,12 +69,15 @@ catalogue file l room = catalogueReading file l room (reading file)
 
 pub record Numbers : Type 0 where
   pub refusal : ℕ  -- 0 if the table is filled
-  pub count : ℕ  -- how many names are listed, also with 17
+  pub count : ℕ  -- how many names are listed
   pub names : RowSet  -- which: name n as bit n
 
+-- "Each gives its number and zeros elsewhere" (01)
+abbrev pub refusalAlone : ℕ → Numbers
+refusalAlone n = record { refusal = n; count = 0; names = empty }
+
 unfoldable pub numbers : Catalogue → Numbers
-numbers (refusedWith n) = record { refusal = n; count = 0; names = empty }
-numbers (tooShort ns) = record { refusal = 17; count = length ns; names = fromList ns }
+numbers (refusedWith n) = refusalAlone n
 numbers (listed ns entries) = record { refusal = 0; count = length ns; names = fromList ns }
 
 -- ---- the areas afterwards
@@ -83,5 +85,4 @@ numbers (listed ns entries) = record { refusal = 0; count = length ns; names = f
 -- "The work areas end all zero, and bytes past the square are kept"; with 17 "no area is then changed"
 unfoldable pub areasAfter : Catalogue → Areas → Areas
 areasAfter (refusedWith n) a = a
-areasAfter (tooShort ns) a = a
 areasAfter (listed ns entries) a = areasOf (zeros (a .nodes)) (zeros (a .edges)) (zeros (a .alternatives)) (overwrite entries (a .table))

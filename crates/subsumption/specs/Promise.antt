@@ -10,7 +10,7 @@ use mathlib.Core.Logic.{_⊎_}
 use Prim.Native.Nat.{ℕ, _+_, _*_, _<_}
 use lib.Dec.{T}
 use lib.ListN.{length, getD}
-use Rattle.concepts.specs.RowSet.{empty, fromList}
+use Rattle.concepts.specs.RowSet.{fromList}
 use Rattle.meaning.specs.Meaning.{World, finite, Obeys, ObeysInclusions}
 use Rattle.rulefile.specs.Format.{Bytes, RuleFile, refused, accepted, reading}
 use Rattle.procedure.specs.Problem.{problem}
@@ -18,7 +18,7 @@ use Rattle.procedure.specs.Graph.{Area, Result, noPlace}
 use Rattle.procedure.specs.Tableau.{run}
 use Rattle.run.specs.Run.{Lengths, capacity}
 use Rattle.subsumption.specs.Names.{positive, negative, names}
-use Rattle.subsumption.specs.Catalogue.{Areas, lent, catalogue, Numbers, numbers, areasAfter}
+use Rattle.subsumption.specs.Catalogue.{Areas, lent, catalogue, Numbers, refusalAlone, numbers, areasAfter}
 
 -- ---- "an a that isn't a b"
 
@@ -61,16 +61,20 @@ pub record EntryRight (f : RuleFile) (l : Lengths) (a b v : ℕ) : Type 0 where
 abbrev pub entryAt : Bytes → ℕ → ℕ → ℕ → ℕ
 entryAt table m i j = getD table (i * m + j) 0
 
+-- how many bytes the table of its names has
+abbrev pub square : RuleFile → ℕ
+square f = length (names (f .table)) * length (names (f .table))
+
 -- the file f is accepted, r are the numbers of the answer, and the areas hold `before` and then `after`
 pub record Right (f : RuleFile) (before : Areas) (r : Numbers) (after : Areas) : Type 0 where
-  -- which names are listed, and how many: also told with 17
-  pub countIs : r .count ≡ length (names (f .table))
-  pub namesAre : r .names ≡ fromList (names (f .table))
-  -- 17 exactly where the area is shorter than the square, then no area is changed; and no other refusal
-  pub tooShort : r .refusal ≡ 17 → (length (before .table) < r .count * r .count) × (after ≡ before)
-  pub tooShortOnly : length (before .table) < r .count * r .count → r .refusal ≡ 17
+  -- 17 exactly where the area is shorter than the square, then zeros elsewhere and no area is changed; and no other refusal
+  pub tooShort : r .refusal ≡ 17 → (length (before .table) < square f) × (r ≡ refusalAlone 17) × (after ≡ before)
+  pub tooShortOnly : length (before .table) < square f → r .refusal ≡ 17
   pub noOther : (r .refusal ≡ 17 → ⊥) → r .refusal ≡ 0
-  -- else each entry is right of the names of its row and its column
+  -- else which names are listed, and how many
+  pub countIs : r .refusal ≡ 0 → r .count ≡ length (names (f .table))
+  pub namesAre : r .refusal ≡ 0 → r .names ≡ fromList (names (f .table))
+  -- and each entry is right of the names of its row and its column
   pub entries : r .refusal ≡ 0 → (i j : ℕ) → i < r .count → j < r .count
       → EntryRight f (lent before) (getD (names (f .table)) i 0) (getD (names (f .table)) j 0) (entryAt (after .table) (r .count) i j)
 
@@ -81,6 +85,6 @@ pub record Promise (file : Bytes) (before : Areas) (r : Numbers) (after : Areas)
   pub numbersAre : r ≡ numbers (catalogue file (lent before) (length (before .table)))
   pub areasAre : after ≡ areasAfter (catalogue file (lent before) (length (before .table))) before
   -- a file that check n refuses: its number, zeros elsewhere, and nothing touched
-  pub refusal : (n : ℕ) → reading file ≡ refused n → (r ≡ record { refusal = n; count = 0; names = empty }) × (after ≡ before)
+  pub refusal : (n : ℕ) → reading file ≡ refused n → (r ≡ refusalAlone n) × (after ≡ before)
   -- an accepted file
   pub right : (f : RuleFile) → reading file ≡ accepted f → Right f before r after

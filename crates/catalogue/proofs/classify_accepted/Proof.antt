@@ -43,14 +43,14 @@ whole c = omega arith
 
 -- the words stand for the file
 the-file : (c : tie.After-decode-file) → FileDecoded (wantedRows (begun c .args .file .now)) (begun c .args .file .now) (c .decode-file .last .1 .1 .1 .0)
-the-file c = own-decoded (begun c .pre) (c .before .before .wanted-of .ensures) (c .decode-file .ensures)
+the-file c = own-decoded (begun c .pre) (c .before .before .wanted-of .ensures .0) (c .decode-file .ensures)
 
 pub classify-accepted-spec : {M : Type 1} → statement M
 classify-accepted-spec =
     tie.close (tie.spec
     -- wanted_of(file), decode_file(file, layout, wanted_of(file), &mut words)
     (λ c κs. search needs) (λ c. search needs)
-    (λ c κs. let s : tie.Start = search in let w : tie.After-wanted-of = search in (own-laid (s .pre) (w .wanted-of .ensures), fresh-zeros _ refl))
+    (λ c κs. let s : tie.Start = search in let w : tie.After-wanted-of = search in (own-laid (s .pre) (w .wanted-of .ensures .0), fresh-zeros _ refl))
     -- listed(&words)
     (λ c. search needs) (λ c κs. search needs)
     -- count * count, return with 17

@@ -37,7 +37,7 @@ start c = c .before .before .before .before
 
 -- a draft that passed the checks is long enough to have a wanted row
 the-kit : (c : tie.After-wanted-of) → c .wanted-of .result .now ≡ wantedRows (start c .args .draft .now)
-the-kit c = c .wanted-of .ensures (laid-placed (start c .pre) .parts .least)
+the-kit c = c .wanted-of .ensures .0 (laid-placed (start c .pre) .parts .least)
 
 abbrev the-n : tie.After-put-list2 → tie.After-n
 the-n c = c .before .before .before .before .before

@@ -12,4 +12,4 @@ fit-spec =
     (λ c κs. search needs) (λ c κs. search needs)
     -- the end
     (λ c. search needs) (λ c. search needs) (λ c. search needs) (λ c. search needs) (λ c. search needs)
-    (λ c. let w : tie.After-wanted-of = search in let f : tie.After-fit-wanted = search in own-promised (w .wanted-of .ensures) (f .fit-wanted .ensures)))
+    (λ c. let w : tie.After-wanted-of = search in let f : tie.After-fit-wanted = search in own-promised (w .wanted-of .ensures .0) (f .fit-wanted .ensures)))

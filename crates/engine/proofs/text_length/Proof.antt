@@ -4,14 +4,16 @@ use mathlib.Core.Path.{ap}
 use lib.ListN.{length}
 use borrow.Author.Needs.{needs}
 use Rattle.decoding.specs.Decoding.{ruleKinds}
-use Rattle.rulefile.specs.ReadLaws.{take-textOf}
+use Rattle.rulefile.specs.Format.{wantedRows}
+use Rattle.rulefile.specs.ReadLaws.{take-textFor}
 use Rattle.engine.proofs.text_length.Statement.{statement}
 use Rattle.engine.proofs.text_length.Tie as tie
 
 returns : tie.Need-returns
 returns c =
+    let a = c .before .before .args in
     let text = c .text .ensures .0 in
-    (ap length text, rw text (take-textOf ruleKinds (c .before .before .args .file .now)))
+    (ap length text, rw text (take-textFor ruleKinds (wantedRows (a .file .now)) (a .file .now)))
 
 pub text-length-spec : {M : Type 1} → statement M
 text-length-spec =

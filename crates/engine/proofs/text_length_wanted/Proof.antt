@@ -1,0 +1,20 @@
+-- `engine::text_length_wanted` meets its contract: the text is a leading part of the file.
+-- Assumes nothing.
+use mathlib.Core.Path.{ap}
+use lib.ListN.{length}
+use borrow.Author.Needs.{needs}
+use Rattle.decoding.specs.Decoding.{ruleKinds}
+use Rattle.rulefile.specs.ReadLaws.{take-textFor}
+use Rattle.engine.proofs.text_length_wanted.Statement.{statement}
+use Rattle.engine.proofs.text_length_wanted.Tie as tie
+
+returns : tie.Need-returns
+returns c =
+    let a = c .before .before .args in
+    let text = c .text-for .ensures .0 in
+    (ap length text, rw text (take-textFor ruleKinds (a .wanted .now) (a .file .now)))
+
+pub text-length-wanted-spec : {M : Type 1} → statement M
+text-length-wanted-spec =
+    tie.close (tie.spec
+    (λ c κs. search needs) returns)
