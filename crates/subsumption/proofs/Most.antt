@@ -20,7 +20,7 @@ module _ {file : Bytes} {before : Areas} {r : Numbers} {after : Areas} (P : Prom
   count-most = by (reading file) refl
     where
       by-room : (f : RuleFile) → reading file ≡ accepted f → (short : Bool) → eqb (r .refusal) 17 ≡ short → r .count ≤ 32
-      by-room f e true q = rw (P .right f e .tooShort (eqb-true (r .refusal) 17 q) .1 .0) (omega arith)
+      by-room f e true q = rw (P .right f e .tooShort (eqb-true (r .refusal) 17 q) .1) (omega arith)
       by-room f e false q =
           let filled = P .right f e .noOther (eqb-false (r .refusal) 17 q) in
           omega (arith, P .right f e .countIs filled, names-half (f .table), accepted-admitted ruleKinds (wantedRows file) file f e .fewRows)

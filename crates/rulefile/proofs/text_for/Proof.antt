@@ -10,24 +10,27 @@ use Rattle.rulefile.proofs.text_for.Tie as tie
 enum-told : tie.Need-enum-told
 enum-told c = search needs
 
+-- part(file, 0, layout.text)
 part-requires-2 : tie.Need-part-requires-2
 part-requires-2 c κs =
-    let s = c .before .before .before in
-    let a = s .before .before .args in
-    laid-inside (reads-accepted (a .kinds) (a .wanted .now) (a .file .now) _ (sym (c .before .layout .given .1) ∙ s .read-for .ensures))
+    let s : tie.Start = search in
+    let r : tie.After-read-for = search in
+    laid-inside (reads-accepted (s .args .kinds) (s .args .wanted .now) (s .args .file .now) _ (sym (c .before .layout .given .1) ∙ r .read-for .ensures))
 
+-- a refused file
 returns : tie.Need-returns
 returns c =
-    let s = c .before .before .before in
-    let a = s .before .before .args in
-    let e = reads-refused (a .kinds) (a .wanted .now) (a .file .now) _ (sym (c .before .enum-told .given .1) ∙ s .read-for .ensures) in
-    (c .part .ensures .0 ∙ sym (text-refused (a .kinds) (a .wanted .now) (a .file .now) _ e), c .part .ensures .1)
+    let s : tie.Start = search in
+    let r : tie.After-read-for = search in
+    let e = reads-refused (s .args .kinds) (s .args .wanted .now) (s .args .file .now) _ (sym (c .before .enum-told .given .1) ∙ r .read-for .ensures) in
+    (c .part .ensures .0 ∙ sym (text-refused (s .args .kinds) (s .args .wanted .now) (s .args .file .now) _ e), c .part .ensures .1)
 
+-- an accepted file
 returns-2 : tie.Need-returns-2
 returns-2 c =
-    let s = c .before .before .before .before in
-    let a = s .before .before .args in
-    let l = reads-accepted (a .kinds) (a .wanted .now) (a .file .now) _ (sym (c .before .before .layout .given .1) ∙ s .read-for .ensures) in
+    let s : tie.Start = search in
+    let r : tie.After-read-for = search in
+    let l = reads-accepted (s .args .kinds) (s .args .wanted .now) (s .args .file .now) _ (sym (c .before .before .layout .given .1) ∙ r .read-for .ensures) in
     (c .part2 .ensures .0 ∙ laid-text l, c .part2 .ensures .1)
 
 pub text-for-spec : {M : Type 1} → statement M
