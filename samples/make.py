@@ -2,13 +2,16 @@
 """The sample rule files and drafts, built from the descriptions in described.py, ways.py and kinds.py.
 
     samples/make.py             writes the .fit and .draft files
-    samples/make.py --check     says whether these files and the tables of README.md are what it would write; exit status 1 if not
-    samples/make.py --tables    prints the tables of README.md
+    samples/make.py --check     says whether these files and the tables of the pages are what it would write, and whether every
+                                sample has a page, with what is printed for it; exit status 1 if not
+    samples/make.py --tables    prints the tables of the pages
 
-In order: a sample's bytes; what becomes of a draft; the tables of README.md; the commands.
+In order: a sample's bytes; what becomes of a draft; the tables of the pages; what is not as it should be; the commands.
 
 What the program `fit` prints for a file is in the .txt beside it and comes from the program, not from here. What becomes of a draft
 is in the .fit beside it and does come from here, so that what the program `convert` writes can be compared with it.
+
+The page of a sample is the .md beside it, written by hand around its tables and what is printed; README.md lists all pages.
 """
 import pathlib
 import sys
@@ -113,7 +116,7 @@ def files(file, sample):
     return {file: file_bytes(sample)}
 
 
-# ---- the tables in README.md
+# ---- the tables of the pages
 
 def made_of(row):
     """A row's bytes in words."""
@@ -131,27 +134,30 @@ def made_of(row):
     }[kind]
 
 
-def line(number, row, says, rules, wanted):
+def line(number, row, says):
     digits = " ".join(str(byte) for byte in row)
-    use = ["rule"] * (number in rules) + ["wanted"] * (number == wanted)
-    return f"| {number} | `{digits}` | {made_of(row)} | {says} | {', '.join(use)} |"
+    return f"| {number} | `{digits}` | {made_of(row)} | {says} |"
+
+
+def uses(rules, wanted):
+    """The line below a table; as a column it would be empty nearly everywhere."""
+    return f"\nRules: {', '.join(str(rule) for rule in rules) or 'none'}. Wanted: {wanted}."
 
 
 def table(sample):
-    lines = ["| row | bytes | made of | says | use |", "|---|---|---|---|---|"]
-    rules, wanted = [row_number(sample, says) for says in sample.rules], row_number(sample, sample.wanted)
-    for number, (says, row) in enumerate(sample.rows.items()):
-        lines.append(line(number, row_bytes(sample, row), says, rules, wanted))
+    lines = ["| row | bytes | made of | says |", "|---|---|---|---|"]
+    lines += [line(number, row_bytes(sample, row), says) for number, (says, row) in enumerate(sample.rows.items())]
+    lines.append(uses([row_number(sample, says) for says in sample.rules], row_number(sample, sample.wanted)))
     return "\n".join(lines) + "\n"
 
 
 def table_converted(sample):
     """The same of what becomes of a draft; a row says what the draft's row says, or not."""
-    lines = ["| row | bytes | made of | stands for | use |", "|---|---|---|---|---|"]
+    lines = ["| row | bytes | made of | stands for |", "|---|---|---|---|"]
     converted = Converted(sample)
     for number, (row, (of_draft, opposite)) in enumerate(converted.rows.items()):
-        stands_for = f"{'not ' if opposite else ''}{of_draft}"
-        lines.append(line(number, row, stands_for, converted.rules, converted.wanted))
+        lines.append(line(number, row, f"{'not ' if opposite else ''}{of_draft}"))
+    lines.append(uses(converted.rules, converted.wanted))
     return "\n".join(lines) + "\n"
 
 
@@ -161,32 +167,49 @@ def tables(file, sample):
     return {file: table(sample)}
 
 
-# ---- the commands
-
-def stale():
-    """What is not as it would be written, a line each."""
-    readme = (HERE / "README.md").read_text()
-    for file, made in everything(files).items():
-        path = HERE / file
-        if not path.exists() or path.read_bytes() != made:
-            yield f"{file} is not what make.py builds"
-    for file, made in everything(tables).items():
-        if made not in readme:
-            yield f"README.md lacks the table of {file}"
-    for path in sorted([*HERE.glob("*.fit"), *HERE.glob("*.draft")]):
-        if path.name not in everything(files):
-            yield f"{path.name} is described nowhere"
-
-
 def everything(of_sample):
     """The files, or the tables, of all samples."""
     return {file: made for name, sample in ALL_SAMPLES.items() for file, made in of_sample(name, sample).items()}
 
 
+# ---- what is not as it should be, a line each
+
+def stale():
+    for file, made in everything(files).items():
+        path = HERE / file
+        if not path.exists() or path.read_bytes() != made:
+            yield f"{file} is not what make.py builds"
+    for path in sorted([*HERE.glob("*.fit"), *HERE.glob("*.draft")]):
+        if path.name not in everything(files):
+            yield f"{path.name} is described nowhere"
+    pages = {path.name: path.read_text() for path in sorted(HERE.glob("*.md"))}
+    readme = pages.pop("README.md")
+    for file, sample in ALL_SAMPLES.items():
+        page = f"{pathlib.Path(file).stem}.md"
+        yield from stale_page(file, sample, pages.pop(page)) if page in pages else [f"{file} has no page"]
+        if f"]({page})" not in readme:
+            yield f"README.md has no link to {page}"
+    for page in pages:
+        yield f"{page} is the page of no sample"
+
+
+def stale_page(file, sample, page):
+    """What the page of a sample lacks."""
+    for of_file, made in tables(file, sample).items():
+        if made not in page:
+            yield f"the page of {file} lacks the table of {of_file}"
+    printed = (HERE / file).with_suffix(".txt")
+    if "".join(f"    {shown}\n" for shown in printed.read_text().splitlines()) not in page:
+        yield f"the page of {file} lacks what is in {printed.name}"
+
+
+# ---- the commands
+
 def main():
     if sys.argv[1:] == ["--check"]:
         found = list(stale())
-        print("\n".join(found) if found else f"{len(everything(files))} files and their tables are what make.py builds")
+        as_built = f"{len(everything(files))} files and the tables of {len(ALL_SAMPLES)} pages are what make.py builds"
+        print("\n".join(found) if found else as_built)
         sys.exit(1 if found else 0)
     if sys.argv[1:] == ["--tables"]:
         for file, made in everything(tables).items():

@@ -16,7 +16,7 @@ fn text(name: &str) -> String {
     String::from_utf8(sample(name)).expect("a text")
 }
 
-/// The page as samples/README.md shows it: four spaces before each line.
+/// The catalogue page as the sample's page, samples/kinds.md, shows it: four spaces before each line.
 fn shown(page: &str) -> String {
     page.lines().map(|line| if line.is_empty() { "\n".to_string() } else { format!("    {line}\n") }).collect()
 }
@@ -26,7 +26,7 @@ fn the_page_is_what_is_beside_the_sample() {
     let page = catalogue::page(&sample("kinds.fit"), Sizes::USUAL.nodes).expect("a page");
     assert_eq!(page, text("kinds.page"));
     assert!(page.contains("\nEvery peristaltic pump is a pump and a dosing pump.\n"));
-    assert!(text("README.md").contains(&shown(&page)), "samples/README.md lacks\n{}", shown(&page));
+    assert!(text("kinds.md").contains(&shown(&page)), "samples/kinds.md lacks\n{}", shown(&page));
 }
 
 /// 60 nodes are not enough for most of what is asked of peristaltic pumps.
@@ -34,7 +34,7 @@ fn the_page_is_what_is_beside_the_sample() {
 fn what_is_not_decided_is_marked() {
     let page = catalogue::page(&sample("kinds.fit"), 60).expect("a page");
     assert!(page.contains(" 2 peristaltic pump         yes    ?  yes    ?    ?    ?    ?\n"), "{page}");
-    assert!(text("README.md").contains(&shown(&page)), "samples/README.md lacks\n{}", shown(&page));
+    assert!(text("kinds.md").contains(&shown(&page)), "samples/kinds.md lacks\n{}", shown(&page));
 }
 
 /// Without words a name is told by its number; and a file that is refused has no page.
