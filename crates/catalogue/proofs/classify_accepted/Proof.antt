@@ -55,7 +55,6 @@ classify-accepted-spec =
     (λ c. search needs) (λ c κs. search needs)
     -- count * count, return with 17
     (λ c. omega (arith, mul-le-mul {n₂ = 64} {m₂ = 64} (c .listed .ensures .few) (c .listed .ensures .few)))
-    (λ c. search needs)
     (λ c. let w = the-words (c .before) in page-short (begun w .pre) (the-file w) (c .before .listed .ensures) (the-areas w) refl (c .if1 .taken))
     -- fill(&mut words, &positives[0..count], &negatives[0..count], ..)
     (λ c. search needs) (λ c. search needs) (λ c. search needs) (λ c. search needs) (λ c. search needs) (λ c. search needs) (λ c. search needs)

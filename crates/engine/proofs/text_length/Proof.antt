@@ -11,9 +11,9 @@ use Rattle.engine.proofs.text_length.Tie as tie
 
 returns : tie.Need-returns
 returns c =
-    let a = c .before .before .args in
+    let s : tie.Start = search in
     let text = c .text .ensures .0 in
-    (ap length text, rw text (take-textFor ruleKinds (wantedRows (a .file .now)) (a .file .now)))
+    (ap length text, rw text (take-textFor ruleKinds (wantedRows (s .args .file .now)) (s .args .file .now)))
 
 pub text-length-spec : {M : Type 1} → statement M
 text-length-spec =

@@ -10,9 +10,9 @@ use Rattle.engine.proofs.text_length_wanted.Tie as tie
 
 returns : tie.Need-returns
 returns c =
-    let a = c .before .before .args in
+    let s : tie.Start = search in
     let text = c .text-for .ensures .0 in
-    (ap length text, rw text (take-textFor ruleKinds (a .wanted .now) (a .file .now)))
+    (ap length text, rw text (take-textFor ruleKinds (s .args .wanted .now) (s .args .file .now)))
 
 pub text-length-wanted-spec : {M : Type 1} → statement M
 text-length-wanted-spec =
