@@ -142,13 +142,16 @@ impl Space {
     }
 
     /// A space of these sizes.
+    ///
+    /// # Panics
+    /// If so many records have more bytes than a machine has.
     pub fn with(sizes: Sizes) -> Space {
         Space {
-            nodes: vec![0; sizes.nodes * NODE_BYTES],
-            edges: vec![0; sizes.edges * EDGE_BYTES],
-            alternatives: vec![0; sizes.alternatives * ALTERNATIVE_BYTES],
-            elements: vec![0; sizes.elements * ELEMENT_BYTES],
-            links: vec![0; sizes.links * LINK_BYTES],
+            nodes: area(sizes.nodes, NODE_BYTES),
+            edges: area(sizes.edges, EDGE_BYTES),
+            alternatives: area(sizes.alternatives, ALTERNATIVE_BYTES),
+            elements: area(sizes.elements, ELEMENT_BYTES),
+            links: area(sizes.links, LINK_BYTES),
         }
     }
 
@@ -193,5 +196,22 @@ impl Space {
     fn areas(&mut self) -> Areas<'_> {
         let Space { nodes, edges, alternatives, elements, links } = self;
         Areas { nodes, edges, alternatives, elements, links }
+    }
+}
+
+/// An area of so many records of this size.
+fn area(records: usize, bytes: usize) -> Vec<u8> {
+    vec![0; records.checked_mul(bytes).expect("so many records have more bytes than a machine has")]
+}
+
+#[cfg(test)]
+mod tests {
+    use super::*;
+
+    /// Nodes whose bytes, counted in a machine word, would be none.
+    #[test]
+    #[should_panic(expected = "so many records have more bytes than a machine has")]
+    fn a_space_larger_than_a_machine_is_none() {
+        Space::with(Sizes { nodes: 1 << 58, ..Sizes::USUAL });
     }
 }
