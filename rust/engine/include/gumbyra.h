@@ -71,24 +71,27 @@ gumbyra_answer gumbyra_fit_wanted(const uint8_t *file, size_t file_len,
                                   uint8_t *elements, size_t elements_len,
                                   uint8_t *links, size_t links_len);
 
-/* The most names of a catalogue, and the most bytes of its table: an area of so many suffices for gumbyra_catalogue. */
-enum { GUMBYRA_MOST_NAMES = 32, GUMBYRA_LARGEST_TABLE = 1024 };
+/* The most names of a catalogue (there are names 0 to 63, and each is listed once), and the most bytes of its table. So many are enough
+   for every table of this engine, and of one that takes more rows. */
+enum { GUMBYRA_MOST_NAMES = 64, GUMBYRA_LARGEST_TABLE = 4096 };
 
 /* The entries of a table: an a that isn't a b can exist, cannot, or the work areas did not suffice to decide it. */
 enum { GUMBYRA_NOT_ALWAYS = 0, GUMBYRA_ALWAYS = 1, GUMBYRA_UNDECIDED = 2 };
 
-/* The refusal of a catalogue whose table has more bytes than its area. It comes after all checks of the file. */
+/* The refusal of a catalogue whose table has more bytes than its area. It comes after all checks of the file, and never in an area of
+   GUMBYRA_LARGEST_TABLE bytes. */
 enum { GUMBYRA_TABLE_SHORT = 17 };
 
 typedef struct {
     uint32_t refusal; /* 0 if the table is filled; else 1 to 8, 16: the file; 17: the table's area is short */
-    uint32_t count;   /* how many names are listed, the table being the square of them; zero with 1 to 8 and 16 */
-    uint64_t names;   /* bit n is set if name n is listed; zero with 1 to 8 and 16 */
+    uint32_t count;   /* how many names are listed, the table being the square of them; zero with a refusal */
+    uint64_t names;   /* bit n is set if name n is listed; zero with a refusal */
 } gumbyra_page;
 
 /* Is every part with the one name a part with the other? Listed are the names that have both a kind 1 and a kind 2 row, rising. The first
    count * count bytes of table are filled, row after row: row a, column b is for the a-th and the b-th name listed, and is GUMBYRA_ALWAYS
-   if every a is a b. Each entry is by a run of its own in the same work areas. Of a name that nothing can have the whole row is so.
+   if every a is a b. Each entry is by a run of its own in the same work areas. Of a name that nothing can have each entry that is decided is
+   so.
    The file is checked as it stands, its own wanted row too. The areas may be of any length and hold anything; no two may overlap, nor one
    the file. With a table every byte of nodes, edges and alternatives is zero afterwards, and bytes of table past it are as they were; after
    a refusal all areas are. */

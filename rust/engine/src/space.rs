@@ -169,16 +169,15 @@ impl Space {
     /// page is made of it, and it is kept beside the rule file.
     ///
     /// ```
-    /// use gumbyra::{IsA, Refusal, Space};
+    /// use gumbyra::{IsA, Refusal, Space, LARGEST_TABLE};
     /// # // Names 0 and 1, each with its opposite; either not 1 or 0, a rule.
     /// # let rows = [[1, 0, 0, 0], [2, 0, 0, 0], [1, 0, 1, 0], [2, 0, 1, 0], [4, 0, 3, 0]];
     /// # let file = [rows.as_flattened(), &[4], &[0, 0, 5, 1, 2], b"FIT"].concat();
     ///
-    /// // An area of no bytes tells which names there are.
-    /// let mut space = Space::usual();
-    /// let Err(Refusal::TableShort { names }) = space.catalogue(&file, &mut []) else { panic!("there are names") };
-    /// let mut table = vec![0; names.len() * names.len()];
-    /// let page = space.catalogue(&file, &mut table)?;
+    /// // An area in which every table has room.
+    /// let mut area = [0; LARGEST_TABLE];
+    /// let page = Space::usual().catalogue(&file, &mut area)?;
+    /// let names = page.names();
     /// for (a, b) in names.iter().flat_map(|a| names.iter().map(move |b| (a, b))) {
     ///     if a != b && page.is_a(a, b) == Some(IsA::Always) {
     ///         println!("every {a} is a {b}");
