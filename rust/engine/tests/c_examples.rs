@@ -51,7 +51,7 @@ dosing pump      yes   -   -
 peristaltic pump   ? yes   ?
 hose               ?   - yes
 64 nodes, 8 bytes: refusal 17, 0 names
-a peristaltic pump that isn't a dosing pump: verdict 2
+pumps: a peristaltic pump that isn't a dosing pump: verdict 2
 ";
 
 /// What an example prints.
