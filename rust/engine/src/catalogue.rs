@@ -56,7 +56,8 @@ impl<'a> Catalogue<'a> {
 
     /// Is every `a` a `b`? `None` if one of them is no name that is listed.
     ///
-    /// Of a name that nothing can have each entry that is decided is [`IsA::Always`]: none of these parts isn't a `b`, since there are none.
+    /// Of a name that nothing can have each entry that is decided is [`IsA::Always`]: none of these parts isn't a `b`, since there are
+    /// none.
     pub fn is_a(&self, a: u8, b: u8) -> Option<IsA> {
         let (row, column) = (self.names.place(a)?, self.names.place(b)?);
         IsA::of_byte(self.table[row * self.names.len() + column])

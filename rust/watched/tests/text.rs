@@ -1,5 +1,5 @@
-//! The text of a file from the engine: that part of the file which the plain program says, uncopied. Of a file with its own wanted row, then
-//! of one with a list of wanted rows in its place.
+//! The text of a file from the engine: that part of the file which the plain program says, uncopied. Of a file with its own wanted row,
+//! then of one with a list of wanted rows in its place.
 
 use compare::cases::wanted_cases;
 use compare::files::{encode, Row};
