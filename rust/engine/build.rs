@@ -16,7 +16,10 @@ fn main() {
         let archive = lib_dir.join(format!("lib{name}.a"));
         println!("cargo:rerun-if-changed={}", archive.display());
         if archive.metadata().is_err() {
-            panic!("no {}: run `rt staticlib {name}`, or set GUMBYRA_LIB_DIR to the archives' folder", archive.display());
+            panic!(
+                "no {}: run `rt staticlib {name}`, or set GUMBYRA_LIB_DIR to the archives' folder",
+                archive.display()
+            );
         }
         println!("cargo:rustc-link-lib=static={name}");
     }

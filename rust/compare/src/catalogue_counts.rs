@@ -1,7 +1,7 @@
 //! How often things happened with catalogue pages.
 
 use crate::tally::{cases_of_checks, Tally};
-use plain::catalogue::{CAN, CANNOT, UNDECIDED};
+use plain::catalogue::{CAN, CANNOT, TABLE_SHORT, UNDECIDED};
 use plain::{Answer, Page};
 
 /// In how many pages each case happened.
@@ -12,6 +12,8 @@ pub struct CatalogueCounts(Tally);
 pub struct Seen<'a> {
     /// The length of the table's area.
     pub area: usize,
+    /// How many names the file lists.
+    pub names: usize,
     pub page: &'a Page,
     /// What each entry's two rows get in the same work areas and some example areas, row after row.
     pub answers: &'a [Answer],
@@ -36,7 +38,7 @@ impl Seen<'_> {
     fn table(&self) -> (&[u8], usize) {
         match self.page {
             Page::Filled { names, table } => (table, names.len()),
-            Page::Refused(_) | Page::Short { .. } => (&[], 0),
+            Page::Refused(_) => (&[], 0),
         }
     }
 
@@ -44,10 +46,10 @@ impl Seen<'_> {
     fn cases_of_refusal(&self) -> Vec<(&'static str, bool)> {
         let (table, names) = self.table();
         let is_filled = matches!(self.page, Page::Filled { .. });
-        let one_short = matches!(self.page, Page::Short { names } if self.area + 1 == names.len() * names.len());
+        let is_short = *self.page == Page::Refused(TABLE_SHORT);
         let others = [
-            ("refusal 17", matches!(self.page, Page::Short { .. })),
-            ("refusal 17, for one byte", one_short),
+            ("refusal 17", is_short),
+            ("refusal 17, for one byte", is_short && self.area + 1 == self.names * self.names),
             ("no names", is_filled && names == 0),
             ("no names, in an area of no bytes", is_filled && names == 0 && self.area == 0),
             ("one name", names == 1),

@@ -11,7 +11,7 @@ use crate::inclusions::Parts;
 use crate::small_worlds::{check_found, random_areas};
 use crate::wide::wide_kinds;
 use crate::{page_line, random_lent, Prng, Shape};
-use plain::catalogue::{CAN, CANNOT, UNDECIDED};
+use plain::catalogue::{CAN, CANNOT, TABLE_SHORT, UNDECIDED};
 use plain::{Answer, Lent, Page};
 use worlds::{Concept, Ontology};
 
@@ -66,23 +66,18 @@ pub fn check_by_hand(mut catalogue: impl Cataloguing) {
         let page = catalogue(&file, area, &Lent::records(nodes, 99, 9, 0, 0));
         assert_eq!(page_line(&page), line, "{rows:?}, rules {rules:?}, wanted {wanted} in {area}, {nodes} nodes");
     }
-    let names = |file: &[u8], page: Page| match page {
-        Page::Filled { names, .. } | Page::Short { names } => names,
-        Page::Refused(_) => panic!("{page:?} to {file:02x?}"),
-    };
-    let file = encode(b"", &TWO, &[], 0);
-    let pages = [catalogue(&file, 4, &Lent::by_program()), catalogue(&file, 3, &Lent::by_program())];
-    assert_eq!(pages.map(|page| names(&file, page)), [[4, 9], [4, 9]], "rising, with both rows");
+    let page = catalogue(&encode(b"", &TWO, &[], 0), 4, &Lent::by_program());
+    assert!(matches!(&page, Page::Filled { names, .. } if *names == [4, 9]), "rising, with both rows: {page:?}");
 }
 
-/// Checks the table of a file by what is said of two places among its names, in an area of so many bytes more.
+/// Checks the table of a file by what is said of two places among its names, in an area of so many bytes more. Gives the names.
 fn check_large(
     catalogue: &mut impl Cataloguing,
     file: &[u8],
     names: usize,
     more: usize,
     is_a: impl Fn(usize, usize) -> bool,
-) {
+) -> Vec<u8> {
     let lent = Lent::by_program();
     let square = names * names;
     let Page::Filled { names: listed, table } = catalogue(file, square + more, &lent) else {
@@ -93,13 +88,13 @@ fn check_large(
     for (a, b) in (0..names).flat_map(|a| (0..names).map(move |b| (a, b))) {
         assert_eq!(table[a * names + b], u8::from(is_a(a, b)), "{a}, {b}: {file:02x?}");
     }
-    assert_eq!(catalogue(file, square - 1, &lent), Page::Short { names: listed });
+    assert_eq!(catalogue(file, square - 1, &lent), Page::Refused(TABLE_SHORT), "{file:02x?}");
+    listed
 }
 
 /// 32 names over 64 rows, and chains of names.
 pub fn check_most_names(mut catalogue: impl Cataloguing) {
-    check_large(&mut catalogue, &most_names(&[], &[]), 32, 0, |a, b| a == b);
-    let Page::Short { names } = catalogue(&most_names(&[], &[]), 0, &Lent::by_program()) else { panic!("no page") };
+    let names = check_large(&mut catalogue, &most_names(&[], &[]), 32, 0, |a, b| a == b);
     let name = |place: usize| usize::from(names[place]);
     let (every, none) = (names[20], names[7]);
     let said = |a: usize, b: usize| a == b || name(b) == every.into() || name(a) == none.into();
@@ -149,7 +144,8 @@ pub fn check_random_pages(mut catalogue: impl Cataloguing, mut wanted: impl Answ
             let page = catalogue(&file, area, &lent);
             assert_eq!(page, plain::catalogue(&file, area, &lent), "{file:02x?}, table in {area}, in {lent:?}");
             let answers = check_page(&file, area, &lent, &page, &mut wanted);
-            counts.count(&Seen { area, page: &page, answers: &answers, one_row: one_row(&file) });
+            let names = Ontology::decode(&file).map_or(0, |ontology| ontology.kinds().len());
+            counts.count(&Seen { area, names, page: &page, answers: &answers, one_row: one_row(&file) });
         }
     }
     counts.assert_often(OFTEN);
@@ -188,18 +184,16 @@ fn one_row(file: &[u8]) -> [bool; 2] {
 /// A page has the names that the meaning of the file has, and its table is true. Gives what each entry's two rows get as wanted rows.
 fn check_page(file: &[u8], area: usize, lent: &Lent, page: &Page, wanted: &mut impl AnsweringWanted) -> Vec<Answer> {
     let Some(ontology) = Ontology::decode(file) else {
-        assert!(matches!(page, Page::Refused(_)), "{page:?} to {file:02x?}");
+        assert!(matches!(page, Page::Refused(number) if *number != TABLE_SHORT), "{page:?} to {file:02x?}");
         return Vec::new();
     };
     let kinds = ontology.kinds();
-    let (Page::Short { names } | Page::Filled { names, .. }) = page else { panic!("{page:?} to {file:02x?}") };
+    if kinds.len() * kinds.len() > area {
+        assert_eq!(*page, Page::Refused(TABLE_SHORT), "{file:02x?} in {area}");
+        return Vec::new();
+    }
+    let Page::Filled { names, table } = page else { panic!("{page:?} to {file:02x?} in {area}") };
     assert!(names.iter().map(|&name| usize::from(name)).eq(kinds.iter().copied()), "{page:?} to {file:02x?}");
-    assert_eq!(
-        matches!(page, Page::Short { .. }),
-        kinds.len() * kinds.len() > area,
-        "{page:?} to {file:02x?} in {area}"
-    );
-    let Page::Filled { names, table } = page else { return Vec::new() };
     assert_eq!(table.len(), kinds.len() * kinds.len(), "{page:?} to {file:02x?}");
     check_order(file, table, kinds.len());
     let answers = check_runs(file, lent, names, table, wanted);

@@ -1,9 +1,10 @@
 //! Files whose graphs have long ways, so that a cascade of updates goes far or nests deep; and files with many alternatives.
 //!
 //! In order: a shift register with feedback, the longest way; a delay line, with more states but shorter ways; a line with a
-//! clock, in which updates nest deep; alternatives; a ladder of them, in which puts nest deep.
+//! clock, in which updates nest deep; alternatives; a ladder of them, in which puts nest deep; the same for a catalogue.
 
 use crate::files::{encode, Table};
+use crate::inclusions::Parts;
 
 /// The two rows that say of a bit that it is not set, or set.
 type Bit = [u8; 2];
@@ -188,4 +189,21 @@ pub fn ladder(rungs: usize, again: bool) -> Vec<u8> {
     let top =
         (0..rungs).rev().fold(lowest, |row, above| table.all(if above % 2 == 0 { inverse } else { forward }, row));
     encode(b"", &table.rows, &[name, successor, top], name)
+}
+
+/// The rungs of a ladder that has 64 rows [`with_other_name`]: 30 nested puts.
+pub const RUNGS_OF_KINDS: usize = RUNGS - 3;
+/// A name that no clocked line and no ladder has.
+pub const OTHER_NAME: u8 = 63;
+
+/// A clocked line or a ladder with both rows of name 0, which everything has by a rule, and of another name, so that a catalogue lists
+/// these two. Whether every 0 is one of the others takes a run as deep as the file's own.
+pub fn with_other_name(file: &[u8]) -> Vec<u8> {
+    let mut parts = Parts::of(file);
+    for row in [[2, 0, 0, 0], [1, 0, OTHER_NAME, 0], [2, 0, OTHER_NAME, 0]] {
+        if !parts.rows.contains(&row) {
+            parts.rows.push(row);
+        }
+    }
+    parts.bytes()
 }

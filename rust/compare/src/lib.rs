@@ -38,7 +38,7 @@ pub mod row_zero;
 pub mod samples;
 pub mod small_drafts;
 pub mod small_worlds;
-mod tally;
+pub mod tally;
 pub mod wanted_lists;
 pub mod wide;
 

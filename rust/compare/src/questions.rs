@@ -1,6 +1,5 @@
 //! The words of the line protocol in tests/vectors: what a question asks, and how an answer is written.
 
-use plain::catalogue::TABLE_SHORT;
 use plain::{print, Answer, Lent, Page};
 
 /// The longest area that a question may ask for, in bytes.
@@ -122,7 +121,6 @@ pub fn conversion_line(conversion: &Conversion) -> String {
 pub fn page_line(page: &Page) -> String {
     match page {
         Page::Refused(number) => format!("REFUSED {number}"),
-        Page::Short { .. } => format!("REFUSED {TABLE_SHORT}"),
         Page::Filled { names, table } => format!("TABLE {} {}", names.len(), print_bytes(table)),
     }
 }
@@ -186,7 +184,7 @@ mod tests {
         assert_eq!(page_line(&filled(&[3, 63], &[1, 0, 2, 1])), "TABLE 2 01000201");
         assert_eq!(page_line(&filled(&[], &[])), "TABLE 0 -");
         assert_eq!(page_line(&Page::Refused(8)), "REFUSED 8");
-        assert_eq!(page_line(&Page::Short { names: vec![0] }), "REFUSED 17");
+        assert_eq!(page_line(&Page::Refused(17)), "REFUSED 17");
     }
 
     #[test]

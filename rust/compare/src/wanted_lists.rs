@@ -134,8 +134,9 @@ fn check_other_lists(asked: &Asked, wanted: &mut impl AnsweringWanted, prng: &mu
     assert_eq!(wanted(file, &own, lent), *of_file, "{file:02x?} in {lent:?}");
 }
 
-/// Every other file has kind 7 rows. Of some the own wanted row is no row or of kind 7, and some are damaged or random bytes.
-fn random_question(prng: &mut Prng, shape: Shape) -> (Vec<u8>, Vec<u8>) {
+/// A file and a list. Every other file has kind 7 rows. Of some the own wanted row is no row or of kind 7, and some are damaged or random
+/// bytes.
+pub fn random_question(prng: &mut Prng, shape: Shape) -> (Vec<u8>, Vec<u8>) {
     let mut file = random_file(prng, shape);
     if prng.below(2) == 0 {
         file = with_inclusions(prng, &file, shape.roles);

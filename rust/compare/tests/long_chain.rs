@@ -1,8 +1,10 @@
 //! A cascade of updates through a long chain of states, on a small stack; large examples; and how deep updates and puts nest.
 
 use compare::chains::{
-    clocked_line, delay_line, ladder, shift_register, CONTENTS, DEEPEST, RUNGS, RUNGS_AGAIN, THOUSAND_STATES,
+    clocked_line, delay_line, ladder, shift_register, with_other_name, CONTENTS, DEEPEST, OTHER_NAME, RUNGS,
+    RUNGS_AGAIN, RUNGS_OF_KINDS, THOUSAND_STATES,
 };
+use compare::inclusions::Parts;
 use compare::wide::{wide, wide_with_inclusions};
 use compare::{check_example, on_stack};
 use plain::graph::{Edge, Graph, Link, Node};
@@ -80,8 +82,19 @@ fn ladders() {
 }
 
 fn graph_of(file: &[u8]) -> Graph {
-    let file = RuleFile::read(file).expect("a file that is accepted");
+    graph_wanting(file, &[Parts::of(file).wanted])
+}
+
+fn graph_wanting(file: &[u8], wanted: &[u8]) -> Graph {
+    let file = RuleFile::read_wanting(file, wanted).expect("a file that is accepted");
     tableau::run(&file, Lent::most().capacity()).expect("places for all records")
+}
+
+/// The graph behind a catalogue's entry: a 0 that is none of the others.
+fn graph_of_entry(file: &[u8]) -> Graph {
+    let file = with_other_name(file);
+    let place = |row: [u8; 4]| Parts::of(&file).rows.iter().position(|&other| other == row).expect("a row") as u8;
+    graph_wanting(&file, &[place([1, 0, 0, 0]), place([2, 0, OTHER_NAME, 0])])
 }
 
 /// How deep the updates nest when "never" starts at the one node that clashes, in a graph without branches: there every parent
@@ -119,6 +132,7 @@ fn nested_calls(graph: &Graph, mut node: usize, never: &mut [bool]) -> usize {
 fn updates_nest() {
     assert_eq!(nested_updates(&graph_of(&delay_line(THOUSAND_STATES, true))), 189);
     assert_eq!(nested_updates(&graph_of(&clocked_line(DEEPEST, true))), 706);
+    assert_eq!(nested_updates(&graph_of_entry(&clocked_line(DEEPEST, true))), 706);
 }
 
 /// How deep the puts nest, in a graph without branches: special nodes of which each is put under the one just made.
@@ -136,4 +150,5 @@ fn nested_puts(graph: &Graph) -> usize {
 #[test]
 fn puts_nest() {
     assert_eq!(nested_puts(&graph_of(&ladder(RUNGS, false))), 32);
+    assert_eq!(nested_puts(&graph_of_entry(&ladder(RUNGS_OF_KINDS, false))), 30);
 }

@@ -2,7 +2,7 @@
 
 use compare::encode;
 use compare::row_zero::{check_first_rows, check_tables_of_inclusions, check_tables_without_names};
-use plain::{answer, convert, text, Draft, RuleFile};
+use plain::{answer, convert, text, text_wanting, Draft, RuleFile};
 
 const ROWS: [[u8; 4]; 3] = [[1, 0, 0, 0], [5, 31, 0, 0], [6, 0, 1, 0]];
 
@@ -21,6 +21,23 @@ fn the_text_of_a_refused_file_is_the_empty_part_at_its_start() {
     assert_eq!(text(&bytes), b"flush valve");
     *bytes.last_mut().expect("a byte") = 0;
     assert_eq!((text(&bytes).as_ptr(), text(&bytes).len()), (bytes.as_ptr(), 0));
+}
+
+#[test]
+fn the_text_goes_by_the_wanted_rows_that_are_given() {
+    let texts = |own: u8, wanted: &[u8]| {
+        let bytes = encode(b"abc", &[[1, 0, 0, 0], [7, 0, 2, 0]], &[0], own);
+        let part = |text: &[u8]| (text.as_ptr() == bytes.as_ptr()).then(|| text.to_vec()).expect("its start");
+        [part(text_wanting(&bytes, wanted)), part(text(&bytes))]
+    };
+    let (abc, none) = (b"abc".to_vec(), Vec::new());
+    assert_eq!(texts(0, &[0]), [abc.clone(), abc.clone()]);
+    // The file's own is no row, or of kind 7; the list has a row, or none at all.
+    assert_eq!([texts(9, &[0]), texts(9, &[])], [[abc.clone(), none.clone()], [abc.clone(), none.clone()]]);
+    assert_eq!([texts(1, &[0]), texts(1, &[])], [[abc.clone(), none.clone()], [abc.clone(), none.clone()]]);
+    // The list names no row, or one of kind 7.
+    assert_eq!([texts(0, &[7]), texts(0, &[0, 1])], [[none.clone(), abc.clone()], [none.clone(), abc]]);
+    assert_eq!(texts(9, &[2]), [none.clone(), none]);
 }
 
 #[test]

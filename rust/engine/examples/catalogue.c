@@ -5,10 +5,11 @@
 /* Names: 0 dosing pump, 1 peristaltic pump, 2 hose. Rows 0 to 5: of each that it is one, and that it is none. Row 6: has some hose fitted to
    it (code 1). Row 7: has none. Rules: a peristaltic pump has some hose fitted to it (row 8); what has some is a dosing pump (row 9). */
 static const char *const words[] = {"dosing pump", "peristaltic pump", "hose"};
-static const uint8_t file[] = {1, 0, 0, 0, 2, 0, 0, 0, 1, 0, 1, 0, 2, 0, 1, 0, 1, 0, 2, 0, 2, 0, 2, 0,
+static const uint8_t file[] = {'p', 'u', 'm', 'p', 's',
+                               1, 0, 0, 0, 2, 0, 0, 0, 1, 0, 1, 0, 2, 0, 1, 0, 1, 0, 2, 0, 2, 0, 2, 0,
                                6, 1, 4, 0, 5, 1, 5, 0, 4, 0, 3, 6, 4, 0, 7, 0,
                                8, 9,
-                               0, 0, 10, 2, 0, 'F', 'I', 'T'};
+                               5, 0, 10, 2, 0, 'F', 'I', 'T'};
 
 static uint8_t nodes[64 * GUMBYRA_NODE], edges[64 * GUMBYRA_EDGE], alternatives[8 * GUMBYRA_ALTERNATIVE], elements[64], links[64];
 static uint8_t table[GUMBYRA_LARGEST_TABLE];
@@ -32,6 +33,7 @@ int main(void) {
     static const uint8_t wanted[] = {2, 1}; /* is a peristaltic pump; is no dosing pump */
     gumbyra_answer a = gumbyra_fit_wanted(file, sizeof file, wanted, sizeof wanted, nodes, sizeof nodes, edges, sizeof edges,
                                           alternatives, sizeof alternatives, elements, sizeof elements, links, sizeof links);
-    printf("a peristaltic pump that isn't a dosing pump: verdict %u\n", a.verdict);
+    size_t text = gumbyra_text_wanted(file, sizeof file, wanted, sizeof wanted); /* the text that belongs to this call */
+    printf("%.*s: a peristaltic pump that isn't a dosing pump: verdict %u\n", (int)text, (const char *)file, a.verdict);
     return whole.names != 7 || undecided.refusal != 0 || refused.refusal != GUMBYRA_TABLE_SHORT || a.verdict != GUMBYRA_CANNOT;
 }

@@ -1,6 +1,7 @@
-/* The fit engine: three calls on a rule file, one that tells which of its kinds are which, and one that makes a rule file of a draft.
-   Link with libgumbyra.a, and for gumbyra_fit_wanted and gumbyra_catalogue with libgumbyra_kinds.a; both are for x86-64 Linux only.
-   examples/eight_nodes.c, examples/enlarge.c, examples/draft.c, examples/fitted.c and examples/catalogue.c are whole programs.
+/* The fit engine: four calls on a rule file, one that tells which of its kinds are which, and one that makes a rule file of a draft.
+   Link with libgumbyra.a, and for gumbyra_fit_wanted, gumbyra_text_wanted and gumbyra_catalogue with libgumbyra_kinds.a; both are for
+   x86-64 Linux only. examples/eight_nodes.c, examples/enlarge.c, examples/draft.c, examples/fitted.c and examples/catalogue.c are whole
+   programs.
 
    In all calls a pointer may not be null, even with length 0. Nothing is kept after a call, and there is no state: threads may
    call at the same time, with areas of their own. For a call of this build a stack of 1 MiB suffices. */
@@ -52,7 +53,7 @@ enum { GUMBYRA_INCLUSION = 16 };
    11, 13, 14 or 15 every byte of nodes, edges and alternatives is zero, after 1 to 8 and 16 they are as they were. elements and
    links change with GUMBYRA_CAN only, in the first GUMBYRA_ELEMENT * answer.elements and GUMBYRA_LINK * answer.links bytes. An
    element lists a row of the file exactly if the row holds there in the example, whether a rule or the kit needs the row or not. A
-   link has the code that a row asked for; its pair belongs to every wider role too. */
+   link has the code that a row asked for; its pair belongs to every wider role too. The text of the file is that of gumbyra_text. */
 gumbyra_answer gumbyra_fit(const uint8_t *file, size_t file_len,
                            uint8_t *nodes, size_t nodes_len,
                            uint8_t *edges, size_t edges_len,
@@ -62,7 +63,8 @@ gumbyra_answer gumbyra_fit(const uint8_t *file, size_t file_len,
 
 /* The same with a list of wanted rows, a byte each, in place of the file's own wanted row, which is not looked at: can there be a member
    of all of them? The list may have any length, repeats, and no row at all: then any element is a member. 8 and 16 come if one of the
-   list is no row, or one of kind 7. It is only read; no area may overlap it. */
+   list is no row, or one of kind 7. It is only read; no area may overlap it. The text of the file is that of gumbyra_text_wanted with the
+   same list. */
 gumbyra_answer gumbyra_fit_wanted(const uint8_t *file, size_t file_len,
                                   const uint8_t *wanted, size_t wanted_len,
                                   uint8_t *nodes, size_t nodes_len,
@@ -71,35 +73,42 @@ gumbyra_answer gumbyra_fit_wanted(const uint8_t *file, size_t file_len,
                                   uint8_t *elements, size_t elements_len,
                                   uint8_t *links, size_t links_len);
 
-/* The most names of a catalogue, and the most bytes of its table: an area of so many suffices for gumbyra_catalogue. */
-enum { GUMBYRA_MOST_NAMES = 32, GUMBYRA_LARGEST_TABLE = 1024 };
+/* The most names of a catalogue (there are names 0 to 63, and each is listed once), and the most bytes of its table. So many are enough
+   for every table of this engine, and of one that takes more rows. */
+enum { GUMBYRA_MOST_NAMES = 64, GUMBYRA_LARGEST_TABLE = 4096 };
 
 /* The entries of a table: an a that isn't a b can exist, cannot, or the work areas did not suffice to decide it. */
 enum { GUMBYRA_NOT_ALWAYS = 0, GUMBYRA_ALWAYS = 1, GUMBYRA_UNDECIDED = 2 };
 
-/* The refusal of a catalogue whose table has more bytes than its area. It comes after all checks of the file. */
+/* The refusal of a catalogue whose table has more bytes than its area. It comes after all checks of the file, and never in an area of
+   GUMBYRA_LARGEST_TABLE bytes. */
 enum { GUMBYRA_TABLE_SHORT = 17 };
 
 typedef struct {
     uint32_t refusal; /* 0 if the table is filled; else 1 to 8, 16: the file; 17: the table's area is short */
-    uint32_t count;   /* how many names are listed, the table being the square of them; zero with 1 to 8 and 16 */
-    uint64_t names;   /* bit n is set if name n is listed; zero with 1 to 8 and 16 */
+    uint32_t count;   /* how many names are listed, the table being the square of them; zero with a refusal */
+    uint64_t names;   /* bit n is set if name n is listed; zero with a refusal */
 } gumbyra_page;
 
 /* Is every part with the one name a part with the other? Listed are the names that have both a kind 1 and a kind 2 row, rising. The first
    count * count bytes of table are filled, row after row: row a, column b is for the a-th and the b-th name listed, and is GUMBYRA_ALWAYS
-   if every a is a b. Each entry is by a run of its own in the same work areas. Of a name that nothing can have the whole row is so.
-   The file is checked as it stands, its own wanted row too. The areas may be of any length and hold anything; no two may overlap, nor one
-   the file. With a table every byte of nodes, edges and alternatives is zero afterwards, and bytes of table past it are as they were; after
-   a refusal all areas are. */
+   if every a is a b. Each entry is by a run of its own in the same work areas. Of a name that nothing can have each entry that is decided
+   is so. The file is checked as it stands, its own wanted row too, so its text is that of gumbyra_text. The areas may be of any length and
+   hold anything; no two may overlap, nor one the file. With a table every byte of nodes, edges and alternatives is zero afterwards, and
+   bytes of table past it are as they were; after a refusal all areas are. */
 gumbyra_page gumbyra_catalogue(const uint8_t *file, size_t file_len,
                                uint8_t *nodes, size_t nodes_len,
                                uint8_t *edges, size_t edges_len,
                                uint8_t *alternatives, size_t alternatives_len,
                                uint8_t *table, size_t table_len);
 
-/* How many leading bytes of a rule file are its text; 0 for a file that is refused with 1 to 8 or 16. */
+/* How many leading bytes of a rule file are its text; 0 for a file that is refused with 1 to 8 or 16. It is read with its own wanted row,
+   as gumbyra_fit and gumbyra_catalogue read it. */
 size_t gumbyra_text(const uint8_t *file, size_t file_len);
+
+/* The same if the file is read with this list of wanted rows in place of its own, as gumbyra_fit_wanted reads it; 0 if it is then refused
+   with 1 to 8 or 16. The list is only read. */
+size_t gumbyra_text_wanted(const uint8_t *file, size_t file_len, const uint8_t *wanted, size_t wanted_len);
 
 typedef struct {
     uint32_t refusal; /* 0 if a file was written; else 1 to 8, 16: the draft; 12: the result is too long for a file or for the area */

@@ -4,10 +4,12 @@ use crate::convention::Page;
 use crate::names::Names;
 use crate::refusal::Refusal;
 
-/// The most names of a catalogue: each has two of the 64 rows.
-pub const MOST_NAMES: usize = 32;
+/// The most names of a catalogue: there are names 0 to 63, and each is listed once. So many are enough for every table of this engine, and
+/// of one that takes more rows.
+pub const MOST_NAMES: usize = 64;
 
-/// The most entries of a table. An area of so many bytes suffices for every catalogue.
+/// The most entries of a table, a byte each. An area of so many bytes is enough for every table of this engine, and of one that takes more
+/// rows.
 pub const LARGEST_TABLE: usize = MOST_NAMES * MOST_NAMES;
 
 /// Is every part with the one name a part with the other? An entry of the table.
@@ -54,7 +56,8 @@ impl<'a> Catalogue<'a> {
 
     /// Is every `a` a `b`? `None` if one of them is no name that is listed.
     ///
-    /// Of a name that nothing can have each entry is [`IsA::Always`]: none of these parts isn't a `b`, since there are none.
+    /// Of a name that nothing can have each entry that is decided is [`IsA::Always`]: none of these parts isn't a `b`, since there are
+    /// none.
     pub fn is_a(&self, a: u8, b: u8) -> Option<IsA> {
         let (row, column) = (self.names.place(a)?, self.names.place(b)?);
         IsA::of_byte(self.table[row * self.names.len() + column])
@@ -62,17 +65,17 @@ impl<'a> Catalogue<'a> {
 }
 
 /// The catalogue that a page tells, or its refusal, with the table's area as it is after the call. `None` if it is no answer of the
-/// engine: refusals by a check give zeros elsewhere, and 17 how many names there are, whose square is larger than the area.
+/// engine: each refusal gives its number and zeros elsewhere, and 17 comes in no area of [`LARGEST_TABLE`] bytes.
 pub(crate) fn outcome<'a>(page: &Page, area: &'a [u8]) -> Option<Result<Catalogue<'a>, Refusal>> {
     let names = Names::of_bits(page.names);
-    if names.len() != page.count as usize || names.len() > MOST_NAMES {
+    if names.len() != page.count as usize {
         return None;
     }
-    let square = names.len() * names.len();
     if page.refusal != 0 {
-        return Refusal::of_page(page.refusal, names).filter(|_| names.is_empty() || square > area.len()).map(Err);
+        let may_come = |refusal: &Refusal| *refusal != Refusal::TableShort || area.len() < LARGEST_TABLE;
+        return Refusal::of_page(page.refusal).filter(|refusal| names.is_empty() && may_come(refusal)).map(Err);
     }
-    let table = area.get(..square)?;
+    let table = area.get(..names.len() * names.len())?;
     let is_table = table.iter().all(|&byte| IsA::of_byte(byte).is_some());
     is_table.then_some(Ok(Catalogue { names, table }))
 }
@@ -109,15 +112,16 @@ mod tests {
     fn every_page_has_its_outcome() {
         let Some(Ok(none)) = of_numbers(0, 0, 0, b"") else { panic!("a catalogue without names") };
         assert_eq!((none.names().len(), none.table(), none.is_a(0, 0)), (0, b"".as_slice(), None));
-        let Some(Ok(all)) = of_numbers(0, 32, u64::MAX << 32, &[1; LARGEST_TABLE]) else { panic!("a catalogue") };
-        assert_eq!(all.names().iter().collect::<Vec<_>>(), (32..64).collect::<Vec<_>>());
-        for number in [1, 2, 3, 4, 5, 6, 7, 8, 16] {
+        let Some(Ok(half)) = of_numbers(0, 32, u64::MAX << 32, &[1; 32 * 32]) else { panic!("a catalogue") };
+        assert_eq!(half.names().iter().collect::<Vec<_>>(), (32..64).collect::<Vec<_>>());
+        let Some(Ok(all)) = of_numbers(0, 64, u64::MAX, &[1; LARGEST_TABLE]) else { panic!("a catalogue") };
+        assert_eq!((all.names().len(), all.is_a(63, 63)), (MOST_NAMES, Some(IsA::Always)));
+        for number in [1, 2, 3, 4, 5, 6, 7, 8, 16, 17] {
             let refusal = of_numbers(number, 0, 0, &AREA).expect("an answer").expect_err("a refusal");
             assert_eq!(u32::from(refusal.number()), number);
         }
-        for (count, names, area) in [(3, NAMES, &AREA[..8]), (1, 1, b""), (32, u64::MAX >> 32, &[0; 1023])] {
-            let short = Refusal::TableShort { names: Names::of_bits(names) };
-            assert_eq!(of_numbers(17, count, names, area), Some(Err(short)));
+        for area in [&AREA[..8], b"", &[0; LARGEST_TABLE - 1]] {
+            assert_eq!(of_numbers(17, 0, 0, area), Some(Err(Refusal::TableShort)));
         }
     }
 
@@ -126,18 +130,19 @@ mod tests {
         for refusal in [0, 1, 8, 16, 17] {
             assert_eq!(of_numbers(refusal, 2, NAMES, &AREA), None, "{refusal}: fewer than the names");
             assert_eq!(of_numbers(refusal, 4, NAMES, &AREA), None, "{refusal}: more than the names");
-            assert_eq!(of_numbers(refusal, 33, u64::MAX >> 31, &[0; 2000]), None, "{refusal}: more than there can be");
+            assert_eq!(of_numbers(refusal, 65, u64::MAX, &[0; 65 * 65]), None, "{refusal}: more than there can be");
             assert_eq!(of_numbers(refusal, u32::MAX, NAMES, &AREA), None, "{refusal}");
         }
-        for refusal in [1, 8, 16] {
-            assert_eq!(of_numbers(refusal, 3, NAMES, &AREA[..8]), None, "{refusal}: a check gives no names");
+        for refusal in [1, 8, 16, 17] {
+            assert_eq!(of_numbers(refusal, 3, NAMES, &AREA[..8]), None, "{refusal}: zeros elsewhere");
+            assert_eq!(of_numbers(refusal, 3, 0, &AREA[..8]), None, "{refusal}: zeros elsewhere");
+            assert_eq!(of_numbers(refusal, 0, NAMES, &AREA[..8]), None, "{refusal}: zeros elsewhere");
         }
         for refusal in [9, 10, 11, 12, 13, 14, 15, 18, u32::MAX] {
             assert_eq!(of_numbers(refusal, 0, 0, &AREA), None, "{refusal}: of a run, of a conversion, or none");
             assert_eq!(of_numbers(refusal, 3, NAMES, &AREA[..8]), None, "{refusal}");
         }
-        assert_eq!(of_numbers(17, 0, 0, b""), None, "the table of no names has no bytes");
-        assert_eq!(of_numbers(17, 3, NAMES, &AREA[..9]), None, "an area that is long enough");
+        assert_eq!(of_numbers(17, 0, 0, &[0; LARGEST_TABLE]), None, "an area that is long enough");
         assert_eq!(of_numbers(0, 3, NAMES, &AREA[..8]), None, "longer than the area");
         assert_eq!(of_numbers(0, 3, NAMES, &[1, 1, 1, 1, 1, 1, 1, 1, 3]), None, "3 is no entry");
     }

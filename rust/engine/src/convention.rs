@@ -81,6 +81,8 @@ extern "C" {
 
     fn gumbyra_text(file: *const u8, file_len: usize) -> usize;
 
+    fn gumbyra_text_wanted(file: *const u8, file_len: usize, wanted: *const u8, wanted_len: usize) -> usize;
+
     fn gumbyra_convert(draft: *const u8, draft_len: usize, area: *mut u8, area_len: usize) -> Conversion;
 }
 
@@ -153,6 +155,12 @@ pub fn catalogue(file: &[u8], work: WorkAreas, table: &mut [u8]) -> Page {
 pub fn text_len(file: &[u8]) -> usize {
     // SAFETY: the pointer comes with the length of its slice, which the engine only reads, and only during the call.
     unsafe { gumbyra_text(file.as_ptr(), file.len()) }
+}
+
+/// The same with these wanted rows in place of its own.
+pub fn text_wanted_len(file: &[u8], wanted: &[u8]) -> usize {
+    // SAFETY: each pointer comes with the length of its slice, which the engine only reads, and only during the call.
+    unsafe { gumbyra_text_wanted(file.as_ptr(), file.len(), wanted.as_ptr(), wanted.len()) }
 }
 
 /// Converts a draft.

@@ -14,10 +14,11 @@
 //! }
 //! ```
 //!
-//! In order: the calls ([`fit`](fit()), [`fit_wanted`], [`catalogue`](catalogue()), [`text`] and [`convert`], which makes a rule file of
-//! a draft with "not" and "if"), the space that they work in ([`space`]), what comes back ([`verdict`], [`refusal`], [`example`],
-//! [`row_set`], [`catalogue`](mod@catalogue), [`names`], [`conversion`]), the C convention. The engine, the catalogue and the converter are
-//! proved; this crate only hands slices over and reads the numbers and bytes that come back. But for [`Space`] it allocates nothing.
+//! In order: the calls ([`fit`](fit()), [`fit_wanted`], [`catalogue`](catalogue()), [`text`], [`text_wanted`] and [`convert`], which makes
+//! a rule file of a draft with "not" and "if"), the space that they work in ([`space`]), what comes back ([`verdict`], [`refusal`],
+//! [`example`], [`row_set`], [`catalogue`](mod@catalogue), [`names`], [`conversion`]), the C convention. The engine, the catalogue and the
+//! converter are proved; this crate only hands slices over and reads the numbers and bytes that come back. But for [`Space`] it allocates
+//! nothing.
 //!
 //! The archive is for x86-64 Linux only. For a call of this build a stack of 1 MiB suffices; a thread of Rust has 2 by default.
 
@@ -42,7 +43,7 @@ pub use space::{Areas, Sizes, Space, WorkAreas, ALTERNATIVE_BYTES, EDGE_BYTES, M
 pub use verdict::{Used, Verdict};
 
 /// Decides a rule file in lent areas. [`Space`] has areas of its own. With "can" each element of the example lists the rows that hold
-/// there, all of them and no other.
+/// there, all of them and no other. The text of the file, as this call reads it, is [`text`].
 ///
 /// ```
 /// use gumbyra::{fit, Areas, Link, Verdict, ALTERNATIVE_BYTES, EDGE_BYTES, NODE_BYTES};
@@ -108,7 +109,8 @@ pub fn fit<'a>(file: &[u8], mut areas: Areas<'a>) -> Result<Verdict<'a>, Refusal
 /// this with the file's one row.
 ///
 /// The list may have any length, repeats, and no row at all: then any element is a member. The file's own wanted row is not looked at, and
-/// refusals 8 and 16 come if one of the list is no row, or one of kind 7.
+/// refusals 8 and 16 come if one of the list is no row, or one of kind 7. The text of the file, as this call reads it, is [`text_wanted`]
+/// with the same list.
 ///
 /// ```
 /// use gumbyra::{Refusal, Space, Verdict};
@@ -139,8 +141,9 @@ pub fn fit_wanted<'a>(file: &[u8], wanted: &[u8], mut areas: Areas<'a>) -> Resul
 /// Which kinds of part are which: fills a square table of the names of a rule file that have both a kind 1 and a kind 2 row, in order of
 /// name. Row a, column b says whether every a is a b, each entry by a run of its own in the same work areas.
 ///
-/// The file is checked as it stands, its own wanted row too, but that has no say in the table. After a catalogue the bytes of the table's
-/// area past the table are as they were; after a refusal all areas are. [`LARGEST_TABLE`] bytes suffice for every table.
+/// The file is checked as it stands, its own wanted row too, but that has no say in the table; so its text is [`text`]. After a catalogue
+/// the bytes of the table's area past the table are as they were; after a refusal all areas are. [`LARGEST_TABLE`] bytes suffice for every
+/// table.
 ///
 /// ```
 /// use gumbyra::{catalogue, IsA, Refusal, WorkAreas, ALTERNATIVE_BYTES, EDGE_BYTES, NODE_BYTES};
@@ -165,8 +168,7 @@ pub fn fit_wanted<'a>(file: &[u8], wanted: &[u8], mut areas: Areas<'a>) -> Resul
 /// let work = WorkAreas { nodes: &mut [], edges: &mut edges, alternatives: &mut alternatives };
 /// assert_eq!(catalogue(&file, work, &mut table)?.is_a(5, 5), Some(IsA::Undecided));
 /// let work = WorkAreas { nodes: &mut nodes, edges: &mut edges, alternatives: &mut alternatives };
-/// let Err(Refusal::TableShort { names }) = catalogue(&file, work, &mut table[..8]) else { panic!("a short area") };
-/// assert_eq!(names.len(), 3);
+/// assert_eq!(catalogue(&file, work, &mut table[..8]), Err(Refusal::TableShort));
 /// # Ok::<(), Refusal>(())
 /// ```
 ///
@@ -180,6 +182,9 @@ pub fn catalogue<'a>(file: &[u8], work: WorkAreas, table: &'a mut [u8]) -> Resul
 /// The text of a rule file: the part of the file before its rows, uncopied. Of a file that a file check refuses (1 to 8 and 16) it is
 /// the empty part at the file's start.
 ///
+/// The file is read with its own wanted row, as [`fit`](fit()) and [`catalogue`](catalogue()) read it; for [`fit_wanted`] there is
+/// [`text_wanted`].
+///
 /// ```
 /// let mut file = *b"valve\x01\0\0\0\x05\0\x01\0\0FIT";
 /// assert_eq!(gumbyra::text(&file), b"valve");
@@ -191,6 +196,28 @@ pub fn catalogue<'a>(file: &[u8], work: WorkAreas, table: &'a mut [u8]) -> Resul
 /// ```
 pub fn text(file: &[u8]) -> &[u8] {
     &file[..convention::text_len(file)]
+}
+
+/// The text of a rule file that is read with a list of wanted rows in place of its own, as [`fit_wanted`] reads it. Of a file that is then
+/// refused with 1 to 8 or 16 it is the empty part at the file's start. [`text`] is this with the file's one row.
+///
+/// ```
+/// use gumbyra::{text, text_wanted, Refusal, Space, Verdict};
+///
+/// // One row. The file's own wanted row is 9, which is no row; the list has a row in its place.
+/// let mut file = *b"abc\x01\0\0\0\x03\0\x01\0\x09FIT";
+/// let mut space = Space::usual();
+/// assert!(matches!(space.fit_wanted(&file, &[0]), Ok(Verdict::Can { .. })));
+/// assert_eq!((text_wanted(&file, &[0]), text(&file)), (b"abc".as_slice(), b"".as_slice()));
+/// assert_eq!(text_wanted(&file, &[0]).as_ptr(), file.as_ptr());
+///
+/// // The file's own wanted row is row 0, and the list has none.
+/// file[11] = 0;
+/// assert_eq!(space.fit_wanted(&file, &[7]), Err(Refusal::NoSuchRow));
+/// assert_eq!((text_wanted(&file, &[7]), text(&file)), (b"".as_slice(), b"abc".as_slice()));
+/// ```
+pub fn text_wanted<'a>(file: &'a [u8], wanted: &[u8]) -> &'a [u8] {
+    &file[..convention::text_wanted_len(file, wanted)]
 }
 
 /// Converts a draft, a rule file with two more kinds of row: 8, not the left row, and 9, if left then right. Gives the part of

@@ -1,7 +1,5 @@
 //! Refusals: their numbers and their sentences (document 01, "Refusals, in checking order"; document 02, [1], [4], [6] and [7]).
 
-use crate::catalogue::MOST_NAMES;
-use crate::names::Names;
 use crate::space::MOST_RECORDS;
 use std::fmt;
 
@@ -45,7 +43,7 @@ pub enum Refusal {
     Inclusion,
     /// 17: the area for the table of a catalogue is shorter than the square of how many names are listed. It comes after all checks of the
     /// file. [`LARGEST_TABLE`](crate::LARGEST_TABLE) bytes suffice for every table.
-    TableShort { names: Names },
+    TableShort,
 }
 
 /// The refusals by a check of the file or the draft, in checking order.
@@ -83,12 +81,11 @@ impl Refusal {
         }
     }
 
-    /// The refusal of a catalogue page with this number and these names; `None` if the engine never gives these.
-    pub(crate) fn of_page(number: u32, names: Names) -> Option<Refusal> {
-        match (number, names.len()) {
-            (17, 1..=MOST_NAMES) => Some(Refusal::TableShort { names }),
-            (_, 0) => Refusal::of_check(number),
-            _ => None,
+    /// The refusal of a catalogue page with this number; `None` if the engine never gives it.
+    pub(crate) fn of_page(number: u32) -> Option<Refusal> {
+        match number {
+            17 => Some(Refusal::TableShort),
+            _ => Refusal::of_check(number),
         }
     }
 
@@ -129,12 +126,12 @@ impl Refusal {
             Refusal::EdgesShort { .. } => (14, "The procedure's next edge has no place in its area."),
             Refusal::AlternativesShort { .. } => (15, "The procedure's next alternative has no place in its area."),
             Refusal::Inclusion => (16, "A row of kind 7 serves as an argument, a rule or the wanted row."),
-            Refusal::TableShort { .. } => (17, "The table's area is shorter than the square of its names."),
+            Refusal::TableShort => (17, "The table's area is shorter than the square of its names."),
         }
     }
 }
 
-/// The number and the sentence, the counts of 11 and the count of 13, 14, 15 and 17.
+/// The number and the sentence, the counts of 11 and the count of 13, 14 and 15.
 impl fmt::Display for Refusal {
     fn fmt(&self, f: &mut fmt::Formatter) -> fmt::Result {
         let (number, sentence) = self.entry();
@@ -144,7 +141,6 @@ impl fmt::Display for Refusal {
             Refusal::NodesShort { lent } => write!(f, " Nodes lent: {lent}."),
             Refusal::EdgesShort { lent } => write!(f, " Edges lent: {lent}."),
             Refusal::AlternativesShort { lent } => write!(f, " Alternatives lent: {lent}."),
-            Refusal::TableShort { names } => write!(f, " Names: {}.", names.len()),
             _ => Ok(()),
         }
     }
@@ -163,27 +159,19 @@ mod tests {
         for check in CHECKS {
             assert_eq!(Refusal::of_run(check.number().into(), [0, 0], 0), Some(check));
             assert_eq!(Refusal::of_conversion(check.number().into()), Some(check));
-            assert_eq!(Refusal::of_page(check.number().into(), names(0)), Some(check));
+            assert_eq!(Refusal::of_page(check.number().into()), Some(check));
         }
         let too_long = Refusal::ExampleTooLong { elements: 2, links: 1 };
         assert_eq!(Refusal::of_run(11, [2, 1], 0), Some(too_long));
         assert_eq!(Refusal::of_conversion(12), Some(Refusal::ResultTooLong));
-        assert_eq!([too_long, Refusal::ResultTooLong].map(|r| r.number()), [11, 12]);
+        assert_eq!(Refusal::of_page(17), Some(Refusal::TableShort));
+        assert_eq!([too_long, Refusal::ResultTooLong, Refusal::TableShort].map(|r| r.number()), [11, 12, 17]);
         for lent in [0, 7, MOST_RECORDS] {
             for (number, short) in (13..).zip(short(lent)) {
                 assert_eq!(Refusal::of_run(number, [0, 0], lent), Some(short));
                 assert_eq!(u32::from(short.number()), number);
             }
         }
-        for names in [1, 7, MOST_NAMES].map(names) {
-            assert_eq!(Refusal::of_page(17, names), Some(Refusal::TableShort { names }));
-            assert_eq!(Refusal::TableShort { names }.number(), 17);
-        }
-    }
-
-    /// So many names.
-    fn names(count: usize) -> Names {
-        Names::of_bits((1 << count) - 1)
     }
 
     /// Refusals 13, 14 and 15.
@@ -208,30 +196,25 @@ mod tests {
             }
         }
         assert!([0, 9, 10, 11, 13, 14, 15, 17].into_iter().all(|number| Refusal::of_conversion(number).is_none()));
-        for number in [0, 9, 10, 11, 12, 13, 14, 15, 18] {
-            assert_eq!([0, 1, 7].map(|count| Refusal::of_page(number, names(count))), [None; 3], "{number}");
-        }
-        for (number, count) in [(1, 1), (8, 7), (16, 1), (17, 0), (17, MOST_NAMES + 1)] {
-            assert_eq!(Refusal::of_page(number, names(count)), None, "{number} {count}");
-        }
+        assert!([0, 9, 10, 11, 12, 13, 14, 15, 18].into_iter().all(|number| Refusal::of_page(number).is_none()));
     }
 
-    /// For translators: samples/README.md has each number with its sentence, rising, and no other.
+    /// For callers and translators: docs/USE.md has each number with its sentence, rising, and no other.
     #[test]
     fn the_list_of_messages_is_complete() {
-        let path = concat!(env!("CARGO_MANIFEST_DIR"), "/../../samples/README.md");
-        let readme = std::fs::read_to_string(path).expect("samples/README.md");
-        let (_, list) = readme.split_once("| number | sentence |\n|---|---|\n").expect("the list of messages");
-        let listed: Vec<&str> = list.lines().take_while(|line| line.starts_with('|')).collect();
-        let others = [
-            Refusal::ExampleTooLong { elements: 0, links: 0 },
-            Refusal::ResultTooLong,
-            Refusal::TableShort { names: names(0) },
-        ];
+        let path = concat!(env!("CARGO_MANIFEST_DIR"), "/../../docs/USE.md");
+        let document = std::fs::read_to_string(path).expect("docs/USE.md");
+        let head = "| number | sentence | what to do |\n|---|---|---|\n";
+        let (_, table) = document.split_once(head).expect("the table of refusals");
+        let listed: Vec<&str> = table.lines().take_while(|line| line.starts_with('|')).collect();
+        let others = [Refusal::ExampleTooLong { elements: 0, links: 0 }, Refusal::ResultTooLong, Refusal::TableShort];
         let mut all = [CHECKS.as_slice(), &others, &short(0)].concat();
         all.sort_by_key(Refusal::number);
-        let lines: Vec<String> = all.iter().map(|r| format!("| {} | {} |", r.number(), r.sentence())).collect();
-        assert_eq!(listed, lines);
+        let starts: Vec<String> = all.iter().map(|r| format!("| {} | {} | ", r.number(), r.sentence())).collect();
+        assert_eq!(listed.len(), starts.len(), "{listed:#?}");
+        for (line, start) in listed.iter().zip(&starts) {
+            assert!(line.starts_with(start) && line.ends_with(" |"), "{line} does not begin with {start}");
+        }
     }
 
     #[test]
@@ -248,7 +231,7 @@ mod tests {
             edges.starts_with("refusal 14: ") && edges.ends_with("next edge has no place in its area. Edges lent: 7.")
         );
         assert!(alternatives.ends_with("next alternative has no place in its area. Alternatives lent: 7."));
-        let table = "refusal 17: The table's area is shorter than the square of its names. Names: 7.";
-        assert_eq!(Refusal::TableShort { names: names(7) }.to_string(), table);
+        let table = "refusal 17: The table's area is shorter than the square of its names.";
+        assert_eq!(Refusal::TableShort.to_string(), table);
     }
 }

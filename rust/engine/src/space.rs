@@ -142,13 +142,16 @@ impl Space {
     }
 
     /// A space of these sizes.
+    ///
+    /// # Panics
+    /// If so many records have more bytes than a machine has.
     pub fn with(sizes: Sizes) -> Space {
         Space {
-            nodes: vec![0; sizes.nodes * NODE_BYTES],
-            edges: vec![0; sizes.edges * EDGE_BYTES],
-            alternatives: vec![0; sizes.alternatives * ALTERNATIVE_BYTES],
-            elements: vec![0; sizes.elements * ELEMENT_BYTES],
-            links: vec![0; sizes.links * LINK_BYTES],
+            nodes: area(sizes.nodes, NODE_BYTES),
+            edges: area(sizes.edges, EDGE_BYTES),
+            alternatives: area(sizes.alternatives, ALTERNATIVE_BYTES),
+            elements: area(sizes.elements, ELEMENT_BYTES),
+            links: area(sizes.links, LINK_BYTES),
         }
     }
 
@@ -166,16 +169,15 @@ impl Space {
     /// page is made of it, and it is kept beside the rule file.
     ///
     /// ```
-    /// use gumbyra::{IsA, Refusal, Space};
+    /// use gumbyra::{IsA, Refusal, Space, LARGEST_TABLE};
     /// # // Names 0 and 1, each with its opposite; either not 1 or 0, a rule.
     /// # let rows = [[1, 0, 0, 0], [2, 0, 0, 0], [1, 0, 1, 0], [2, 0, 1, 0], [4, 0, 3, 0]];
     /// # let file = [rows.as_flattened(), &[4], &[0, 0, 5, 1, 2], b"FIT"].concat();
     ///
-    /// // An area of no bytes tells which names there are.
-    /// let mut space = Space::usual();
-    /// let Err(Refusal::TableShort { names }) = space.catalogue(&file, &mut []) else { panic!("there are names") };
-    /// let mut table = vec![0; names.len() * names.len()];
-    /// let page = space.catalogue(&file, &mut table)?;
+    /// // An area in which every table has room.
+    /// let mut area = [0; LARGEST_TABLE];
+    /// let page = Space::usual().catalogue(&file, &mut area)?;
+    /// let names = page.names();
     /// for (a, b) in names.iter().flat_map(|a| names.iter().map(move |b| (a, b))) {
     ///     if a != b && page.is_a(a, b) == Some(IsA::Always) {
     ///         println!("every {a} is a {b}");
@@ -193,5 +195,22 @@ impl Space {
     fn areas(&mut self) -> Areas<'_> {
         let Space { nodes, edges, alternatives, elements, links } = self;
         Areas { nodes, edges, alternatives, elements, links }
+    }
+}
+
+/// An area of so many records of this size.
+fn area(records: usize, bytes: usize) -> Vec<u8> {
+    vec![0; records.checked_mul(bytes).expect("so many records have more bytes than a machine has")]
+}
+
+#[cfg(test)]
+mod tests {
+    use super::*;
+
+    /// Nodes whose bytes, counted in a machine word, would be none.
+    #[test]
+    #[should_panic(expected = "so many records have more bytes than a machine has")]
+    fn a_space_larger_than_a_machine_is_none() {
+        Space::with(Sizes { nodes: 1 << 58, ..Sizes::USUAL });
     }
 }

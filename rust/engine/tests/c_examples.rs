@@ -39,9 +39,10 @@ row 7 wanted: verdict 2, refusal 0
 row 0 wanted: verdict 0, refusal 16
 ";
 
-/// With six nodes what needs a hose, and what need not be a dosing pump, is mostly undecided; eight bytes are no room for three names.
+/// With six nodes what needs a hose, and what need not be a dosing pump, is mostly undecided; eight bytes are no room for three names, and
+/// a refusal tells of none.
 const CATALOGUE: &str = "\
-64 nodes, 1024 bytes: refusal 0, 3 names
+64 nodes, 4096 bytes: refusal 0, 3 names
 dosing pump      yes   -   -
 peristaltic pump yes yes   -
 hose               -   - yes
@@ -49,8 +50,8 @@ hose               -   - yes
 dosing pump      yes   -   -
 peristaltic pump   ? yes   ?
 hose               ?   - yes
-64 nodes, 8 bytes: refusal 17, 3 names
-a peristaltic pump that isn't a dosing pump: verdict 2
+64 nodes, 8 bytes: refusal 17, 0 names
+pumps: a peristaltic pump that isn't a dosing pump: verdict 2
 ";
 
 /// What an example prints.

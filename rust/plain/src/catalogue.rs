@@ -11,16 +11,14 @@ pub const CAN: u8 = 0;
 pub const CANNOT: u8 = 1;
 pub const UNDECIDED: u8 = 2;
 
-/// The refusal of a table that is larger than its area.
+/// The refusal of a table that is larger than its area. It comes after the file checks.
 pub const TABLE_SHORT: u8 = 17;
 
 /// What becomes of a file's catalogue page.
 #[derive(Clone, Debug, PartialEq, Eq)]
 pub enum Page {
-    /// A file check refuses the file: 1 to 8 or 16.
+    /// A file check refuses the file, 1 to 8 or 16, or the table is larger than its area, 17. No refusal tells more than its number.
     Refused(u8),
-    /// Refusal 17: the table of these names is larger than its area.
-    Short { names: Vec<u8> },
     /// The names, rising, and their square table, row after row.
     Filled { names: Vec<u8>, table: Vec<u8> },
 }
@@ -34,7 +32,7 @@ pub fn catalogue(file: &[u8], area: usize, lent: &Lent) -> Page {
     let listed = listed(&file.concepts);
     let names: Vec<u8> = listed.iter().map(|kind| kind.name).collect();
     if names.len() * names.len() > area {
-        return Page::Short { names };
+        return Page::Refused(TABLE_SHORT);
     }
     let mut table = Vec::new();
     for a in &listed {

@@ -29,4 +29,4 @@ pub use evaluate::evaluate;
 pub use graph::Area;
 pub use hierarchy::RoleHierarchy;
 pub use row_set::RowSet;
-pub use rulefile::{text, Draft, RuleFile};
+pub use rulefile::{text, text_wanting, Draft, RuleFile};

@@ -60,6 +60,12 @@ pub fn text(file: &[u8]) -> &[u8] {
     RuleFile::read(file).map_or(&file[..0], |read| read.text)
 }
 
+/// The text of a file that is read with these wanted rows in place of its own; of one that is then refused the empty part at its start.
+pub fn text_wanting<'a>(file: &'a [u8], wanted: &[u8]) -> &'a [u8] {
+    let length = RuleFile::read_wanting(file, wanted).map_or(0, |read| read.text.len());
+    &file[..length]
+}
+
 /// The bytes of a rule file: text, rows, rule list, trailer.
 pub fn encode(text: &[u8], rows: &[Row], rules: &[u8], wanted: u8) -> Vec<u8> {
     let count = |n: usize| u8::try_from(n).expect("a count of one byte");

@@ -43,7 +43,6 @@ impl Cataloguer {
                 assert!(catalogue.table().as_ptr() == start, "the table is not at the start of the area");
                 Page::Filled { names: catalogue.names().iter().collect(), table: catalogue.table().to_vec() }
             }
-            Err(Refusal::TableShort { names }) => Page::Short { names: names.iter().collect() },
             Err(refusal) => Page::Refused(refusal.number()),
         };
         catch_unwind(AssertUnwindSafe(run)).map_err(reason)
@@ -53,7 +52,7 @@ impl Cataloguer {
     /// as they were, and after a refusal all areas are.
     pub fn broken(&self, page: &Page) -> Option<String> {
         let fates = match page {
-            Page::Refused(_) | Page::Short { .. } => [Fate::Kept, Fate::Kept, Fate::Kept, Fate::Kept],
+            Page::Refused(_) => [Fate::Kept, Fate::Kept, Fate::Kept, Fate::Kept],
             Page::Filled { table, .. } => [Fate::Zero, Fate::Zero, Fate::Zero, Fate::Begins(table.clone())],
         };
         let mut areas = NAMES.iter().zip(&self.areas).zip(fates);

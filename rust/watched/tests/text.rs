@@ -1,9 +1,13 @@
-//! The text of a file from the engine: that part of the file which the plain program says, uncopied.
+//! The text of a file from the engine: that part of the file which the plain program says, uncopied. Of a file with its own wanted row,
+//! then of one with a list of wanted rows in its place.
 
+use compare::cases::wanted_cases;
 use compare::files::{encode, Row};
 use compare::inclusions::with_inclusions;
+use compare::tally::{cases_of_checks, Tally};
+use compare::wanted_lists::random_question;
 use compare::{cases, damage, random_bytes, random_file, Prng, Shape};
-use gumbyra::text;
+use gumbyra::{text, text_wanted};
 use plain::RuleFile;
 
 const SHAPE: Shape = Shape { names: 2, roles: 2, compound: 12, rules: 4, text: 40 };
@@ -77,4 +81,53 @@ fn of_every_length() {
         check(&file, &mut kinds);
     }
     assert_eq!((kinds[0], kinds[1], kinds[NO_TEXT]), (LONGEST_TEXT, 1, 1));
+}
+
+/// The text of a file with a list of wanted rows, and with a list of its own one.
+fn check_wanted(file: &[u8], list: &[u8], tallies: &mut [Tally; 2]) {
+    let check = |text: &[u8], expected: &[u8]| {
+        assert_eq!((text.as_ptr(), text.len()), (expected.as_ptr(), expected.len()), "{file:02x?} wanting {list:?}");
+    };
+    check(text_wanted(file, list), plain::text_wanting(file, list));
+    let own: Vec<u8> = file.iter().rev().nth(3).into_iter().copied().collect();
+    check(text_wanted(file, &own), text(file));
+    let read = RuleFile::read_wanting(file, list);
+    tallies[0].add(cases_of_list(file, list, read.is_ok()));
+    tallies[1].add(cases_of_checks(|number| read == Err(number)));
+}
+
+/// What the list has to do with the text.
+fn cases_of_list(file: &[u8], list: &[u8], is_list_good: bool) -> Vec<(&'static str, bool)> {
+    let is_own_good = RuleFile::read(file).is_ok();
+    let has_text = !text(file).is_empty() || !text_wanted(file, list).is_empty();
+    vec![
+        ("a text by the list, and none by the file's own row", has_text && is_list_good && !is_own_good),
+        ("none by the list, and a text by the file's own row", has_text && !is_list_good && is_own_good),
+        ("the same text by both", has_text && is_list_good && is_own_good),
+        ("a text of no bytes by both", !has_text && is_list_good && is_own_good),
+        ("refused by both", !is_list_good && !is_own_good),
+        ("a text, no row being wanted", has_text && is_list_good && list.is_empty()),
+        ("a text, several being wanted", has_text && is_list_good && list.len() > 1),
+    ]
+}
+
+#[test]
+fn of_every_case_with_wanted_rows() {
+    let mut tallies = Default::default();
+    wanted_cases().iter().for_each(|(case, _, _)| check_wanted(&case.file, &case.rows, &mut tallies));
+    // The rarest come with two of the files.
+    tallies.iter().for_each(|tally| tally.assert_often("vectors with wanted rows", 2));
+}
+
+#[test]
+fn of_random_files_with_random_lists() {
+    let mut prng = Prng::new(34);
+    let mut tallies = Default::default();
+    for _ in 0..60_000 {
+        let (file, list) = random_question(&mut prng, SHAPE);
+        check_wanted(&file, &list, &mut tallies);
+    }
+    let [lists, checks] = tallies;
+    lists.assert_often("files with lists", 1000);
+    checks.assert_often("files with lists", 50);
 }
