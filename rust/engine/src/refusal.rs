@@ -204,16 +204,16 @@ mod tests {
     fn the_list_of_messages_is_complete() {
         let path = concat!(env!("CARGO_MANIFEST_DIR"), "/../../docs/USE.md");
         let document = std::fs::read_to_string(path).expect("docs/USE.md");
-        let head = "| number | sentence | what to do |\n|---|---|---|\n";
-        let (_, table) = document.split_once(head).expect("the table of refusals");
-        let listed: Vec<&str> = table.lines().take_while(|line| line.starts_with('|')).collect();
+        let (_, list) = document.split_once("## Refusals\n").expect("the list of refusals");
+        // An item is `- **5** SENTENCE *What to do.*`, and may go on in further lines.
+        let items: Vec<String> = list.split("\n- **").skip(1).map(|item| item.replace("\n  ", " ")).collect();
         let others = [Refusal::ExampleTooLong { elements: 0, links: 0 }, Refusal::ResultTooLong, Refusal::TableShort];
         let mut all = [CHECKS.as_slice(), &others, &short(0)].concat();
         all.sort_by_key(Refusal::number);
-        let starts: Vec<String> = all.iter().map(|r| format!("| {} | {} | ", r.number(), r.sentence())).collect();
-        assert_eq!(listed.len(), starts.len(), "{listed:#?}");
-        for (line, start) in listed.iter().zip(&starts) {
-            assert!(line.starts_with(start) && line.ends_with(" |"), "{line} does not begin with {start}");
+        assert_eq!(items.len(), all.len(), "{items:#?}");
+        for (item, refusal) in items.iter().zip(&all) {
+            let start = format!("{}** {} *", refusal.number(), refusal.sentence());
+            assert!(item.starts_with(&start), "{item} does not begin with {start}");
         }
     }
 
