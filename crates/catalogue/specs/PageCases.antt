@@ -31,7 +31,8 @@ use Rattle.problem.specs.Decoded.{tableOf}
 use Rattle.problem.specs.FileProblem.{FileDecoded}
 use Rattle.subsumption.specs.Names.{positive, negative, names, rowAfterRow}
 use Rattle.subsumption.specs.NameLaws.{rowAfterRow-same}
-use Rattle.subsumption.specs.Catalogue.{Areas, areasOf, lent, entryOf, entry, Catalogue, refusedWith, listed, listedIn, catalogue, Numbers, refusalAlone, numbers, areasAfter}
+use Rattle.subsumption.specs.Catalogue.{Areas, areasOf, lent, entryOf, entry, Catalogue, refusedWith, listed, listedIn, catalogue}
+use Rattle.subsumption.specs.Catalogue.{Numbers, refusalAlone, numbers, areasAfter}
 use Rattle.subsumption.specs.Promise.{Promise}
 use Rattle.subsumption.proofs.Entry.{rowsFor, reads-rows}
 use Rattle.subsumption.proofs.Kept.{entriesOf, catalogue-refused, catalogue-accepted, promise-kept}
@@ -116,12 +117,12 @@ module _ {b : Bytes} {l : Layout} (L : Laid ruleKinds b l) {ws : List ℕ} (F : 
       room = lent before
 
       -- the answer, by whether the area is shorter than the square
-      answer-by : (x : Bool) → ltb (length (before .table)) (length (names t) * length (names t)) ≡ x
-          → catalogue b room (length (before .table)) ≡ elim x as (λ _. Catalogue) [ true ↦ refusedWith 17 | false ↦ listed (names t) (entriesOf b room (L .file)) ]
+      abbrev answerIf : Bool → Catalogue
+      answerIf short = elim short [ true ↦ refusedWith 17 | false ↦ listed (names t) (entriesOf b room (L .file)) ]
+
+      answer-by : (x : Bool) → ltb (length (before .table)) (length (names t) * length (names t)) ≡ x → catalogue b room (length (before .table)) ≡ answerIf x
       unfolding listedIn
-      answer-by x e =
-          catalogue-accepted b room (length (before .table)) (L .file) (L .reads)
-          ∙ ap (λ (y : Bool). elim y as (λ _. Catalogue) [ true ↦ refusedWith 17 | false ↦ listed (names t) (entriesOf b room (L .file)) ]) e
+      answer-by x e = catalogue-accepted b room (length (before .table)) (L .file) (L .reads) ∙ ap answerIf e
 
       square : length (names t) * length (names t) ≡ k .count * k .count
       square = ap (λ (n : ℕ). n * n) (sym (count-is))

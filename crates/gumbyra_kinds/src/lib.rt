@@ -1,7 +1,8 @@
 // The calls of the archive `libgumbyra_kinds.a`, through the C convention: what each promises is what the function that it calls promises.
 //
 // In order: the engine's call with several wanted rows; the text of a file that is read with them; the catalogue's call.
-// They are no calls of `gumbyra`, since what calls of one archive share is not inlined into each, and the order program's call would be slower (docs/DECISIONS.md, D74).
+// They are no calls of `gumbyra`, since what calls of one archive share is not inlined into each, and the order program's call would be
+// slower (docs/DECISIONS.md, D74).
 ghost use mathlib.Core.Path.{_≡_};
 ghost use lib.ListN.{length, take};
 ghost use Rattle.decoding.specs.Decoding.{ruleKinds};

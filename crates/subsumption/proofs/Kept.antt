@@ -20,7 +20,8 @@ use Rattle.rulefile.specs.CheckLaws.{refused-number}
 use Rattle.run.specs.Run.{Lengths}
 use Rattle.subsumption.specs.Names.{names, rowAfterRow}
 use Rattle.subsumption.specs.NameLaws.{length-rowAfterRow, getD-rowAfterRow}
-use Rattle.subsumption.specs.Catalogue.{Areas, lent, entry, Catalogue, refusedWith, listed, listedIn, catalogueReading, catalogue, refusalAlone, numbers, areasAfter}
+use Rattle.subsumption.specs.Catalogue.{Areas, lent, entry, Catalogue, refusedWith, listed, listedIn, catalogueReading, catalogue}
+use Rattle.subsumption.specs.Catalogue.{refusalAlone, numbers, areasAfter}
 use Rattle.subsumption.specs.Promise.{EntryRight, entryAt, Right, Promise}
 use Rattle.subsumption.proofs.Entry.{entry-right}
 
