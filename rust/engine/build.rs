@@ -1,30 +1,37 @@
-//! Finds the two archives: in the folder that GUMBYRA_LIB_DIR names, or where `rt staticlib` writes them.
+//! Finds the library that `./library` lays out: in target/library of the repository, or where GUMBYRA_LIB_DIR says.
 
-use std::path::PathBuf;
-
-/// The engine's call and the converter's; the engine's with several wanted rows and the catalogue's.
-const ARCHIVES: [&str; 2] = ["gumbyra", "gumbyra_kinds"];
+use std::path::{Path, PathBuf};
 
 fn main() {
     println!("cargo:rerun-if-env-changed=GUMBYRA_LIB_DIR");
-    let crate_dir = PathBuf::from(std::env::var_os("CARGO_MANIFEST_DIR").expect("cargo names the crate's folder"));
     let lib_dir = match std::env::var_os("GUMBYRA_LIB_DIR") {
         Some(dir) => PathBuf::from(dir),
-        None => crate_dir.join("../../target/staticlib"),
-    };
-    for name in ARCHIVES {
-        let archive = lib_dir.join(format!("lib{name}.a"));
-        println!("cargo:rerun-if-changed={}", archive.display());
-        if archive.metadata().is_err() {
-            panic!(
-                "no {}: run `rt staticlib {name}`, or set GUMBYRA_LIB_DIR to the archives' folder",
-                archive.display()
-            );
+        None => {
+            Path::new(&std::env::var_os("CARGO_MANIFEST_DIR").expect("the crate's folder")).join("../../target/library/lib")
         }
-        println!("cargo:rustc-link-lib=static={name}");
+    };
+    let lib_dir = lib_dir.canonicalize().unwrap_or_else(|error| refuse(&lib_dir, &error.to_string()));
+    let archive = lib_dir.join("libgumbyra.a");
+    let package = lib_dir.join("pkgconfig/gumbyra.pc");
+    println!("cargo:rerun-if-changed={}", archive.display());
+    println!("cargo:rerun-if-changed={}", package.display());
+    if !archive.exists() {
+        refuse(&lib_dir, "there is no libgumbyra.a in it");
     }
-    let lib_dir = lib_dir.canonicalize().expect("the archives' folder is there");
+    let package = std::fs::read_to_string(package).unwrap_or_else(|error| refuse(&lib_dir, &format!("pkgconfig/gumbyra.pc: {error}")));
+    let version = std::env::var("CARGO_PKG_VERSION").expect("the crate's version");
+    if !package.lines().any(|line| line.strip_prefix("Version: ") == Some(&version)) {
+        refuse(&lib_dir, &format!("the library there is of another version than this crate, {version}"));
+    }
     println!("cargo:rustc-link-search=native={}", lib_dir.display());
-    // The test of the C examples links the same archives.
-    println!("cargo:rustc-env=GUMBYRA_LIB_DIR={}", lib_dir.display());
+    println!("cargo:rustc-link-lib=static=gumbyra");
+}
+
+/// Says what to do.
+fn refuse(lib_dir: &Path, why: &str) -> ! {
+    panic!(
+        "no Gumbyra library in {}: {why}. In Gumbyra's repository `./library` lays it out in target/library; elsewhere set GUMBYRA_LIB_DIR to \
+         the absolute path of its folder lib",
+        lib_dir.display()
+    );
 }

@@ -56,13 +56,15 @@ pumps: a peristaltic pump that isn't a dosing pump: verdict 2
 
 /// What an example prints.
 fn output(example: &str) -> String {
-    let crate_dir = Path::new(env!("CARGO_MANIFEST_DIR"));
+    let repository = Path::new(env!("CARGO_MANIFEST_DIR")).join("../..");
+    let library = repository.join("target/library");
     let program = Path::new(env!("CARGO_TARGET_TMPDIR")).join(example);
     let compiled = Command::new("cc")
         .args(["-std=c11", "-Wall", "-Wextra", "-Wpedantic", "-Werror", "-I"])
-        .arg(crate_dir.join("include"))
-        .arg(crate_dir.join("examples").join(example).with_extension("c"))
-        .args(["-L", env!("GUMBYRA_LIB_DIR"), "-lgumbyra", "-lgumbyra_kinds", "-o"])
+        .arg(library.join("include"))
+        .arg(repository.join("c/examples").join(example).with_extension("c"))
+        .arg(library.join("lib/libgumbyra.a"))
+        .arg("-o")
         .arg(&program)
         .output()
         .expect("there is a C compiler, cc");

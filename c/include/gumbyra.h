@@ -1,7 +1,6 @@
-/* The fit engine: four calls on a rule file, one that tells which of its kinds are which, and one that makes a rule file of a draft.
-   Link with libgumbyra.a, and for gumbyra_fit_wanted, gumbyra_text_wanted and gumbyra_catalogue with libgumbyra_kinds.a; both are for
-   x86-64 Linux only. examples/eight_nodes.c, examples/enlarge.c, examples/draft.c, examples/fitted.c and examples/catalogue.c are whole
-   programs.
+/* The fit engine: four calls on a rule file, one that tells which of its kinds are which, and one that makes a rule file of a draft; these
+   are proved. Beside them the version, and a sentence for each refusal. Link with libgumbyra (x86-64 Linux): docs/USE.md has the line. Whole
+   programs: c/examples in the repository, order.c first.
 
    In all calls a pointer may not be null, even with length 0. Nothing is kept after a call, and there is no state: threads may
    call at the same time, with areas of their own. For a call of this build a stack of 1 MiB suffices. */
@@ -15,6 +14,11 @@
 extern "C" {
 #endif
 
+/* The version that this header is of, and that of the library: 10000 * major + 100 * minor + patch, so 200 is 0.2.0. A program goes with
+   every library that has the same major and minor number (docs/USE.md, Versions). */
+#define GUMBYRA_VERSION 200
+uint32_t gumbyra_version(void);
+
 /* Bytes of a record. Whole records count, and at most GUMBYRA_MOST_RECORDS nodes, edges and alternatives each. */
 enum {
     GUMBYRA_NODE = 64,
@@ -26,10 +30,42 @@ enum {
 
 enum { GUMBYRA_MOST_RECORDS = 4096 };
 
+/* Records that are usually enough, and what the program fit lends. */
+enum {
+    GUMBYRA_USUAL_NODES = 1024,
+    GUMBYRA_USUAL_EDGES = 4096,
+    GUMBYRA_USUAL_ALTERNATIVES = 4096,
+    GUMBYRA_USUAL_ELEMENTS = 1024,
+    GUMBYRA_USUAL_LINKS = 8192
+};
+
 /* The most bytes of a rule file: an area of so many suffices for gumbyra_convert. */
 enum { GUMBYRA_LONGEST_FILE = 4096 };
 
 enum { GUMBYRA_REFUSED = 0, GUMBYRA_CAN = 1, GUMBYRA_CANNOT = 2 };
+
+/* The refusals. 1 to 8 and 16 come from a check of the file or the draft, the first that fails deciding; 11 and 13 to 15 from a run, 12 from
+   gumbyra_convert, 17 from gumbyra_catalogue. There is no 9 and no 10. */
+enum {
+    GUMBYRA_BAD_LENGTH = 1,
+    GUMBYRA_BAD_MARK = 2,
+    GUMBYRA_BAD_COUNTS = 3,
+    GUMBYRA_BAD_EXTENT = 4,
+    GUMBYRA_BAD_ROW = 5,
+    GUMBYRA_BAD_ARGUMENT = 6,
+    GUMBYRA_REPEATED_ROW = 7,
+    GUMBYRA_NO_SUCH_ROW = 8,
+    GUMBYRA_EXAMPLE_TOO_LONG = 11,   /* the answer's elements and links say what to lend */
+    GUMBYRA_RESULT_TOO_LONG = 12,
+    GUMBYRA_NODES_SHORT = 13,        /* 13, 14 and 15 are by the first record without a place. The run gets further if that area alone */
+    GUMBYRA_EDGES_SHORT = 14,        /* is larger, but lent is GUMBYRA_MOST_RECORDS at most, and then no larger area helps */
+    GUMBYRA_ALTERNATIVES_SHORT = 15,
+    GUMBYRA_INCLUSION = 16,          /* a row of kind 7 in a place for a row that speaks of elements */
+    GUMBYRA_TABLE_SHORT = 17         /* never in an area of GUMBYRA_LARGEST_TABLE bytes */
+};
+
+/* The sentence of a refusal, in UTF-8; the empty string for any other number. It lasts as long as the program. */
+const char *gumbyra_sentence(uint32_t refusal);
 
 typedef struct {
     uint32_t verdict;                    /* GUMBYRA_CAN, GUMBYRA_CANNOT or GUMBYRA_REFUSED */
@@ -40,20 +76,13 @@ typedef struct {
     uint32_t lent;                       /* with 13, 14, 15: how many records of that kind counted as lent; else zero */
 } gumbyra_answer;
 
-/* The refusals of a run that had no place for a record: by the first such record. The run gets further if that area alone is larger,
-   but lent is GUMBYRA_MOST_RECORDS at most, and then no larger area helps. */
-enum { GUMBYRA_NODES_SHORT = 13, GUMBYRA_EDGES_SHORT = 14, GUMBYRA_ALTERNATIVES_SHORT = 15 };
-
-/* A row of kind 7 says that every pair of one role (role byte, a code) is also a pair of another (left byte, a code up to 31); its
-   right byte is zero. It speaks of roles, so no element lists it, and this refusal comes if it serves as an argument, a rule or the
-   wanted row. */
-enum { GUMBYRA_INCLUSION = 16 };
-
 /* Decides a rule file. The areas may be of any length and hold anything; no two may overlap, nor one the file. After a verdict,
    11, 13, 14 or 15 every byte of nodes, edges and alternatives is zero, after 1 to 8 and 16 they are as they were. elements and
    links change with GUMBYRA_CAN only, in the first GUMBYRA_ELEMENT * answer.elements and GUMBYRA_LINK * answer.links bytes. An
    element lists a row of the file exactly if the row holds there in the example, whether a rule or the kit needs the row or not. A
-   link has the code that a row asked for; its pair belongs to every wider role too. The text of the file is that of gumbyra_text. */
+   link has the code that a row asked for; its pair belongs to every wider role too. A row of kind 7 says that every pair of one role (role
+   byte, a code) is also a pair of another (left byte, a code up to 31; right byte zero): it speaks of roles, so no element lists it. The
+   text of the file is that of gumbyra_text. */
 gumbyra_answer gumbyra_fit(const uint8_t *file, size_t file_len,
                            uint8_t *nodes, size_t nodes_len,
                            uint8_t *edges, size_t edges_len,
@@ -79,10 +108,6 @@ enum { GUMBYRA_MOST_NAMES = 64, GUMBYRA_LARGEST_TABLE = 4096 };
 
 /* The entries of a table: an a that isn't a b can exist, cannot, or the work areas did not suffice to decide it. */
 enum { GUMBYRA_NOT_ALWAYS = 0, GUMBYRA_ALWAYS = 1, GUMBYRA_UNDECIDED = 2 };
-
-/* The refusal of a catalogue whose table has more bytes than its area. It comes after all checks of the file, and never in an area of
-   GUMBYRA_LARGEST_TABLE bytes. */
-enum { GUMBYRA_TABLE_SHORT = 17 };
 
 typedef struct {
     uint32_t refusal; /* 0 if the table is filled; else 1 to 8, 16: the file; 17: the table's area is short */
