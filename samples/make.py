@@ -28,13 +28,20 @@ HERE = pathlib.Path(__file__).resolve().parent
 
 # ---- a sample's bytes: text, rows, rule list, trailer (a draft's are the same)
 
+def place(words, among, what):
+    """The number of these words in a list of them."""
+    if words not in among:
+        sys.exit(f"no {what} is called {words!r}; there are: {', '.join(map(repr, among))}")
+    return among.index(words)
+
+
 def row_number(sample, says):
-    return list(sample.rows).index(says)
+    return place(says, list(sample.rows), "row")
 
 
 def role_code(sample, words):
     """2k for role k forwards, 2k + 1 backwards."""
-    return [direction for role in sample.roles for direction in role].index(words)
+    return place(words, [direction for role in sample.roles for direction in role], "role")
 
 
 def row_bytes(sample, row):
@@ -42,7 +49,7 @@ def row_bytes(sample, row):
     kind, role, left, right = row
     role = 0 if role is None else role_code(sample, role)
     if kind in (1, 2):
-        left = sample.names.index(left)
+        left = place(left, sample.names, "name")
     elif kind == INCLUSION:
         left = role_code(sample, left)
     else:
@@ -64,10 +71,12 @@ def text(sample):
     lines += [f"Rows{of_draft}:"] + [f"{number} {says}" for number, says in enumerate(sample.rows)]
     lines += [f"Rules{of_draft}, each true of every part:"] + [f"{row_number(sample, says)} {says}" for says in sample.rules]
     lines += [f"Wanted{in_draft}:", f"{row_number(sample, sample.wanted)} {sample.wanted}", ""]
-    return "\n".join(lines).encode("ascii")
+    return "\n".join(lines).encode()
 
 
 def encode(words, rows, rules, wanted):
+    if max(len(rows), len(rules)) > 255 or len(words) > 65535:
+        sys.exit(f"{len(rows)} rows, {len(rules)} rules and a text of {len(words)} bytes: a file has no room to say so")
     trailer = len(words).to_bytes(2, "little") + bytes([len(rows), len(rules), wanted]) + b"FIT"
     return words + b"".join(rows) + bytes(rules) + trailer
 
@@ -76,7 +85,7 @@ def file_bytes(sample):
     rows = [row_bytes(sample, row) for row in sample.rows.values()]
     rules = [row_number(sample, says) for says in sample.rules]
     file = encode(text(sample), rows, rules, row_number(sample, sample.wanted))
-    return sample.added_later.encode("ascii") + file
+    return sample.added_later.encode() + file
 
 
 # ---- what becomes of a draft (document 02, [1] and [6])
