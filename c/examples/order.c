@@ -1,6 +1,8 @@
-/* An order program: decides a rule file, enlarging what was short, and says the answer in the words of the file's text. Compile it with
-       cc c/examples/order.c -Itarget/library/include target/library/lib/libgumbyra.a -o order
-   and run ./order samples/pump.fit. The status is 0 with a verdict, 1 with a refusal, 2 if reading or writing failed. */
+/* An order program: decides a rule file, enlarging what was short, and says the answer in the words of the file's text.
+   From the root of the repository, when ./library has laid out the library:
+       cc c/examples/order.c -Itarget/library/include target/library/lib/libgumbyra.a -o target/order
+       target/order samples/pump.fit
+   The status is 0 with a verdict, 1 with a refusal, 2 if reading or writing failed. */
 #include <errno.h>
 #include <stdio.h>
 #include <stdlib.h>
@@ -29,8 +31,7 @@ static void lend(lending *lent, int which, size_t records) {
 
 /* Asks until there is a verdict, or no larger area helps. */
 static gumbyra_answer decide(const uint8_t *file, size_t file_len, lending *lent) {
-    static const size_t usual[AREAS] = {GUMBYRA_USUAL_NODES, GUMBYRA_USUAL_EDGES, GUMBYRA_USUAL_ALTERNATIVES, GUMBYRA_USUAL_ELEMENTS,
-                                        GUMBYRA_USUAL_LINKS};
+    static const size_t usual[AREAS] = {GUMBYRA_USUAL_NODES, GUMBYRA_USUAL_EDGES, GUMBYRA_USUAL_ALTERNATIVES, GUMBYRA_USUAL_ELEMENTS, GUMBYRA_USUAL_LINKS};
     for (int which = 0; which < AREAS; which++) lend(lent, which, usual[which]);
     for (;;) {
         gumbyra_answer a = gumbyra_fit(file, file_len, lent->bytes[NODES], lent->len[NODES], lent->bytes[EDGES], lent->len[EDGES],
@@ -136,9 +137,8 @@ int main(int argc, char **argv) {
         fprintf(stderr, "REFUSED %u: %s\n", a.refusal, gumbyra_sentence(a.refusal));
         return 1;
     }
-    if (a.verdict == GUMBYRA_CANNOT) {
-        printf("The kit cannot exist.\n");
-    } else {
+    if (a.verdict == GUMBYRA_CANNOT) printf("The kit cannot exist.\n");
+    if (a.verdict == GUMBYRA_CAN) {
         printf("The kit can exist. An example; part 0 is the one that was wanted:\n");
         words text = {file, gumbyra_text(file, file_len)};
         say_parts(file, file_len, text, lent.bytes[ELEMENTS], a.elements);
