@@ -1,0 +1,89 @@
+//! The C library as `./library` lays it out, and the programs in c/examples: compiled, linked and run.
+//!
+//! Here are the small examples; [`order`] has the order program, in C and in Python, [`library`] the layout, [`tools`] what they share.
+
+mod library;
+mod order;
+mod tools;
+
+use std::process::Command;
+use tools::{built, printed};
+
+/// At element 0 every row holds, at element 1 row 1 only.
+const EIGHT_NODES: &str = "\
+text: hose
+verdict 1, refusal 0, used 8 7 1
+2 elements, with rows 07 and 02; 1 link, to 1
+";
+
+/// By the order of the run's records (N node, E edge, A alternative): N NNEE NAE NNEE NNEE.
+const ENLARGE: &str = "\
+refusal 15, lent 0: now 1 alternatives
+refusal 13, lent 4: now 8 nodes
+refusal 14, lent 3: now 6 edges
+refusal 14, lent 6: now 12 edges
+verdict 1, refusal 0, used 8 7 1
+";
+
+/// The rule becomes either not name 0 (row 0) or name 1 (row 1); its opposite both name 0 (row 3) and not name 1 (row 4).
+const DRAFT: &str = "\
+length 37
+text: pump
+row 2 0 0 0
+row 1 0 1 0
+row 4 0 0 1
+row 1 0 0 0
+row 2 0 1 0
+row 3 0 3 4
+verdict 2
+";
+
+/// What is screwed on is acid-proof (row 2), so it lists rows 2, 4 and 5: nothing is fitted to it. What is glued on can't be without that.
+const FITTED: &str = "\
+row 5 wanted: can; element 0 has rows 34, the link has code 2
+row 7 wanted: cannot
+row 0 wanted: refused, 16: A row of kind 7 serves as an argument, a rule or the wanted row.
+";
+
+/// With six nodes what needs a hose, and what need not be a dosing pump, is mostly undecided; eight bytes are no room for three names.
+const CATALOGUE: &str = "\
+64 nodes, 4096 bytes: 3 names
+dosing pump      yes   -   -
+peristaltic pump yes yes   -
+hose               -   - yes
+6 nodes, 9 bytes: 3 names
+dosing pump      yes   -   -
+peristaltic pump   ? yes   ?
+hose               ?   - yes
+64 nodes, 8 bytes: refused, 17: The table's area is shorter than the square of its names.
+pumps: a peristaltic pump that isn't a dosing pump: verdict 2
+";
+
+fn output(name: &str) -> String {
+    printed(&mut Command::new(built(name)))
+}
+
+#[test]
+fn the_c_example_decides_the_eight_node_run() {
+    assert_eq!(output("eight_nodes"), EIGHT_NODES);
+}
+
+#[test]
+fn the_c_example_enlarges_what_was_short() {
+    assert_eq!(output("enlarge"), ENLARGE);
+}
+
+#[test]
+fn the_c_example_converts_a_draft() {
+    assert_eq!(output("draft"), DRAFT);
+}
+
+#[test]
+fn the_c_example_goes_by_narrower_roles() {
+    assert_eq!(output("fitted"), FITTED);
+}
+
+#[test]
+fn the_c_example_tells_which_kinds_are_which() {
+    assert_eq!(output("catalogue"), CATALOGUE);
+}
