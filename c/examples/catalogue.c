@@ -1,4 +1,5 @@
-/* Which kinds of pump are which: cc -I include examples/catalogue.c -L DIR -lgumbyra_kinds, DIR being the archive's folder. */
+/* Which kinds of pump are which. From the root of the repository, when ./library has laid out the library:
+       cc c/examples/catalogue.c -Itarget/library/include target/library/lib/libgumbyra.a -o target/catalogue */
 #include <stdio.h>
 #include "gumbyra.h"
 
@@ -19,8 +20,10 @@ static gumbyra_page fill(size_t lent, size_t table_len) {
     static const char *const entries[] = {"-", "yes", "?"};
     gumbyra_page p = gumbyra_catalogue(file, sizeof file, nodes, lent * GUMBYRA_NODE, edges, sizeof edges, alternatives, sizeof alternatives,
                                        table, table_len);
-    printf("%zu nodes, %zu bytes: refusal %u, %u names\n", lent, table_len, p.refusal, p.count);
-    for (uint32_t a = 0; p.refusal == 0 && a < p.count; a++) { /* names 0, 1 and 2 are listed, so the a-th is name a */
+    printf("%zu nodes, %zu bytes: ", lent, table_len);
+    if (p.refusal == 0) printf("%u names\n", p.count);
+    else printf("refused, %u: %s\n", p.refusal, gumbyra_sentence(p.refusal));
+    for (uint32_t a = 0; a < p.count; a++) { /* names 0, 1 and 2 are listed, so the a-th is name a; with a refusal none is */
         printf("%-16s", words[a]);
         for (uint32_t b = 0; b < p.count; b++) printf(" %3s", entries[table[a * p.count + b]]);
         printf("\n");

@@ -1,4 +1,5 @@
-/* A draft with "if" and "not", converted and decided: cc -I include examples/draft.c -L DIR -lgumbyra, DIR being the archive's folder. */
+/* A draft with "if" and "not", converted and decided. From the root of the repository, when ./library has laid out the library:
+       cc c/examples/draft.c -Itarget/library/include target/library/lib/libgumbyra.a -o target/draft */
 #include <stdio.h>
 #include "gumbyra.h"
 
@@ -12,8 +13,11 @@ int main(void) {
     static uint8_t area[GUMBYRA_LONGEST_FILE];
     static uint8_t nodes[64 * GUMBYRA_NODE], edges[64 * GUMBYRA_EDGE], alternatives[8 * GUMBYRA_ALTERNATIVE], elements[64], links[64];
     gumbyra_conversion c = gumbyra_convert(draft, sizeof draft, area, sizeof area);
-    printf("refusal %u, length %u\n", c.refusal, c.length);
-    if (c.refusal != 0) return 1;
+    if (c.refusal != 0) {
+        fprintf(stderr, "REFUSED %u: %s\n", c.refusal, gumbyra_sentence(c.refusal));
+        return 1;
+    }
+    printf("length %u\n", c.length);
     size_t text = gumbyra_text(area, c.length);
     printf("text: %.*s\n", (int)text, (const char *)area);
     for (size_t row = text; row < c.length - 9; row += 4) /* one rule and the trailer come after the rows */

@@ -1,5 +1,6 @@
-/* Document 01's eight-node run in areas that are enlarged as its refusals ask: cc -I include examples/enlarge.c -L DIR -lgumbyra, DIR
-   being the archive's folder. Of the work areas only the one that was short grows. */
+/* A hosting desk begins with little and enlarges the work area that was short, and only that. (order.c enlarges the example's areas too.)
+   From the root of the repository, when ./library has laid out the library:
+       cc c/examples/enlarge.c -Itarget/library/include target/library/lib/libgumbyra.a -o target/enlarge */
 #include <stdio.h>
 #include <stdlib.h>
 #include "gumbyra.h"
@@ -18,7 +19,7 @@ static void lend(area *a, size_t records) {
 }
 
 int main(void) {
-    static const uint8_t file[] = {1, 0, 0, 0, 5, 1, 0, 0, 6, 0, 1, 0, 0, 0, 3, 0, 2, 'F', 'I', 'T'};
+    static const uint8_t file[] = {1, 0, 0, 0, 5, 1, 0, 0, 6, 0, 1, 0, 0, 0, 3, 0, 2, 'F', 'I', 'T'}; /* that of eight_nodes.c, without text */
     static uint8_t elements[64], links[64];
     area areas[] = {{"nodes", GUMBYRA_NODE, 0, NULL}, {"edges", GUMBYRA_EDGE, 0, NULL}, {"alternatives", GUMBYRA_ALTERNATIVE, 0, NULL}};
     area *nodes = &areas[0], *edges = &areas[1], *alternatives = &areas[2];

@@ -1,4 +1,5 @@
-/* "Screwed to" and "glued to" are ways of "fitted to": cc -I include examples/fitted.c -L DIR -lgumbyra, DIR being the archive's folder. */
+/* "Screwed to" and "glued to" are ways of "fitted to". From the root of the repository, when ./library has laid out the library:
+       cc c/examples/fitted.c -Itarget/library/include target/library/lib/libgumbyra.a -o target/fitted */
 #include <stdio.h>
 #include "gumbyra.h"
 
@@ -16,9 +17,10 @@ static gumbyra_answer ask(uint8_t wanted) {
     for (size_t at = 0; at < sizeof file; at++) file[at] = at < sizeof rows ? rows[at / 4][at % 4] : trailer[at - sizeof rows];
     gumbyra_answer a = gumbyra_fit(file, sizeof file, nodes, sizeof nodes, edges, sizeof edges, alternatives, sizeof alternatives,
                                    elements, sizeof elements, links, sizeof links);
-    printf("row %u wanted: verdict %u, refusal %u", wanted, a.verdict, a.refusal);
-    if (a.verdict == GUMBYRA_CAN) printf("; element 0 has rows %02x, the link has code %u", elements[0], links[2]);
-    printf("\n");
+    printf("row %u wanted: ", wanted);
+    if (a.verdict == GUMBYRA_CAN) printf("can; element 0 has rows %02x, the link has code %u\n", elements[0], links[2]);
+    else if (a.verdict == GUMBYRA_CANNOT) printf("cannot\n");
+    else printf("refused, %u: %s\n", a.refusal, gumbyra_sentence(a.refusal));
     return a;
 }
 

@@ -1,7 +1,13 @@
-//! The C examples, compiled against the header and run.
+//! The C library as `./library` lays it out, and the programs in c/examples: compiled, linked and run.
+//!
+//! Here are the small examples; [`order`] has the order program, in C and in Python, [`library`] the layout, [`tools`] what they share.
 
-use std::path::Path;
+mod library;
+mod order;
+mod tools;
+
 use std::process::Command;
+use tools::{built, printed};
 
 /// At element 0 every row holds, at element 1 row 1 only.
 const EIGHT_NODES: &str = "\
@@ -21,7 +27,7 @@ verdict 1, refusal 0, used 8 7 1
 
 /// The rule becomes either not name 0 (row 0) or name 1 (row 1); its opposite both name 0 (row 3) and not name 1 (row 4).
 const DRAFT: &str = "\
-refusal 0, length 37
+length 37
 text: pump
 row 2 0 0 0
 row 1 0 1 0
@@ -34,44 +40,27 @@ verdict 2
 
 /// What is screwed on is acid-proof (row 2), so it lists rows 2, 4 and 5: nothing is fitted to it. What is glued on can't be without that.
 const FITTED: &str = "\
-row 5 wanted: verdict 1, refusal 0; element 0 has rows 34, the link has code 2
-row 7 wanted: verdict 2, refusal 0
-row 0 wanted: verdict 0, refusal 16
+row 5 wanted: can; element 0 has rows 34, the link has code 2
+row 7 wanted: cannot
+row 0 wanted: refused, 16: A row of kind 7 serves as an argument, a rule or the wanted row.
 ";
 
-/// With six nodes what needs a hose, and what need not be a dosing pump, is mostly undecided; eight bytes are no room for three names, and
-/// a refusal tells of none.
+/// With six nodes what needs a hose, and what need not be a dosing pump, is mostly undecided; eight bytes are no room for three names.
 const CATALOGUE: &str = "\
-64 nodes, 4096 bytes: refusal 0, 3 names
+64 nodes, 4096 bytes: 3 names
 dosing pump      yes   -   -
 peristaltic pump yes yes   -
 hose               -   - yes
-6 nodes, 9 bytes: refusal 0, 3 names
+6 nodes, 9 bytes: 3 names
 dosing pump      yes   -   -
 peristaltic pump   ? yes   ?
 hose               ?   - yes
-64 nodes, 8 bytes: refusal 17, 0 names
+64 nodes, 8 bytes: refused, 17: The table's area is shorter than the square of its names.
 pumps: a peristaltic pump that isn't a dosing pump: verdict 2
 ";
 
-/// What an example prints.
-fn output(example: &str) -> String {
-    let repository = Path::new(env!("CARGO_MANIFEST_DIR")).join("../..");
-    let library = repository.join("target/library");
-    let program = Path::new(env!("CARGO_TARGET_TMPDIR")).join(example);
-    let compiled = Command::new("cc")
-        .args(["-std=c11", "-Wall", "-Wextra", "-Wpedantic", "-Werror", "-I"])
-        .arg(library.join("include"))
-        .arg(repository.join("c/examples").join(example).with_extension("c"))
-        .arg(library.join("lib/libgumbyra.a"))
-        .arg("-o")
-        .arg(&program)
-        .output()
-        .expect("there is a C compiler, cc");
-    assert!(compiled.status.success(), "{}", String::from_utf8_lossy(&compiled.stderr));
-    let run = Command::new(&program).output().expect("the program starts");
-    assert!(run.status.success(), "{run:?}");
-    String::from_utf8_lossy(&run.stdout).into_owned()
+fn output(name: &str) -> String {
+    printed(&mut Command::new(built(name)))
 }
 
 #[test]
