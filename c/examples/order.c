@@ -134,7 +134,9 @@ int main(int argc, char **argv) {
     fclose(in);
     gumbyra_answer a = decide(file, file_len, &lent);
     if (a.verdict == GUMBYRA_REFUSED) {
-        fprintf(stderr, "REFUSED %u: %s\n", a.refusal, gumbyra_sentence(a.refusal));
+        fprintf(stderr, "REFUSED %u", a.refusal);
+        if (a.refusal >= GUMBYRA_NODES_SHORT && a.refusal <= GUMBYRA_ALTERNATIVES_SHORT) fprintf(stderr, " %u", a.lent);
+        fprintf(stderr, ": %s\n", gumbyra_sentence(a.refusal));
         return 1;
     }
     if (a.verdict == GUMBYRA_CANNOT) printf("The kit cannot exist.\n");

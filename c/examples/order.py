@@ -90,7 +90,8 @@ def main(path, library_path=os.environ.get("GUMBYRA_LIBRARY", LAID_OUT)):
         fail(path, error.strerror)
     answer, elements, links = decide(library, file)
     if answer.refusal:
-        os.write(2, b"REFUSED %d: %s\n" % (answer.refusal, library.gumbyra_sentence(answer.refusal)))
+        lent = b" %d" % answer.lent if NODES_SHORT <= answer.refusal <= ALTERNATIVES_SHORT else b""
+        os.write(2, b"REFUSED %d%s: %s\n" % (answer.refusal, lent, library.gumbyra_sentence(answer.refusal)))
         sys.exit(1)
     said = b"The kit cannot exist.\n"
     if answer.verdict == CAN:

@@ -1,5 +1,6 @@
 //! The order program, in C and in Python: the same files, the same answers.
 
+use compare::long_orders::branches;
 use crate::tools::{built, compiled, example, library, printed, repository, run, scratch, written, INTERFACE};
 use std::fs;
 use std::path::{Path, PathBuf};
@@ -86,6 +87,8 @@ pub fn check_order(by: &str, order: impl Fn(&Path) -> Command) {
     check(sample("order.fit"), 1, "", not_lower);
     check(written(&format!("{by} empty.fit"), b""), 1, "", too_long);
     check(written(&format!("{by} long.fit"), &[0; 4097]), 1, "", too_long);
+    let most = "REFUSED 13 4096: The procedure's next node has no place in its area.\n";
+    check(written(&format!("{by} branches.fit"), &branches(13).file), 1, "", most);
     let (missing, folder) = (sample("no such.fit"), sample(""));
     check(missing.clone(), 2, "", &format!("order: {}: No such file or directory\n", missing.display()));
     check(folder.clone(), 2, "", &format!("order: {}: Is a directory\n", folder.display()));
