@@ -1,7 +1,7 @@
 //! The order program, in C and in Python: the same files, the same answers.
 
-use compare::long_orders::branches;
 use crate::tools::{built, compiled, example, library, printed, repository, run, scratch, written, INTERFACE};
+use compare::long_orders::branches;
 use std::fs;
 use std::path::{Path, PathBuf};
 use std::process::Command;
