@@ -6,9 +6,8 @@ fn main() {
     println!("cargo:rerun-if-env-changed=GUMBYRA_LIB_DIR");
     let lib_dir = match std::env::var_os("GUMBYRA_LIB_DIR") {
         Some(dir) => PathBuf::from(dir),
-        None => {
-            Path::new(&std::env::var_os("CARGO_MANIFEST_DIR").expect("the crate's folder")).join("../../target/library/lib")
-        }
+        None => Path::new(&std::env::var_os("CARGO_MANIFEST_DIR").expect("the crate's folder"))
+            .join("../../target/library/lib"),
     };
     let lib_dir = lib_dir.canonicalize().unwrap_or_else(|error| refuse(&lib_dir, &error.to_string()));
     let archive = lib_dir.join("libgumbyra.a");
@@ -18,7 +17,8 @@ fn main() {
     if !archive.exists() {
         refuse(&lib_dir, "there is no libgumbyra.a in it");
     }
-    let package = std::fs::read_to_string(package).unwrap_or_else(|error| refuse(&lib_dir, &format!("pkgconfig/gumbyra.pc: {error}")));
+    let package = std::fs::read_to_string(package)
+        .unwrap_or_else(|error| refuse(&lib_dir, &format!("pkgconfig/gumbyra.pc: {error}")));
     let version = std::env::var("CARGO_PKG_VERSION").expect("the crate's version");
     if !package.lines().any(|line| line.strip_prefix("Version: ") == Some(&version)) {
         refuse(&lib_dir, &format!("the library there is of another version than this crate, {version}"));

@@ -77,7 +77,7 @@ pub(crate) fn check_meaning(draft: &[u8], file: &[u8], shape: Shape, prng: &mut 
 }
 
 /// A world of up to four elements. A name holds at every other element, and one pair of three belongs to a role.
-fn random_world(prng: &mut Prng, shape: Shape) -> World {
+pub fn random_world(prng: &mut Prng, shape: Shape) -> World {
     let size = 1 + prng.below(MOST_ELEMENTS);
     let mut world = World::new(size);
     for d in 0..size {

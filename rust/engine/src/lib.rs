@@ -36,6 +36,7 @@ pub mod verdict;
 pub use catalogue::{Catalogue, IsA, LARGEST_TABLE, MOST_NAMES};
 pub use conversion::LONGEST_FILE;
 pub use example::{Example, Link, LINK_BYTES};
+pub use gumbyra_table::{origins, Fault, Origin, Place, Row, Table, Words};
 pub use names::Names;
 pub use refusal::Refusal;
 pub use row_set::{RowSet, ELEMENT_BYTES};
