@@ -1,30 +1,30 @@
-//! Rule files for catalogues (document 02, [7]): random ones in which some kinds follow from others, and large ones with their tables.
+//! Rule files for catalogues (document 02, \[7\]): random ones in which some kinds follow from others, and large ones with their tables.
 //!
 //! In order: random files; 32 names over 64 rows; a chain of names.
 
-use crate::files::{encode, Row, Table};
+use crate::files::{file_of, said, table_of, Row, Table};
 use crate::inclusions::{with_inclusions, Parts, INCLUSION};
 use crate::random::{random_row, random_text};
 use crate::{damage, random_bytes, Prng, Shape};
+use gumbyra_table::Row as Said;
 
 // ---- random files
 
 /// A file with up to so many names, of all 64, most with both rows. Among its rules are some by which an a is a b: at once, or since it has
 /// along some role what only a b has. Half of the files have kind 7 rows.
 pub fn random_kinds(prng: &mut Prng, shape: Shape) -> Vec<u8> {
-    let mut table = Table { rows: random_literals(prng, shape.names) };
+    let mut table = table_of(&random_literals(prng, shape.names));
     let mut rules = Vec::new();
     for _ in 0..prng.below(shape.names + 2) {
         rules.extend(random_implication(prng, &mut table, shape.roles));
     }
     for _ in 0..prng.below(shape.compound + 1) {
         let row = random_row(prng, shape, table.rows.len());
-        if !table.rows.contains(&row) {
-            table.rows.push(row);
-        }
+        table.row(said(row));
     }
     rules.extend((0..prng.below(shape.rules + 1)).map(|_| prng.byte_below(table.rows.len())));
-    let file = encode(&random_text(prng, shape.text), &table.rows, &rules, prng.byte_below(table.rows.len()));
+    table.text = random_text(prng, shape.text);
+    let file = file_of(&table, &rules, prng.byte_below(table.rows.len()));
     match prng.below(2) {
         0 => with_inclusions(prng, &file, shape.roles),
         _ => file,
@@ -48,14 +48,18 @@ fn random_literals(prng: &mut Prng, most: usize) -> Vec<Row> {
 
 /// Rules by which what a name's row says follows from another's, which has a kind 2 row; none if there is no such.
 fn random_implication(prng: &mut Prng, table: &mut Table, roles: usize) -> Vec<u8> {
-    let literals: Vec<u8> = (0..table.rows.len()).filter(|&row| table.rows[row][0] <= 2).map(|row| row as u8).collect();
+    let is_literal = |row: &Said| matches!(row, Said::Name(_) | Said::NotName(_));
+    let literals: Vec<u8> = (0..).zip(&table.rows).filter(|(_, row)| is_literal(row)).map(|(row, _)| row).collect();
     let [if_not, then, via] = [(); 3].map(|()| literals[prng.below(literals.len())]);
-    let [kind, _, name, _] = table.rows[usize::from(via)];
-    let opposite = table.rows.iter().position(|row| row[0] == 3 - kind && row[2] == name);
+    let opposite = match table.rows[usize::from(via)] {
+        Said::Name(name) => table.row_of_not_name(name),
+        Said::NotName(name) => table.row_of_name(name),
+        _ => None,
+    };
     match (prng.below(2), opposite) {
         (0, Some(opposite)) => {
             let role = prng.byte_below(2 * roles);
-            let (some, none) = (table.some(role, via), table.all(role, opposite as u8));
+            let (some, none) = (table.some(role, via), table.all(role, opposite));
             vec![table.either(if_not, some), table.either(none, then)]
         }
         _ => vec![table.either(if_not, then)],
@@ -95,7 +99,7 @@ pub fn most_names(every: &[u8], none: &[u8]) -> Vec<u8> {
     }
     let mut rules: Vec<u8> = every.iter().map(|&name| table.name(name)).collect();
     rules.extend(none.iter().map(|&name| table.not_name(name)));
-    encode(b"", &table.rows, &rules, 0)
+    file_of(&table, &rules, 0)
 }
 
 // ---- a chain of names
@@ -108,5 +112,5 @@ pub fn chain(names: u8) -> Vec<u8> {
     let mut table = Table::default();
     let literals: Vec<[u8; 2]> = (0..names).map(|name| [table.name(name), table.not_name(name)]).collect();
     let rules: Vec<u8> = literals.windows(2).map(|two| table.either(two[0][1], two[1][0])).collect();
-    encode(b"", &table.rows, &rules, 0)
+    file_of(&table, &rules, 0)
 }

@@ -3,7 +3,7 @@
 //! In order: a shift register with feedback, the longest way; a delay line, with more states but shorter ways; a line with a
 //! clock, in which updates nest deep; alternatives; a ladder of them, in which puts nest deep; the same for a catalogue.
 
-use crate::files::{encode, Table};
+use crate::files::{file_of, Table};
 use crate::inclusions::Parts;
 
 /// The two rows that say of a bit that it is not set, or set.
@@ -33,7 +33,7 @@ pub fn shift_register(forbid: bool) -> Vec<u8> {
     }
     let bits = (0..BITS).map(|k| places[k][START[k]]).collect::<Vec<u8>>();
     let wanted = bits.into_iter().reduce(|l, r| table.both(l, r)).expect("seven bits");
-    encode(b"", &table.rows, &rules, wanted)
+    file_of(&table, &rules, wanted)
 }
 
 fn literals(table: &mut Table, name: u8) -> Bit {
@@ -103,7 +103,7 @@ pub fn delay_line(delay: Delay, forbid: bool) -> Vec<u8> {
     let start = table.some(step, signal);
     let pause = (0..delay.pause).fold(start, |row, _| table.all(step, row));
     let next = table.some(step, pause);
-    encode(b"", &table.rows, &[next, name], name)
+    file_of(&table, &[next, name], name)
 }
 
 /// The lengths of a clocked line.
@@ -144,7 +144,7 @@ pub fn clocked_line(clock: Clock, forbid: bool) -> Vec<u8> {
         (1..clock.period).fold(successor, |row, _| table.all(step, row))
     };
     let (with, without) = (at_tick(signal), at_tick(name));
-    encode(b"", &table.rows, &[name, once, twice, with, without], name)
+    file_of(&table, &[name, once, twice, with, without], name)
 }
 
 /// An element with so many successors along role 0, each of which asks for another name where it comes from. Each name is an
@@ -160,7 +160,7 @@ pub fn alternatives(names: u8) -> Vec<u8> {
         })
         .collect();
     let wanted = successors.into_iter().reduce(|l, r| table.both(l, r)).expect("one name or more");
-    encode(b"", &table.rows, &[], wanted)
+    file_of(&table, &[], wanted)
 }
 
 /// The rungs of a ladder that has 64 rows: 32 nested puts.
@@ -188,7 +188,7 @@ pub fn ladder(rungs: usize, again: bool) -> Vec<u8> {
     };
     let top =
         (0..rungs).rev().fold(lowest, |row, above| table.all(if above % 2 == 0 { inverse } else { forward }, row));
-    encode(b"", &table.rows, &[name, successor, top], name)
+    file_of(&table, &[name, successor, top], name)
 }
 
 /// The rungs of a ladder that has 64 rows [`with_other_name`]: 30 nested puts.

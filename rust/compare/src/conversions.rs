@@ -1,4 +1,4 @@
-//! Checks of a converting function on random drafts (document 02, [1]): what it writes is a rule file of only the rows that are
+//! Checks of a converting function on random drafts (document 02, \[1\]): what it writes is a rule file of only the rows that are
 //! needed, and in random worlds each rule and the wanted row hold where the draft's do. Drafts with kind 7 rows are in
 //! `inclusion_drafts`.
 
@@ -77,7 +77,7 @@ pub(crate) fn check_meaning(draft: &[u8], file: &[u8], shape: Shape, prng: &mut 
 }
 
 /// A world of up to four elements. A name holds at every other element, and one pair of three belongs to a role.
-fn random_world(prng: &mut Prng, shape: Shape) -> World {
+pub fn random_world(prng: &mut Prng, shape: Shape) -> World {
     let size = 1 + prng.below(MOST_ELEMENTS);
     let mut world = World::new(size);
     for d in 0..size {

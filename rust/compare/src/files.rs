@@ -1,48 +1,30 @@
 //! Rule files written row by row.
 
+pub use gumbyra_table::Table;
 pub use plain::concept::Row;
 pub use plain::rulefile::encode;
 
-/// Rows written one after the other, equal rows once; each call gives the number of its row.
-#[derive(Default)]
-pub struct Table {
-    pub rows: Vec<Row>,
+/// What the bytes of a row say.
+///
+/// # Panics
+/// If it is no row.
+pub fn said(row: Row) -> gumbyra_table::Row {
+    gumbyra_table::Row::of_bytes(row).unwrap_or_else(|| panic!("no row: {row:?}"))
 }
 
-impl Table {
-    fn row(&mut self, row: Row) -> u8 {
-        let number = self.rows.iter().position(|&r| r == row).unwrap_or_else(|| {
-            self.rows.push(row);
-            self.rows.len() - 1
-        });
-        u8::try_from(number).expect("a row number of one byte")
-    }
+/// A table of these rows, to which more can be added.
+///
+/// # Panics
+/// If one of them is no row.
+pub fn table_of(rows: &[Row]) -> Table {
+    Table { rows: rows.iter().map(|&row| said(row)).collect(), ..Table::default() }
+}
 
-    pub fn name(&mut self, name: u8) -> u8 {
-        self.row([1, 0, name, 0])
-    }
-
-    pub fn not_name(&mut self, name: u8) -> u8 {
-        self.row([2, 0, name, 0])
-    }
-
-    pub fn both(&mut self, left: u8, right: u8) -> u8 {
-        self.row([3, 0, left, right])
-    }
-
-    pub fn either(&mut self, left: u8, right: u8) -> u8 {
-        self.row([4, 0, left, right])
-    }
-
-    pub fn all(&mut self, role: u8, left: u8) -> u8 {
-        self.row([5, role, left, 0])
-    }
-
-    pub fn some(&mut self, role: u8, left: u8) -> u8 {
-        self.row([6, role, left, 0])
-    }
-
-    pub fn inclusion(&mut self, narrow: u8, wide: u8) -> u8 {
-        self.row([7, narrow, wide, 0])
-    }
+/// The file that a table is with these rules and this wanted row.
+///
+/// # Panics
+/// If the checks refuse it.
+pub fn file_of(table: &Table, rules: &[u8], wanted: u8) -> Vec<u8> {
+    let file = Table { rules: rules.to_vec(), wanted, ..table.clone() }.encode();
+    file.unwrap_or_else(|fault| panic!("no rule file: {fault}"))
 }

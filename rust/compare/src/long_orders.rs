@@ -3,7 +3,7 @@
 //! In order: signals; answers; branches; crowds of alternatives; the first records of a ladder.
 
 use crate::chains::{ladder, RUNGS};
-use crate::files::{encode, Table};
+use crate::files::{file_of, Table};
 use crate::orders::{order, Order};
 use crate::wide::line;
 
@@ -36,7 +36,7 @@ pub fn answers(steps: usize) -> LongRun {
         table.some(forward, both)
     });
     let records = order(&["N", &"NNEE NE NAE NNEE NE".repeat(steps), "NNEE"].concat());
-    LongRun { file: encode(b"", &table.rows, &[], wanted), records }
+    LongRun { file: file_of(&table, &[], wanted), records }
 }
 
 /// Rules: either of two names, so often, at most 21. The root puts a branch, and each branch puts two, one step after the other, until
@@ -51,7 +51,7 @@ pub fn branches(rules: usize) -> LongRun {
         })
         .collect();
     let records = order(&["N NE", &"NE NE".repeat((1 << (rules - 1)) - 1)].concat());
-    LongRun { file: encode(b"", &table.rows, &choices, wanted), records }
+    LongRun { file: file_of(&table, &choices, wanted), records }
 }
 
 /// A kit of so many choices between two names and so many asking successors, with a successor that clashes. It takes a branch for each
@@ -76,7 +76,7 @@ pub fn crowd(choices: usize, asking: usize) -> LongRun {
     let wanted = parts.into_iter().reduce(|l, r| table.both(l, r)).expect("two parts or more");
     let kit = ["N", &"NE".repeat(count), &"NE NE".repeat(last - 1), &"NNEE NNEE".repeat(last)].concat();
     let states = ["NAE".repeat(asking), "NE".to_string()].concat().repeat(2 * last);
-    LongRun { file: encode(b"", &table.rows, &[], wanted), records: order(&(kit + &states)) }
+    LongRun { file: file_of(&table, &[], wanted), records: order(&(kit + &states)) }
 }
 
 /// A ladder (`chains::ladder`) and its first records: each state's successor asks for the next rung but one, until that is the lowest

@@ -1,4 +1,4 @@
-//! Refusal 16 (document 02, [6]): a kind 7 row serves as an argument, a rule or the wanted row. An answering and a converting function by
+//! Refusal 16 (document 02, \[6\]): a kind 7 row serves as an argument, a rule or the wanted row. An answering and a converting function by
 //! hand, with the other checks before it, and on random files and drafts in which one place names such a row.
 
 use crate::drafts::random_draft;
@@ -97,8 +97,7 @@ pub fn check_random(mut answer: impl Answering, mut convert: impl Converting) {
         let file = if is_draft { random_draft(&mut prng, SHAPE) } else { random_file(&mut prng, SHAPE) };
         let right = with_inclusions(&mut prng, &file, SHAPE.roles);
         assert!(matches!(convert(&right, AREA), Ok(_) | Err(12)), "{right:02x?}");
-        let place = prng.below(PLACES.len());
-        let Some(wrong) = misplaced(&mut prng, Parts::of(&right), PLACES[place]) else { continue };
+        let Some((place, wrong)) = with_misplaced(&mut prng, &right) else { continue };
         times[place] += 1;
         assert_eq!(convert(&wrong, prng.below(2 * AREA)), Err(16), "{:?}: {wrong:02x?}", PLACES[place]);
         let has_not_or_if = Parts::of(&wrong).rows.iter().any(|row| row[0] > INCLUSION);
@@ -108,6 +107,13 @@ pub fn check_random(mut answer: impl Answering, mut convert: impl Converting) {
     let counted: Vec<(Place, usize)> = PLACES.into_iter().zip(times).collect();
     println!("places that named a kind 7 row: {counted:?}");
     assert!(times.iter().all(|&times| times >= OFTEN), "{counted:?}");
+}
+
+/// The same file or draft with a kind 7 row named in one place, and which of `PLACES` that is. `None` if there is no such
+/// place.
+pub fn with_misplaced(prng: &mut Prng, right: &[u8]) -> Option<(usize, Vec<u8>)> {
+    let place = prng.below(PLACES.len());
+    misplaced(prng, Parts::of(right), PLACES[place]).map(|wrong| (place, wrong))
 }
 
 /// The same with a kind 7 row named in that place; in a row it has to be a lower one. `None` if there is no such place, or if the row would

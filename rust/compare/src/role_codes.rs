@@ -1,8 +1,8 @@
-//! Role codes turned round (document 02, [5]): an answering function on every pair of codes, against answers worked out by hand, on the
+//! Role codes turned round (document 02, \[5\]): an answering function on every pair of codes, against answers worked out by hand, on the
 //! root's put, whose role no row has, and on random files in which all 32 codes are in use. Code 2k is role k, code 2k + 1 its
 //! inverse; what is turned round is told here by that, and not by a sum or by cases.
 
-use crate::files::{encode, Table};
+use crate::files::{file_of, Table};
 use crate::{check_example, random_file, Answering, Prng, Shape};
 use plain::concept::Concept;
 use plain::evaluate::RoleLink;
@@ -47,7 +47,7 @@ fn check_asked_name(answer: &mut impl Answering, c: u8, d: u8) {
         false => (Used { nodes: 5, edges: 4, alternatives: 0 }, rows(&[all, some])),
     };
     let expected = Answer::Can { used, elements: vec![kit, rows(&[all])], links: vec![(0, u16::from(c), 1)] };
-    let file = encode(b"", &table.rows, &[], some);
+    let file = file_of(&table, &[], some);
     assert_eq!(answer(&file, &Lent::by_program()), expected, "codes {c} and {d}");
 }
 
@@ -58,7 +58,7 @@ fn check_refused_name(answer: &mut impl Answering, c: u8, d: u8) {
     let all = table.all(d, name);
     let some = table.some(c, all);
     let both = table.both(some, not_name);
-    let file = encode(b"", &table.rows, &[], both);
+    let file = file_of(&table, &[], both);
     let given = answer(&file, &Lent::by_program());
     check_example(&file, &given);
     assert_eq!(matches!(given, Answer::Cannot { .. }), opposed(c, d), "codes {c} and {d}: {given:?}");
@@ -69,7 +69,7 @@ fn check_refused_name(answer: &mut impl Answering, c: u8, d: u8) {
 /// them, asks nothing of the root: its special node and its state are the only nodes besides.
 pub fn check_root(mut answer: impl Answering) {
     let mut check = |table: &Table, kit: &[u8]| {
-        let file = encode(b"", &table.rows, kit, kit[0]);
+        let file = file_of(table, kit, kit[0]);
         let used = Used { nodes: 3, edges: 2, alternatives: 0 };
         let expected = Answer::Can { used, elements: vec![rows(kit)], links: Vec::new() };
         assert_eq!(answer(&file, &Lent::by_program()), expected, "{file:02x?}");

@@ -1,9 +1,9 @@
-//! Narrower roles (document 02, [6]): an answering function on small files by hand, on every single kind 7 row against all pairs of "some"
+//! Narrower roles (document 02, \[6\]): an answering function on small files by hand, on every single kind 7 row against all pairs of "some"
 //! and "all", on the longest chain, and on the root's put. What is narrower is told here for each of them by hand.
 //!
 //! Random files are in `inclusion_files`, drafts in `inclusion_drafts`, rows that serve as something in `misplaced_inclusions`.
 
-use crate::files::{encode, Row, Table};
+use crate::files::{encode, file_of, table_of, Row, Table};
 use crate::inclusions::{turned, CODES};
 use crate::{check_example, one_line, Answering, Prng};
 use plain::{Answer, Lent, RowSet, Used};
@@ -164,7 +164,7 @@ fn check_reached(
     code: u8,
     alls: Range<u8>,
 ) {
-    let mut table = Table { rows: inclusions.to_vec() };
+    let mut table = table_of(inclusions);
     let end = table.name(40);
     let kit = table.some(code, end);
     let names: Vec<(u8, u8)> = alls.map(|d| (d, table.name(d))).collect();
@@ -178,7 +178,7 @@ fn check_reached(
     };
     let elements = vec![rows(&[&rules, &[kit], &of_kit]), rows(&[&rules, &[end], &of_end])];
     let expected = Answer::Can { used, elements, links: vec![(0, code.into(), 1)] };
-    let file = encode(b"", &table.rows, &rules, kit);
+    let file = file_of(&table, &rules, kit);
     assert_eq!(answer(&file, &Lent::just(used, 2, 1)), expected, "{inclusions:?}, some along {code}");
 }
 
@@ -209,7 +209,7 @@ pub fn check_single_verdicts(mut answer: impl Answering) {
 fn check_verdict(answer: &mut impl Answering, single: Single, c: u8, d: u8, from_below: bool) -> usize {
     let mut table = Table::default();
     let (name, not_name) = (table.name(0), table.not_name(0));
-    table.inclusion(single.narrow, single.wide);
+    table.within(single.narrow, single.wide);
     let (left, right) = if from_below {
         let all = table.all(d, name);
         (table.some(c, all), not_name)
@@ -217,7 +217,7 @@ fn check_verdict(answer: &mut impl Answering, single: Single, c: u8, d: u8, from
         (table.some(c, name), table.all(d, not_name))
     };
     let both = table.both(left, right);
-    let file = encode(b"", &table.rows, &[], both);
+    let file = file_of(&table, &[], both);
     let given = answer(&file, &Lent::by_program());
     check_example(&file, &given);
     let forbidden = single.has(if from_below { turned(c) } else { c }, d);
@@ -274,13 +274,13 @@ pub fn check_root(mut answer: impl Answering) {
     let mut table = Table::default();
     let circle: Vec<u8> = (0..CODES).step_by(2).chain([1, 0]).collect();
     for step in circle.windows(2) {
-        table.inclusion(step[0], step[1]);
+        table.within(step[0], step[1]);
     }
     let name = table.name(0);
     let alls: Vec<u8> = (0..CODES).map(|code| table.all(code, name)).collect();
     let used = Used { nodes: 3, edges: 2, alternatives: 0 };
     let expected = Answer::Can { used, elements: vec![rows(&[&alls])], links: Vec::new() };
     for &wanted in &alls {
-        assert_eq!(answer(&encode(b"", &table.rows, &alls, wanted), &Lent::just(used, 1, 0)), expected);
+        assert_eq!(answer(&file_of(&table, &alls, wanted), &Lent::just(used, 1, 0)), expected);
     }
 }

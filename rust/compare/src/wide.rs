@@ -5,14 +5,10 @@
 //! A link takes a special node and two edges, and the root's put takes two edges. So in 4,096 edges an example has at most 2,047 links,
 //! and only if no set has to be branched over.
 
-use crate::files::{encode, Table};
+use crate::files::{file_of, Table};
 use crate::inclusions::{long_chain, Parts};
-use plain::text;
 
 const MOST_ROWS: usize = 64;
-/// The place of the number of rows, from a file's end.
-const ROWS_FROM_END: usize = 6;
-const TRAILER: usize = 8;
 
 /// Each element has two successors along role 0, one of them with a new signal, and so many others along roles 1 to 15, at most 45. The
 /// set of a state tells at which of so many places there is a signal: two to the power of `places` elements.
@@ -22,7 +18,7 @@ pub fn line(places: usize, others: u8) -> Vec<u8> {
     let start = (1..places).fold(end, |row, _| table.all(0, row));
     let mut rules = vec![name, table.some(0, start), table.some(0, name)];
     rules.extend((0..others).map(|k| table.some(2 + 2 * (k % 15), [name, end, start][usize::from(k / 15)])));
-    encode(b"", &table.rows, &rules, name)
+    file_of(&table, &rules, name)
 }
 
 /// Each element has a successor along role 0 and, so many steps after one without a signal, a second one in which a signal starts. It
@@ -34,15 +30,13 @@ fn line_with_pause(places: usize, pause: usize) -> Vec<u8> {
     let start = table.some(0, signal);
     let later = (0..pause).fold(start, |row, _| table.all(0, row));
     let next = table.some(0, later);
-    encode(b"", &table.rows, &[name, next], name)
+    file_of(&table, &[name, next], name)
 }
 
 /// The same file, with rows that nothing needs until it has so many: "some" and "all" along role 0, role 1 and their inverses, about all
 /// lower rows by turns.
 fn padded(file: &[u8], most: usize) -> Vec<u8> {
-    let (text, count) = (text(file), usize::from(file[file.len() - ROWS_FROM_END]));
-    let (rows, rest) = file[text.len()..].split_at(4 * count);
-    let mut table = Table { rows: rows.as_chunks().0.to_vec() };
+    let mut table = Table::read(file).expect("a rule file");
     for step in 0u8.. {
         if table.rows.len() == most {
             break;
@@ -54,8 +48,7 @@ fn padded(file: &[u8], most: usize) -> Vec<u8> {
             table.some(step % 4, argument);
         }
     }
-    let (rules, trailer) = rest.split_at(rest.len() - TRAILER);
-    encode(text, &table.rows, rules, trailer[4])
+    table.encode().expect("a rule file")
 }
 
 /// The lines. Their examples have 1,221 elements and 2,031 links; 512 and 1,536; 256 and 1,792; 128 and 1,920; 64 and 1,984.

@@ -2,7 +2,7 @@
 //! from 0.
 
 use compare::cases;
-use compare::files::{encode, Table};
+use compare::files::{file_of, Table};
 use plain::graph::{Alternative, Graph, Link};
 use plain::row_set::RowSet;
 use plain::status::Status;
@@ -19,7 +19,7 @@ fn file() -> Vec<u8> {
     let some = table.some(forward, twice);
     let some_some = table.some(forward, some);
     let wanted = table.both(not_a, some_some);
-    encode(b"", &table.rows, &[not_a], wanted)
+    file_of(&table, &[not_a], wanted)
 }
 
 fn graph() -> Graph {
