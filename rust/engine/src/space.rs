@@ -64,8 +64,8 @@ impl Sizes {
     pub const USUAL: Sizes = Sizes { nodes: 1024, edges: 4096, alternatives: 4096, elements: 1024, links: 8192 };
 
     /// The most that can be of use: [`MOST_RECORDS`] of each. Of more in a work area no more count. An element of an
-    /// example is a node of the run, each a different one, and a link an edge, so there are no more of these either. In
-    /// these sizes refusal 11 never comes.
+    /// example is a node of the run, each a different one, and a link an edge, so there are no more of these either: in
+    /// these sizes refusal 11 never comes. (The last is an argument, and tested; it is not proved.)
     pub const MOST: Sizes = Sizes {
         nodes: MOST_RECORDS,
         edges: MOST_RECORDS,
