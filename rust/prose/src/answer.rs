@@ -57,11 +57,10 @@ fn can(counts: &[usize], rest: &[&str]) -> Result<Answer, String> {
 
 /// `USED` and three numbers.
 fn used(line: &str, at: usize) -> Result<Used, String> {
-    let words: Vec<&str> = line.split(' ').collect();
-    match (words[0], numbers(&words[1..], at)?.as_slice()) {
-        ("USED", &[nodes, edges, alternatives]) => Ok(Used { nodes, edges, alternatives }),
-        _ => Err(format!("line {at} is not USED and three numbers")),
-    }
+    let wrong = || format!("line {at} is not USED and three numbers");
+    let words: Vec<&str> = line.strip_prefix("USED ").ok_or_else(wrong)?.split(' ').collect();
+    let &[nodes, edges, alternatives] = numbers(&words, at)?.as_slice() else { return Err(wrong()) };
+    Ok(Used { nodes, edges, alternatives })
 }
 
 /// `E`, its number, its rows as 16 hexadecimal digits.
@@ -74,12 +73,10 @@ fn element(line: &str, number: usize) -> Result<u64, String> {
 
 /// `L`, from, role code, to.
 fn link(line: &str, at: usize) -> Result<Link, String> {
-    let words: Vec<&str> = line.split(' ').collect();
-    let wrong = || format!("line {at} is not L and three numbers");
-    match (words[0], numbers(&words[1..], at)?.as_slice()) {
-        ("L", &[from, role, to]) => Ok(Link { from, role: u8::try_from(role).map_err(|_| wrong())?, to }),
-        _ => Err(wrong()),
-    }
+    let wrong = || format!("line {at} is not L, an element, a role code and an element");
+    let words: Vec<&str> = line.strip_prefix("L ").ok_or_else(wrong)?.split(' ').collect();
+    let &[from, role, to] = numbers(&words, at)?.as_slice() else { return Err(wrong()) };
+    Ok(Link { from, role: u8::try_from(role).map_err(|_| wrong())?, to })
 }
 
 /// `REFUSED`, its number, the numbers that come with it; the sentence may follow, behind a colon.

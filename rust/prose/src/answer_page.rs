@@ -1,9 +1,10 @@
 //! An answer in words: the verdict, the parts of the example, and what the run took.
 //!
-//! Of a part are told its names; what is asked of it; and the rows that can't be seen from names and links. So nothing is told of rules,
-//! which are true everywhere; of "both" and "either", since the rows that they name are told or seen; of "not" a name that is a noun; of
-//! "all" where the role leads nowhere and no rule depends on it; of "some" name where a link shows it. Rows that neither a rule nor the wanted row needs are
-//! questions: they are answered with yes and no.
+//! Of a part are told its names; what is asked of it; and the rows that can't be seen from names and links. So nothing
+//! is told of rules, which are true everywhere; of "both" and "either", since the rows that they name are told or seen;
+//! of "not" a name that is a noun; of "all" where the role leads nowhere and no rule depends on it; of "some" name
+//! where a link shows it. Rows that neither a rule nor the wanted row needs are questions: they are answered with yes
+//! and no.
 
 use crate::answer::Answer;
 use crate::assembly::Parts;
@@ -11,8 +12,8 @@ use crate::phrases::{count, link, Said};
 use crate::wording::Wording;
 use gumbyra::{Row, Table, Used};
 
-/// A verdict on a rule file in words; else a sentence that says why it does not belong to the file. A refusal is told by
-/// [`refused`](crate::refused).
+/// A verdict on a rule file in words; else a sentence that says why it does not belong to the file. A refusal is told
+/// by [`refused`](crate::refused).
 pub fn page(table: &Table, wording: &Wording, answer: &Answer) -> Result<String, String> {
     let wanted = wording.row(table.wanted);
     let (verdict, used) = match answer {
@@ -38,7 +39,7 @@ pub fn page(table: &Table, wording: &Wording, answer: &Answer) -> Result<String,
 
 /// A part: its names, then a line for each row that is told, for each link, and for what is asked.
 fn told(parts: &Parts, wording: &Wording, part: usize, needed: u64) -> String {
-    let names: Vec<String> = parts.names(part).iter().map(|&name| wording.name(name).is()).collect();
+    let names: Vec<String> = parts.names[part].iter().map(|&name| wording.name(name).is()).collect();
     let names = if names.is_empty() { "has none of the names".to_string() } else { names.join(", ") };
     let questions = questions(parts.table);
     let rows = (0u8..).zip(&parts.table.rows).filter(|(row, _)| !questions.contains(row));
@@ -82,7 +83,8 @@ fn is_told(parts: &Parts, wording: &Wording, part: usize, needed: u64, row: u8, 
         }
 }
 
-/// Does a link of the part show that its role leads to some part with a name? Of other rows, and of wider roles, links show nothing.
+/// Does a link of the part show that its role leads to some part with a name? Of other rows, and of wider roles, links
+/// show nothing.
 fn is_shown(parts: &Parts, part: usize, role: u8, row: u8) -> bool {
     let is_name = matches!(parts.table.rows[usize::from(row)], Row::Name(_));
     is_name && parts.links[part].iter().any(|&(code, to)| code == role && parts.assembly.holds(to, row))
@@ -90,7 +92,7 @@ fn is_shown(parts: &Parts, part: usize, role: u8, row: u8) -> bool {
 
 /// "is fitted to part 0 (a dosing pump)".
 fn told_link(parts: &Parts, wording: &Wording, role: u8, to: usize) -> String {
-    let names: Vec<String> = parts.names(to).iter().map(|&name| wording.name(name).remark()).collect();
+    let names: Vec<String> = parts.names[to].iter().map(|&name| wording.name(name).remark()).collect();
     let other = if names.is_empty() { format!("part {to}") } else { format!("part {to} ({})", names.join(", ")) };
     match (wording.role(role), wording.role(role ^ 1)) {
         (Some(words), _) => link(words, &other),

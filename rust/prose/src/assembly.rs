@@ -34,13 +34,15 @@ pub struct Parts<'a> {
     pub assembly: &'a Assembly,
     /// For each part the role codes that lead from it, and where to: each link once, seen from both ends, in order.
     pub links: Vec<Vec<(u8, usize)>>,
+    /// The names that each part has, rising.
+    pub names: Vec<Vec<u8>>,
     /// For each role code those that it is within, itself too, as bits.
     wider: Vec<u32>,
 }
 
 impl<'a> Parts<'a> {
-    /// The assembly, if it belongs to the rule file: each row is listed exactly where it is true, and the rules and the wanted row are
-    /// true where they have to be. Else a sentence that says what does not.
+    /// The assembly, if it belongs to the rule file: each row is listed exactly where it is true, and the rules and the
+    /// wanted row are true where they have to be. Else a sentence that says what does not.
     pub fn of(table: &'a Table, assembly: &'a Assembly) -> Result<Parts<'a>, String> {
         let parts = assembly.elements.len();
         let rows = table.rows.len();
@@ -52,7 +54,8 @@ impl<'a> Parts<'a> {
             let Link { from, role, to } = link;
             return Err(format!("link {from} {role} {to} names an element or a role code that is not there"));
         }
-        let all = Parts { table, assembly, links: seen_links(assembly), wider: wider(table) };
+        let names = names_of(table, assembly);
+        let all = Parts { table, assembly, links: seen_links(assembly), names, wider: wider(table) };
         match (0..parts).find_map(|part| all.false_row(part).map(|row| (part, row))) {
             Some((part, row)) => {
                 Err(format!("by the file row {row} is {} element {part}", all.not_as_listed(part, row)))
@@ -67,7 +70,8 @@ impl<'a> Parts<'a> {
         self.links[part].iter().filter(within).map(|&(_, to)| to)
     }
 
-    /// The first row that is listed at a part and not true there, or the other way; also a rule, or at part 0 the wanted row.
+    /// The first row that is listed at a part and not true there, or the other way; also a rule, or at part 0 the
+    /// wanted row.
     fn false_row(&self, part: usize) -> Option<u8> {
         let numbered = (0u8..).zip(&self.table.rows);
         let mut wrong =
@@ -101,8 +105,9 @@ impl<'a> Parts<'a> {
         })
     }
 
-    /// For each part, as bits, the rows on which it depends there that the rules and the wanted row are true: both of a "both", the only one
-    /// that is true of an "either", what an "all" leads to. Rows name lower ones, so one way down finds them all.
+    /// For each part, as bits, the rows on which it depends there that the rules and the wanted row are true: both of a
+    /// "both", the only one that is true of an "either", what an "all" leads to. Rows name lower ones, so one way down
+    /// finds them all.
     pub fn needed(&self) -> Vec<u64> {
         let bit = |row: u8| 1u64 << row;
         let rules = self.table.rules.iter().fold(0, |bits, &rule| bits | bit(rule));
@@ -130,17 +135,21 @@ impl<'a> Parts<'a> {
             _ => {}
         }
     }
+}
 
-    /// The names that a part has, rising: a name without a row of its own is there where the row that denies it is not.
-    pub fn names(&self, part: usize) -> Vec<u8> {
-        let holds = |row: u8| self.assembly.holds(part, row);
-        let has = |name: &u8| match (self.table.row_of_name(*name), self.table.row_of_not_name(*name)) {
-            (Some(row), _) => holds(row),
-            (None, Some(row)) => !holds(row),
-            (None, None) => false,
-        };
-        (0..64).filter(has).collect()
-    }
+/// The names that each part has: a name without a row of its own is there where the row that denies it is not.
+fn names_of(table: &Table, assembly: &Assembly) -> Vec<Vec<u8>> {
+    let rows: Vec<(u8, u8, bool)> = (0..64)
+        .filter_map(|name| {
+            let own = table.row_of_name(name).map(|row| (name, row, true));
+            own.or_else(|| table.row_of_not_name(name).map(|row| (name, row, false)))
+        })
+        .collect();
+    let names = |part: usize| {
+        let there = rows.iter().filter(|&&(_, row, says)| assembly.holds(part, row) == says);
+        there.map(|&(name, _, _)| name).collect()
+    };
+    (0..assembly.elements.len()).map(names).collect()
 }
 
 /// Each part's links, from both ends and each once: `L 1 3 3` and `L 3 2 1` are one.

@@ -1,11 +1,11 @@
-//! Words for each row of a table, composed of its bytes with the words of names and roles: `is a pump and (some "has fitted to it": is a
-//! roller head)`.
+//! Words for each row of a table, composed of its bytes with the words of names and roles: `is a pump and (some "has
+//! fitted to it": is a roller head)`.
 
 use crate::phrases::Said;
 use gumbyra::{Row, Table};
 
-/// Words longer than this stand in no other words: the row's number stands there instead. So the words of 64 rows stay short, though a row
-/// may name the one before it twice.
+/// Words longer than this stand in no other words: the row's number stands there instead. So the words of 64 rows stay
+/// short, though a row may name the one before it twice.
 const LONGEST: usize = 100;
 
 /// The composed words of each row, in order. The table is one that was read: a row names lower rows only.

@@ -19,7 +19,8 @@ impl fmt::Display for Kind {
     }
 }
 
-/// A file that passes the checks of a rule file is one. Else one with a row of kind 8 or 9 is a draft, and passes a draft's checks or not.
+/// A file that passes the checks of a rule file is one. Else one with a row of kind 8 or 9 is a draft, and passes a
+/// draft's checks or not.
 pub fn judge(file: &[u8]) -> Result<(Kind, Table), (Kind, Fault)> {
     let fault = match Table::read(file) {
         Ok(table) => return Ok((Kind::RuleFile, table)),

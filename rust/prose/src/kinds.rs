@@ -17,8 +17,8 @@ pub struct Known<'a> {
 }
 
 impl Known<'_> {
-    /// The sentence, with the end of its line; nothing if nothing is to be said. Of what cannot exist "every" is true of whatever is said,
-    /// and no page should say it.
+    /// The sentence, with the end of its line; nothing if nothing is to be said. Of what cannot exist "every" is true
+    /// of whatever is said, and no page should say it.
     pub fn sentence(&self) -> String {
         let one = self.kind.one();
         if self.can_exist == Some(false) {
@@ -29,9 +29,9 @@ impl Known<'_> {
             ([], Some(_)) if self.undecided.is_empty() => {
                 format!("It is not decided whether there can be {}.\n", with_article(&one))
             }
-            ([], Some(open)) => format!("Of every {one} {open}.\n"),
+            ([], Some(open)) => format!("Undecided of every {one}: {open}.\n"),
             (always, None) => format!("Every {one} {}.\n", said(always, "and")),
-            (always, Some(open)) => format!("Every {one} {}; {open}.\n", said(always, "and")),
+            (always, Some(open)) => format!("Every {one} {}; undecided: {open}.\n", said(always, "and")),
         }
     }
 
@@ -45,9 +45,9 @@ impl Known<'_> {
         let exists = self.can_exist.is_none();
         match (kinds, exists) {
             (None, false) => None,
-            (None, true) => Some("it is not decided whether there can be one".to_string()),
-            (Some(kinds), false) => Some(format!("it is not decided {kinds}")),
-            (Some(kinds), true) => Some(format!("it is not decided {kinds}, nor whether there can be one")),
+            (None, true) => Some("whether there can be one".to_string()),
+            (Some(kinds), false) => Some(kinds),
+            (Some(kinds), true) => Some(format!("{kinds}, and whether there can be one")),
         }
     }
 }
@@ -89,14 +89,13 @@ mod tests {
             sentence(&proof, &[], &[], open),
             "It is not decided whether there can be a part that is acid-proof."
         );
-        let one = "Every acid pump is a pump; it is not decided whether it is a box or is acid-proof.";
+        let one = "Every acid pump is a pump; undecided: whether it is a box or is acid-proof.";
         assert_eq!(sentence(&acid, &[&pump], &[&box_, &proof], yes), one);
-        let many =
-            "Every acid pump is a pump; it is not decided which of 3 other kinds it is, nor whether there can be one.";
+        let many = "Every acid pump is a pump; undecided: which of 3 other kinds it is, and whether there can be one.";
         assert_eq!(sentence(&acid, &[&pump], &[&box_, &proof, &seals], open), many);
-        let nothing = "Of every acid pump it is not decided whether it is a pump or a box.";
+        let nothing = "Undecided of every acid pump: whether it is a pump or a box.";
         assert_eq!(sentence(&acid, &[], &[&pump, &box_], yes), nothing);
-        let last = "Every acid pump is a pump; it is not decided whether there can be one.";
+        let last = "Every acid pump is a pump; undecided: whether there can be one.";
         assert_eq!(sentence(&acid, &[&pump], &[], open), last);
     }
 }

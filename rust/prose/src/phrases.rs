@@ -18,14 +18,14 @@ impl Said {
         noun.map_or_else(|| Said::Phrase(words.to_string()), |noun| Said::Noun(noun.to_string()))
     }
 
-    /// By the words of a row that says that a part hasn't the name; `None` if they don't show it.
-    pub fn of_opposite(words: &str) -> Option<Said> {
-        let noun = words.strip_prefix("is no ").map(|noun| Said::Noun(noun.to_string()));
-        let phrase = || {
-            let is = words.strip_prefix("is not ").map(|rest| format!("is {rest}"));
-            is.or_else(|| words.strip_prefix("has no ").map(|rest| format!("has {rest}")))
-        };
-        noun.or_else(|| phrase().map(|phrase| Said::of_row(&phrase)))
+    /// By the words of a row that says that a part hasn't the name: "is no dosing pump" has a noun too.
+    pub fn of_opposite(words: &str) -> Said {
+        if let Some(noun) = words.strip_prefix("is no ") {
+            return Said::Noun(noun.to_string());
+        }
+        let is = words.strip_prefix("is not ").map(|rest| format!("is {rest}"));
+        let phrase = is.or_else(|| words.strip_prefix("has no ").map(|rest| format!("has {rest}")));
+        phrase.map_or_else(|| Said::Phrase(format!("not: {words}")), |phrase| Said::of_row(&phrase))
     }
 
     /// "is a dosing pump", "is acid-proof", "has name 5".
@@ -90,7 +90,7 @@ pub fn opposites(words: &str) -> Vec<String> {
     if let Some(rest) = words.strip_prefix("has ") {
         return vec![format!("has no {rest}")];
     }
-    vec![format!("not: {words}")]
+    vec![words.strip_prefix("not: ").map_or_else(|| format!("not: {words}"), str::to_string)]
 }
 
 /// A link in words: "is fitted to part 1", "has part 3 fitted to it".
@@ -132,8 +132,9 @@ mod tests {
         let seals = Said::of_row("has rubber seals");
         assert_eq!([seals.is_not(), seals.one()], ["has no rubber seals", "part that has rubber seals"]);
         let of_opposites = ["is no acid pump", "is not acid-proof", "has no rubber seals"].map(Said::of_opposite);
-        assert_eq!(of_opposites, [acid_pump, proof, seals].map(Some));
-        assert_eq!([Said::of_opposite("holds no water"), Said::of_opposite("is a pump")], [None, None]);
+        assert_eq!(of_opposites, [acid_pump, proof, seals]);
+        let dry = Said::of_opposite("holds no water");
+        assert_eq!([dry.is(), dry.is_not()], ["not: holds no water", "holds no water"]);
         let other = Said::of_row("holds water");
         assert_eq!([other.is_not(), other.remark()], ["not: holds water", "holds water"]);
         assert_eq!([Said::Number(5).is(), Said::Number(5).is_not()], ["has name 5", "hasn't name 5"]);

@@ -29,12 +29,13 @@ pub fn answer(file: &[u8], text: &[u8]) -> Ending {
         return refusal_of(file, refusal).map_or_else(stranger, Ending::Refused);
     }
     match Subject::of(file) {
-        Ok(subject) => subject.page(&answer).map_or_else(stranger, Ending::Shown),
+        Ok(subject) => subject.page_or_converted(file, &answer).map_or_else(stranger, Ending::Shown),
         Err((refusal, _)) => stranger(format!("the file gets refusal {}", refusal.number())),
     }
 }
 
-/// Decides a rule file, or what a draft becomes, and shows the answer. Areas that are short are enlarged as far as that helps.
+/// Decides a rule file, or what a draft becomes, and shows the answer. Areas that are short are enlarged as far as that
+/// helps.
 pub fn fit(file: &[u8]) -> Ending {
     let subject = match Subject::of(file) {
         Ok(subject) => subject,
@@ -97,12 +98,21 @@ impl Subject {
         Ok(Subject { file, table, wording })
     }
 
+    /// The page of an answer to this file; or to what becomes of it, since a draft may do without "not" and "if".
+    fn page_or_converted(&self, file: &[u8], answer: &Answer) -> Result<String, String> {
+        self.page(answer).or_else(|why| {
+            let converted = Subject::of_draft(file, &self.table).ok();
+            converted.and_then(|subject| subject.page(answer).ok()).ok_or(why)
+        })
+    }
+
     fn page(&self, answer: &Answer) -> Result<String, String> {
         answer_page::page(&self.table, &self.wording, answer)
     }
 }
 
-/// The lines of a refusal that `./fit` or `./convert` printed for a file, or `./fit` for what a draft becomes; else why it can't be.
+/// The lines of a refusal that `./fit` or `./convert` printed for a file, or `./fit` for what a draft becomes; else why
+/// it can't be.
 fn refusal_of(file: &[u8], refusal: &Refusal) -> Result<String, String> {
     let fault = Table::read(file).err().map(|fault| (Kind::RuleFile, fault));
     let faults = fault.into_iter().chain(judge(file).err());

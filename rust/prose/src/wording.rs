@@ -1,4 +1,5 @@
-//! Words for the names, role codes and rows of a rule file or a draft: those of its text where they may be used, else composed ones.
+//! Words for the names, role codes and rows of a rule file or a draft: those of its text where they may be used, else
+//! composed ones.
 
 use crate::composed::composed;
 use crate::phrases::Said;
@@ -29,7 +30,7 @@ impl Wording {
             Some(_) => None,
         };
         let names: Vec<Said> = (0..NAMES).map(|name| said(table, &words, list.as_deref(), name)).collect();
-        let roles: Vec<Option<String>> = (0..ROLE_CODES).map(|code| words.role(code).map(clean)).collect();
+        let roles: Vec<Option<String>> = (0..ROLE_CODES).map(|code| words.role(code).and_then(told)).collect();
         let composed = composed(table, &|name| names[usize::from(name)].clone(), &|code| quoted(&roles, code));
         let rows = match list {
             Some(list) => list
@@ -43,7 +44,8 @@ impl Wording {
         Wording { title: clean(words.title()), names, roles, rows, source: source(table, &words, doubt) }
     }
 
-    /// For the rule file that a draft becomes: each row has the words of the draft's row that it stands for, or "not:" before them.
+    /// For the rule file that a draft becomes: each row has the words of the draft's row that it stands for, or "not:"
+    /// before them.
     pub fn of_converted(draft: &Table, file: &Table, origins: &[Vec<Origin>]) -> Wording {
         let of_draft = Wording::of(draft);
         let rows = file.rows.iter().zip(origins).map(|(&row, stands_for)| of_draft.origin(draft, row, stands_for));
@@ -92,8 +94,8 @@ impl Wording {
     }
 }
 
-/// The lists that belong to the table, and what speaks against its list of rows. In a draft a list that is headed as a rule file's is the
-/// draft's own.
+/// The lists that belong to the table, and what speaks against its list of rows. In a draft a list that is headed as a
+/// rule file's is the draft's own.
 fn lists_of(table: &Table, words: &Words) -> (Lists, Option<String>) {
     let of_draft = table.is_draft() && Lists::OfDraft.has_rows(words);
     let lists = if of_draft { Lists::OfDraft } else { Lists::OfFile };
@@ -103,16 +105,18 @@ fn lists_of(table: &Table, words: &Words) -> (Lists, Option<String>) {
 fn source(table: &Table, words: &Words, doubt: Option<String>) -> String {
     let Some(doubt) = doubt else { return "The words of the rows are those of the text.".to_string() };
     if !table.is_draft() && Lists::OfDraft.has_rows(words) && !Lists::OfFile.has_rows(words) {
-        return "The words of the rows are composed: those of the text are for the rows of a draft, and ./show of the draft has them.".to_string();
+        let why = "those of the text are for the rows of a draft, and ./show of the draft has them";
+        return format!("The words of the rows are composed: {why}.");
     }
     format!("The words of the rows are composed: {doubt}.")
 }
 
-/// How a name is said: by the list of names; by the words of its row, if they say the same or the list has none; by its number.
+/// How a name is said: by the list of names; by the words of its row, if they say the same or the list has none; by its
+/// number.
 fn said(table: &Table, words: &Words, list: Option<&[String]>, name: u8) -> Said {
     let listed = |row: Option<u8>| row.and_then(|row| list?.get(usize::from(row)));
-    let of_opposite = || listed(table.row_of_not_name(name)).and_then(|words| Said::of_opposite(words));
-    match (words.name(name).map(clean), listed(table.row_of_name(name))) {
+    let of_opposite = || listed(table.row_of_not_name(name)).map(|words| Said::of_opposite(words));
+    match (words.name(name).and_then(told), listed(table.row_of_name(name))) {
         (Some(noun), Some(row)) if says_name(row, &noun) => Said::of_row(row),
         (Some(noun), _) => Said::Noun(noun),
         (None, Some(row)) => Said::of_row(row),
@@ -123,7 +127,7 @@ fn said(table: &Table, words: &Words, list: Option<&[String]>, name: u8) -> Said
 /// The words of a row in a table that has a list: of a name those of the list of names, if there are.
 fn preferred(words: &Words, row: Row, listed: &str, composed: &str) -> String {
     match row {
-        Row::Name(name) if words.name(name).is_some() => composed.to_string(),
+        Row::Name(name) if words.name(name).and_then(told).is_some() => composed.to_string(),
         _ => listed.to_string(),
     }
 }
@@ -138,7 +142,12 @@ fn quoted(roles: &[Option<String>], code: u8) -> String {
     }
 }
 
+/// The words, if there are any.
+fn told(words: &str) -> Option<String> {
+    Some(clean(words)).filter(|words| !words.is_empty())
+}
+
 /// Words without what a terminal would take for commands.
 fn clean(words: &str) -> String {
-    words.chars().map(|c| if c.is_control() { ' ' } else { c }).collect::<String>().trim_end().to_string()
+    words.chars().map(|c| if c.is_control() { ' ' } else { c }).collect::<String>().trim().to_string()
 }

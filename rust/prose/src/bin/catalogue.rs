@@ -1,4 +1,5 @@
-//! Prints the catalogue page of a rule file: `catalogue FILE [NODES [EDGES [ALTERNATIVES]]]`. `./catalogue` builds and calls it.
+//! Prints the catalogue page of a rule file: `catalogue FILE [NODES [EDGES [ALTERNATIVES]]]`. `./catalogue` builds and
+//! calls it.
 
 use gumbyra::{Sizes, MOST_RECORDS};
 use prose::catalogue_page::page;

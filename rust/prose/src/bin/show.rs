@@ -1,4 +1,5 @@
-//! Shows a rule file, a draft or an answer in words: `show FILE`, `show FILE ANSWER`, `show --fit FILE`. `./show` builds and calls it.
+//! Shows a rule file, a draft or an answer in words: `show FILE`, `show FILE ANSWER`, `show --fit FILE`. `./show`
+//! builds and calls it.
 
 use prose::command::{read, words, Ending};
 use prose::showing;
