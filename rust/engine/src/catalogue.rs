@@ -1,15 +1,15 @@
-//! The catalogue page of kinds, from the numbers of its call and the bytes of its table (document 02, [7]).
+//! The catalogue page of kinds, from the numbers of its call and the bytes of its table.
 
 use crate::convention::Page;
 use crate::names::Names;
 use crate::refusal::Refusal;
 
-/// The most names of a catalogue: there are names 0 to 63, and each is listed once. So many are enough for every table of this engine, and
-/// of one that takes more rows.
+/// The most names of a catalogue: there are names 0 to 63, and each is listed once. So many are enough for every table
+/// of this engine, and of one that takes more rows.
 pub const MOST_NAMES: usize = 64;
 
-/// The most entries of a table, a byte each. An area of so many bytes is enough for every table of this engine, and of one that takes more
-/// rows.
+/// The most entries of a table, a byte each. An area of so many bytes is enough for every table of this engine, and of
+/// one that takes more rows.
 pub const LARGEST_TABLE: usize = MOST_NAMES * MOST_NAMES;
 
 /// Is every part with the one name a part with the other? An entry of the table.
@@ -35,8 +35,8 @@ impl IsA {
     }
 }
 
-/// The names of a rule file that have both a kind 1 and a kind 2 row, and for each two of them whether every part with the one name is a
-/// part with the other. It borrows the area that holds the table.
+/// The names of a rule file that have both a kind 1 and a kind 2 row, and for each two of them whether every part with
+/// the one name is a part with the other. It borrows the area that holds the table.
 #[derive(Clone, Copy, Debug, PartialEq, Eq)]
 pub struct Catalogue<'a> {
     names: Names,
@@ -56,16 +56,17 @@ impl<'a> Catalogue<'a> {
 
     /// Is every `a` a `b`? `None` if one of them is no name that is listed.
     ///
-    /// Of a name that nothing can have each entry that is decided is [`IsA::Always`]: none of these parts isn't a `b`, since there are
-    /// none.
+    /// Of a name that nothing can have each entry that is decided is [`IsA::Always`]: none of these parts isn't a `b`,
+    /// since there are none.
     pub fn is_a(&self, a: u8, b: u8) -> Option<IsA> {
         let (row, column) = (self.names.place(a)?, self.names.place(b)?);
         IsA::of_byte(self.table[row * self.names.len() + column])
     }
 }
 
-/// The catalogue that a page tells, or its refusal, with the table's area as it is after the call. `None` if it is no answer of the
-/// engine: each refusal gives its number and zeros elsewhere, and 17 comes in no area of [`LARGEST_TABLE`] bytes.
+/// The catalogue that a page tells, or its refusal, with the table's area as it is after the call. `None` if it is no
+/// answer of the catalogue: each refusal gives its number and zeros elsewhere, and 17 comes in no area of
+/// [`LARGEST_TABLE`] bytes.
 pub(crate) fn outcome<'a>(page: &Page, area: &'a [u8]) -> Option<Result<Catalogue<'a>, Refusal>> {
     let names = Names::of_bits(page.names);
     if names.len() != page.count as usize {

@@ -1,6 +1,7 @@
-//! The calls by the C convention, as in include/gumbyra.h. The only unsafe code.
+//! The calls by the C convention, as in gumbyra.h. The only unsafe code.
 
 use crate::{Areas, WorkAreas};
+use std::ffi::{c_char, CStr};
 
 /// The numbers of an answer.
 #[repr(C)]
@@ -84,12 +85,16 @@ extern "C" {
     fn gumbyra_text_wanted(file: *const u8, file_len: usize, wanted: *const u8, wanted_len: usize) -> usize;
 
     fn gumbyra_convert(draft: *const u8, draft_len: usize, area: *mut u8, area_len: usize) -> Conversion;
+
+    fn gumbyra_version() -> u32;
+
+    fn gumbyra_sentence(refusal: u32) -> *const c_char;
 }
 
 /// Decides a rule file.
 pub fn fit(file: &[u8], areas: &mut Areas) -> Answer {
-    // SAFETY: each pointer comes with the length of its slice. The slices are borrowed until the call ends, the areas alone,
-    // so no two overlap. The engine keeps no pointer and has no state of its own.
+    // SAFETY: each pointer comes with the length of its slice. The slices are borrowed until the call ends, the areas
+    // alone, so no two overlap. The engine keeps no pointer and has no state of its own.
     unsafe {
         gumbyra_fit(
             file.as_ptr(),
@@ -133,8 +138,8 @@ pub fn fit_wanted(file: &[u8], wanted: &[u8], areas: &mut Areas) -> Answer {
 
 /// Fills the table of a rule file's kinds.
 pub fn catalogue(file: &[u8], work: WorkAreas, table: &mut [u8]) -> Page {
-    // SAFETY: each pointer comes with the length of its slice. The slices are borrowed until the call ends, the areas alone,
-    // so no two overlap. The catalogue keeps no pointer and has no state of its own.
+    // SAFETY: each pointer comes with the length of its slice. The slices are borrowed until the call ends, the areas
+    // alone, so no two overlap. The catalogue keeps no pointer and has no state of its own.
     unsafe {
         gumbyra_catalogue(
             file.as_ptr(),
@@ -165,7 +170,20 @@ pub fn text_wanted_len(file: &[u8], wanted: &[u8]) -> usize {
 
 /// Converts a draft.
 pub fn convert(draft: &[u8], area: &mut [u8]) -> Conversion {
-    // SAFETY: each pointer comes with the length of its slice. The area is borrowed alone, so the two do not overlap, and the
-    // converter keeps no pointer.
+    // SAFETY: each pointer comes with the length of its slice. The area is borrowed alone, so the two do not overlap,
+    // and the converter keeps no pointer.
     unsafe { gumbyra_convert(draft.as_ptr(), draft.len(), area.as_mut_ptr(), area.len()) }
+}
+
+/// The library's version.
+pub fn version() -> u32 {
+    // SAFETY: the call reads nothing but a constant.
+    unsafe { gumbyra_version() }
+}
+
+/// The library's sentence for a refusal.
+pub fn sentence(refusal: u32) -> &'static str {
+    // SAFETY: for every number there is a string that ends in a zero and lasts as long as the program.
+    let sentence = unsafe { CStr::from_ptr(gumbyra_sentence(refusal)) };
+    sentence.to_str().expect("a sentence in UTF-8")
 }

@@ -1,4 +1,4 @@
-//! What the converter gives back, from the numbers of its call (document 02, [1]).
+//! What the converter gives back, from the numbers of its call.
 
 use crate::convention::Conversion;
 use crate::refusal::Refusal;
@@ -6,8 +6,8 @@ use crate::refusal::Refusal;
 /// The most bytes of a rule file. An area of so many suffices for every conversion.
 pub const LONGEST_FILE: usize = 4096;
 
-/// The file that a conversion wrote, or its refusal, with the area as it is after the call. `None` if it is no answer of the
-/// converter.
+/// The file that a conversion wrote, or its refusal, with the area as it is after the call. `None` if it is no answer
+/// of the converter.
 pub(crate) fn outcome<'a>(conversion: &Conversion, area: &'a [u8]) -> Option<Result<&'a [u8], Refusal>> {
     match (conversion.refusal, conversion.length as usize) {
         (0, length @ 1..=LONGEST_FILE) => area.get(..length).map(Ok),

@@ -1,4 +1,5 @@
-//! The fit engine for order programs: is there an assembly that obeys every rule of a rule file and has a member of the kit?
+//! The fit engine for order programs: is there an assembly that obeys every rule of a rule file and has a member of the
+//! kit?
 //!
 //! ```
 //! use gumbyra::{Space, Verdict};
@@ -14,37 +15,45 @@
 //! }
 //! ```
 //!
-//! In order: the calls ([`fit`](fit()), [`fit_wanted`], [`catalogue`](catalogue()), [`text`], [`text_wanted`] and [`convert`], which makes
-//! a rule file of a draft with "not" and "if"), the space that they work in ([`space`]), what comes back ([`verdict`], [`refusal`],
-//! [`example`], [`row_set`], [`catalogue`](mod@catalogue), [`names`], [`conversion`]), the C convention. The engine, the catalogue and the
-//! converter are proved; this crate only hands slices over and reads the numbers and bytes that come back. But for [`Space`] it allocates
-//! nothing.
+//! The calls are [`fit`](fit()), [`fit_wanted`](fit_wanted()), [`catalogue`](catalogue()), [`text`], [`text_wanted`]
+//! and [`convert`](convert()). They work in lent areas ([`Areas`], [`WorkAreas`]), or in a [`Space`] that owns them,
+//! and give a [`Verdict`], a [`Catalogue`] or a [`Refusal`]. Engine, catalogue and converter are proved. This crate
+//! only hands slices over and reads the numbers and bytes that come back; but for [`Space`] and what a program keeps
+//! ([`Assembly`]) it allocates nothing. To read and write rule files, to tell which row a refusal is about and to put
+//! words to an answer there are [`Table`], [`Fault`], [`Words`] and [`origins`](origins()): these are not proved.
 //!
-//! The archive is for x86-64 Linux only. For a call of this build a stack of 1 MiB suffices; a thread of Rust has 2 by default.
+//! The library is for x86-64 Linux only. For a call of this build a stack of 1 MiB suffices; a thread of Rust has 2 by
+//! default.
+//!
+#![doc = include_str!("format.md")]
+#![warn(missing_docs)]
 
-pub mod catalogue;
+mod catalogue;
 #[allow(unsafe_code)]
 mod convention;
-pub mod conversion;
-pub mod example;
-pub mod names;
-pub mod refusal;
-pub mod row_set;
-pub mod space;
-pub mod verdict;
+mod conversion;
+mod example;
+mod names;
+mod refusal;
+mod row_set;
+mod space;
+mod verdict;
+mod version;
 
 pub use catalogue::{Catalogue, IsA, LARGEST_TABLE, MOST_NAMES};
 pub use conversion::LONGEST_FILE;
-pub use example::{Example, Link, LINK_BYTES};
+pub use example::{Assembly, Example, Link, LINK_BYTES};
+#[doc(inline)]
 pub use gumbyra_table::{origins, Fault, Origin, Place, Row, Table, Words};
 pub use names::Names;
 pub use refusal::Refusal;
 pub use row_set::{RowSet, ELEMENT_BYTES};
 pub use space::{Areas, Sizes, Space, WorkAreas, ALTERNATIVE_BYTES, EDGE_BYTES, MOST_RECORDS, NODE_BYTES};
 pub use verdict::{Used, Verdict};
+pub use version::{library_sentence, library_version, VERSION};
 
-/// Decides a rule file in lent areas. [`Space`] has areas of its own. With "can" each element of the example lists the rows that hold
-/// there, all of them and no other. The text of the file, as this call reads it, is [`text`].
+/// Decides a rule file in lent areas. [`Space`] has areas of its own. With "can" each element of the example lists the
+/// rows that hold there, all of them and no other. The text of the file, as this call reads it, is [`text`].
 ///
 /// ```
 /// use gumbyra::{fit, Areas, Link, Verdict, ALTERNATIVE_BYTES, EDGE_BYTES, NODE_BYTES};
@@ -66,69 +75,73 @@ pub use verdict::{Used, Verdict};
 /// # Ok::<(), gumbyra::Refusal>(())
 /// ```
 ///
-/// A row of kind 7 says that every pair of one role is also a pair of another, so that a rule about the wider role need not be written
-/// again for each narrower one:
+/// A row of kind 7 says that every pair of one role is also a pair of another, so that a rule about the wider role need
+/// not be written again for each narrower one:
 ///
 /// ```
-/// use gumbyra::{Link, Refusal, Space, Verdict};
+/// use gumbyra::{Link, Refusal, Space, Table, Verdict};
 ///
-/// // Codes: 0 is fitted to, 2 is screwed to, 4 is glued to; an odd code is the way back. Rows: what is screwed is fitted; what is glued
-/// // is fitted; is a pump; is acid-proof; is not acid-proof; has only acid-proof parts fitted to it.
-/// let ways = [[7, 2, 0, 0], [7, 4, 0, 0]];
-/// let rows = [[1, 0, 0, 0], [1, 0, 1, 0], [2, 0, 1, 0], [5, 1, 3, 0]];
-/// // Then: is a pump with such parts only; is glued to some of these, the wanted row.
-/// let kit = [[3, 0, 2, 5], [6, 4, 6, 0]];
-/// let table = [ways.as_flattened(), rows.as_flattened(), kit.as_flattened()].concat();
-/// let file = [&table, [0, 0, 8, 0, 7].as_slice(), b"FIT"].concat();
+/// // Codes: 0 is fitted to, 2 is screwed to, 4 is glued to; an odd code is the way back.
+/// let mut table = Table::default();
+/// let ways = [table.within(2, 0), table.within(4, 0)];
+/// let (pump, acid_proof, not_acid_proof) = (table.name(0), table.name(1), table.not_name(1));
+/// let only_such_parts = table.all(1, acid_proof);
+/// let such_a_pump = table.both(pump, only_such_parts);
+/// let glued = table.some(4, such_a_pump);
+/// table.wanted = glued;
 ///
-/// let mut space = Space::usual();
+/// let (file, mut space) = (table.encode()?, Space::usual());
 /// let Verdict::Can { example, .. } = space.fit(&file)? else { panic!("the kit can exist") };
-/// let rows: Vec<Vec<usize>> = example.elements().map(|rows| rows.rows().collect()).collect();
-/// assert_eq!(rows[0], [3, 5, 7], "the part is acid-proof, since what is glued to the pump is fitted to it");
-/// assert!(rows.iter().flatten().all(|&row| row > 1), "no element lists rows 0 and 1: they speak of roles");
+/// let part = example.elements().next().expect("element 0");
+/// assert!(part.contains(acid_proof), "what is glued to the pump is fitted to it");
+/// assert!(example.elements().all(|rows| ways.iter().all(|&way| !rows.contains(way))), "these speak of roles");
 /// assert_eq!(example.links().collect::<Vec<_>>(), [Link { from: 0, role: 4, to: 1 }], "a link has its own role");
 ///
-/// // A part that is not acid-proof: one more row, both row 4 and row 7, wanted.
-/// let file = [&table, [3, 0, 4, 7].as_slice(), &[0, 0, 9, 0, 8], b"FIT"].concat();
-/// assert!(matches!(space.fit(&file)?, Verdict::Cannot { .. }));
+/// // A part that is not acid-proof.
+/// table.wanted = table.both(not_acid_proof, glued);
+/// assert!(matches!(space.fit(&table.encode()?)?, Verdict::Cannot { .. }));
 ///
-/// // Such a row is no rule: it holds without being one.
-/// let file = [&table, [0].as_slice(), &[0, 0, 8, 1, 7], b"FIT"].concat();
+/// // Such a row is no rule: it holds without being one. The byte before the eight last is the rule.
+/// table.rule(pump);
+/// let mut file = table.encode()?;
+/// let rule = file.len() - 9;
+/// file[rule] = ways[0];
 /// assert_eq!(space.fit(&file), Err(Refusal::Inclusion));
-/// # Ok::<(), gumbyra::Refusal>(())
+/// # Ok::<(), Box<dyn std::error::Error>>(())
 /// ```
 ///
 /// # Panics
-/// If the numbers that come back are of no answer: then the archive is not the engine that this crate was written for.
+/// If the numbers that come back are of no answer: then the library is not the one that this crate was written for.
 pub fn fit<'a>(file: &[u8], mut areas: Areas<'a>) -> Result<Verdict<'a>, Refusal> {
     let answer = convention::fit(file, &mut areas);
     verdict::outcome(&answer, [areas.elements, areas.links])
-        .unwrap_or_else(|| panic!("no answer of the engine: {answer:?}"))
 }
 
-/// Decides a rule file with a list of wanted rows in place of its own wanted row: can there be a member of all of them? [`fit`](fit()) is
-/// this with the file's one row.
+/// Decides a rule file with a list of wanted rows in place of its own wanted row: can there be a member of all of them?
+/// [`fit`](fit()) is this with the file's one row.
 ///
-/// The list may have any length, repeats, and no row at all: then any element is a member. The file's own wanted row is not looked at, and
-/// refusals 8 and 16 come if one of the list is no row, or one of kind 7. The text of the file, as this call reads it, is [`text_wanted`]
-/// with the same list.
+/// The list may have any length, repeats, and no row at all: then any element is a member. The file's own wanted row is
+/// not looked at, and refusals 8 and 16 come if one of the list is no row, or one of kind 7. The text of the file, as
+/// this call reads it, is [`text_wanted`] with the same list.
 ///
 /// ```
-/// use gumbyra::{Refusal, Space, Verdict};
+/// use gumbyra::{Refusal, Space, Table, Verdict};
 ///
-/// // Rows: is a dosing pump; is no dosing pump; is a peristaltic pump; is no peristaltic pump; either row 3 or row 0, the only rule: a
-/// // peristaltic pump is a dosing pump. The file itself wants row 2.
-/// let rows = [[1, 0, 0, 0], [2, 0, 0, 0], [1, 0, 1, 0], [2, 0, 1, 0], [4, 0, 3, 0]];
-/// let file = [rows.as_flattened(), &[4], &[0, 0, 5, 1, 2], b"FIT"].concat();
+/// // A peristaltic pump is a dosing pump. The file itself wants row 0.
+/// let mut table = Table::default();
+/// let (dosing, not_dosing) = (table.name(0), table.not_name(0));
+/// let (peristaltic, not_peristaltic) = (table.name(1), table.not_name(1));
+/// let rule = table.either(not_peristaltic, dosing);
+/// table.rule(rule);
 ///
-/// let mut space = Space::usual();
-/// let mut can = |wanted: &[u8]| Ok::<bool, Refusal>(matches!(space.fit_wanted(&file, wanted)?, Verdict::Can { .. }));
-/// assert!(can(&[2])? && can(&[1])?, "there are peristaltic pumps, and things that are no dosing pump");
-/// assert!(!can(&[2, 1])?, "but nothing is both");
-/// assert!(!can(&[1, 2, 2, 1])?, "in whichever order and however often they are named");
+/// let (file, mut space) = (table.encode()?, Space::usual());
+/// let mut can = |wanted: &[u8]| Ok::<_, Refusal>(matches!(space.fit_wanted(&file, wanted)?, Verdict::Can { .. }));
+/// assert!(can(&[peristaltic])? && can(&[not_dosing])?, "there are both");
+/// assert!(!can(&[peristaltic, not_dosing])?, "but not in one");
+/// assert!(!can(&[not_dosing, peristaltic, peristaltic])?, "in whichever order and however often they are named");
 /// assert!(can(&[])?, "there is something at all");
-/// assert_eq!(can(&[2, 5]), Err(Refusal::NoSuchRow));
-/// # Ok::<(), Refusal>(())
+/// assert_eq!(can(&[peristaltic, 5]), Err(Refusal::NoSuchRow));
+/// # Ok::<(), Box<dyn std::error::Error>>(())
 /// ```
 ///
 /// # Panics
@@ -136,26 +149,32 @@ pub fn fit<'a>(file: &[u8], mut areas: Areas<'a>) -> Result<Verdict<'a>, Refusal
 pub fn fit_wanted<'a>(file: &[u8], wanted: &[u8], mut areas: Areas<'a>) -> Result<Verdict<'a>, Refusal> {
     let answer = convention::fit_wanted(file, wanted, &mut areas);
     verdict::outcome(&answer, [areas.elements, areas.links])
-        .unwrap_or_else(|| panic!("no answer of the engine: {answer:?}"))
 }
 
-/// Which kinds of part are which: fills a square table of the names of a rule file that have both a kind 1 and a kind 2 row, in order of
-/// name. Row a, column b says whether every a is a b, each entry by a run of its own in the same work areas.
+/// Which kinds of part are which: fills a square table of the names of a rule file that have both a kind 1 and a kind 2
+/// row, in order of name. Row a, column b says whether every a is a b, each entry by a run of its own in the same work
+/// areas.
 ///
-/// The file is checked as it stands, its own wanted row too, but that has no say in the table; so its text is [`text`]. After a catalogue
-/// the bytes of the table's area past the table are as they were; after a refusal all areas are. [`LARGEST_TABLE`] bytes suffice for every
-/// table.
+/// The file is checked as it stands, its own wanted row too, but that has no say in the table; so its text is [`text`].
+/// After a catalogue the bytes of the table's area past the table are as they were; after a refusal all areas are.
+/// [`LARGEST_TABLE`] bytes suffice for every table.
 ///
 /// ```
-/// use gumbyra::{catalogue, IsA, Refusal, WorkAreas, ALTERNATIVE_BYTES, EDGE_BYTES, NODE_BYTES};
+/// use gumbyra::{catalogue, IsA, Refusal, Table, WorkAreas, ALTERNATIVE_BYTES, EDGE_BYTES, NODE_BYTES};
 ///
-/// // Names: 3 dosing pump, 5 peristaltic pump, 9 hose. Rows: of each that it is one, and that it is none; has only fitted to it what is
-/// // no hose. Rules: a peristaltic pump has some hose fitted to it; what has some hose fitted to it is a dosing pump.
-/// let rows = [[1, 0, 3, 0], [2, 0, 3, 0], [1, 0, 5, 0], [2, 0, 5, 0], [1, 0, 9, 0], [2, 0, 9, 0], [5, 1, 5, 0]];
-/// let more = [[6, 1, 4, 0], [4, 0, 3, 7], [4, 0, 6, 0]];
-/// let file = [rows.as_flattened(), more.as_flattened(), &[8, 9], &[0, 0, 10, 2, 0], b"FIT"].concat();
+/// // Names: 3 dosing pump, 5 peristaltic pump, 9 hose; of each that it is one, and that it is none. Code 1: has fitted
+/// // to it.
+/// let mut kinds = Table::default();
+/// let (dosing, _) = (kinds.name(3), kinds.not_name(3));
+/// let (_, not_peristaltic) = (kinds.name(5), kinds.not_name(5));
+/// let (hose, no_hose) = (kinds.name(9), kinds.not_name(9));
+/// // A peristaltic pump has some hose fitted to it; what has some hose fitted to it is a dosing pump.
+/// let (some_hose, only_others) = (kinds.some(1, hose), kinds.all(1, no_hose));
+/// kinds.rules = vec![kinds.either(not_peristaltic, some_hose), kinds.either(only_others, dosing)];
+/// let file = kinds.encode()?;
 ///
-/// let (mut nodes, mut edges, mut alternatives) = ([0; 64 * NODE_BYTES], [0; 64 * EDGE_BYTES], [0; 8 * ALTERNATIVE_BYTES]);
+/// let (mut nodes, mut edges) = ([0; 64 * NODE_BYTES], [0; 64 * EDGE_BYTES]);
+/// let mut alternatives = [0; 8 * ALTERNATIVE_BYTES];
 /// let mut table = [7; 10];
 /// let work = WorkAreas { nodes: &mut nodes, edges: &mut edges, alternatives: &mut alternatives };
 /// let page = catalogue(&file, work, &mut table)?;
@@ -170,21 +189,22 @@ pub fn fit_wanted<'a>(file: &[u8], wanted: &[u8], mut areas: Areas<'a>) -> Resul
 /// assert_eq!(catalogue(&file, work, &mut table)?.is_a(5, 5), Some(IsA::Undecided));
 /// let work = WorkAreas { nodes: &mut nodes, edges: &mut edges, alternatives: &mut alternatives };
 /// assert_eq!(catalogue(&file, work, &mut table[..8]), Err(Refusal::TableShort));
-/// # Ok::<(), Refusal>(())
+/// # Ok::<(), Box<dyn std::error::Error>>(())
 /// ```
 ///
 /// # Panics
-/// If the numbers or the table that come back are of no answer: then the archive is not the one that this crate was written for.
+/// If the numbers or the table that come back are of no answer: then the library is not the one that this crate was
+/// written for.
 pub fn catalogue<'a>(file: &[u8], work: WorkAreas, table: &'a mut [u8]) -> Result<Catalogue<'a>, Refusal> {
     let page = convention::catalogue(file, work, table);
     catalogue::outcome(&page, table).unwrap_or_else(|| panic!("no answer of the catalogue: {page:?}"))
 }
 
-/// The text of a rule file: the part of the file before its rows, uncopied. Of a file that a file check refuses (1 to 8 and 16) it is
-/// the empty part at the file's start.
+/// The text of a rule file: the part of the file before its rows, uncopied. Of a file that a file check refuses (1 to 8
+/// and 16) it is the empty part at the file's start.
 ///
-/// The file is read with its own wanted row, as [`fit`](fit()) and [`catalogue`](catalogue()) read it; for [`fit_wanted`] there is
-/// [`text_wanted`].
+/// The file is read with its own wanted row, as [`fit`](fit()) and [`catalogue`](catalogue()) read it; for
+/// [`fit_wanted`] there is [`text_wanted`].
 ///
 /// ```
 /// let mut file = *b"valve\x01\0\0\0\x05\0\x01\0\0FIT";
@@ -199,8 +219,9 @@ pub fn text(file: &[u8]) -> &[u8] {
     &file[..convention::text_len(file)]
 }
 
-/// The text of a rule file that is read with a list of wanted rows in place of its own, as [`fit_wanted`] reads it. Of a file that is then
-/// refused with 1 to 8 or 16 it is the empty part at the file's start. [`text`] is this with the file's one row.
+/// The text of a rule file that is read with a list of wanted rows in place of its own, as [`fit_wanted`] reads it. Of
+/// a file that is then refused with 1 to 8 or 16 it is the empty part at the file's start. [`text`] is this with the
+/// file's one row.
 ///
 /// ```
 /// use gumbyra::{text, text_wanted, Refusal, Space, Verdict};
@@ -221,34 +242,40 @@ pub fn text_wanted<'a>(file: &'a [u8], wanted: &[u8]) -> &'a [u8] {
     &file[..convention::text_wanted_len(file, wanted)]
 }
 
-/// Converts a draft, a rule file with two more kinds of row: 8, not the left row, and 9, if left then right. Gives the part of
-/// the area that is the file, a rule file of the same text and the same meaning without these kinds.
+/// Converts a draft, a rule file with two more kinds of row: 8, not the left row, and 9, if left then right. Gives the
+/// part of the area that is the file, a rule file of the same text and the same meaning without these kinds.
 ///
-/// Rows of kind 7 are kept, all of them, before the other rows. Bytes of the area past the result are kept, and after a refusal it is as
-/// it was. It may be of any length and hold anything; [`LONGEST_FILE`] bytes suffice.
+/// Rows of kind 7 are kept, all of them, before the other rows. Bytes of the area past the result are kept, and after a
+/// refusal it is as it was. It may be of any length and hold anything; [`LONGEST_FILE`] bytes suffice.
 ///
 /// ```
-/// use gumbyra::{convert, Refusal, Space, Verdict, LONGEST_FILE};
+/// use gumbyra::{convert, Refusal, Row, Space, Table, Verdict, LONGEST_FILE};
 ///
-/// // Rows: a name; another; if row 0 then row 1; not row 1; both row 0 and row 3. Rule: row 2. Wanted: row 4.
-/// let rows = [[1, 0, 0, 0], [1, 0, 1, 0], [9, 0, 0, 1], [8, 0, 1, 0], [3, 0, 0, 3]];
-/// let draft = [rows.as_flattened(), &[2], &[0, 0, 5, 1, 4], b"FIT"].concat();
+/// // If it is a dosing pump, it is a pump. Wanted: a dosing pump that is not a pump.
+/// let mut table = Table::default();
+/// let (dosing, pump) = (table.name(0), table.name(1));
+/// let rule = table.if_then(dosing, pump);
+/// table.rule(rule);
+/// let no_pump = table.not(pump);
+/// table.wanted = table.both(dosing, no_pump);
+/// let draft = table.encode()?;
 ///
 /// let mut area = [0; LONGEST_FILE];
 /// let file = convert(&draft, &mut area)?;
-/// // Not name 0; name 1; either row 0 or row 1; name 0; not name 1; both row 3 and row 4. Rule: row 2. Wanted: row 5.
-/// let rows = [[2, 0, 0, 0], [1, 0, 1, 0], [4, 0, 0, 1], [1, 0, 0, 0], [2, 0, 1, 0], [3, 0, 3, 4]];
-/// assert_eq!(file, [rows.as_flattened(), &[2], &[0, 0, 6, 1, 5], b"FIT"].concat());
+/// let rule = [Row::NotName(0), Row::Name(1), Row::Either(0, 1)];
+/// let wanted = [Row::Name(0), Row::NotName(1), Row::Both(3, 4)];
+/// let rows = [rule, wanted].concat();
+/// assert_eq!(Table::read(file)?, Table { rows, rules: vec![2], wanted: 5, ..Table::default() });
 /// assert!(matches!(Space::usual().fit(file)?, Verdict::Cannot { .. }));
 ///
 /// // The draft itself is no rule file, and a short area does not do.
 /// assert_eq!(Space::usual().fit(&draft), Err(Refusal::Row));
 /// assert_eq!(convert(&draft, &mut [0; 32]), Err(Refusal::ResultTooLong));
-/// # Ok::<(), gumbyra::Refusal>(())
+/// # Ok::<(), Box<dyn std::error::Error>>(())
 /// ```
 ///
 /// # Panics
-/// If the numbers that come back are of no answer: then the archive is not the one that this crate was written for.
+/// If the numbers that come back are of no answer: then the library is not the one that this crate was written for.
 pub fn convert<'a>(draft: &[u8], area: &'a mut [u8]) -> Result<&'a [u8], Refusal> {
     let answer = convention::convert(draft, area);
     conversion::outcome(&answer, area).unwrap_or_else(|| panic!("no answer of the converter: {answer:?}"))

@@ -1,4 +1,4 @@
-//! A set of names, as a catalogue page lists them (document 02, [7]).
+//! A set of names, as a catalogue page lists them.
 
 use std::fmt;
 

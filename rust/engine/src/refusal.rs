@@ -1,14 +1,24 @@
-//! Refusals: their numbers and their sentences (document 01, "Refusals, in checking order"; document 02, [1], [4], [6] and [7]).
+//! Refusals: their numbers, their sentences, and which row one is about.
 
 use crate::space::MOST_RECORDS;
+use gumbyra_table::{Fault, Place, Table};
 use std::fmt;
 
 /// Why there is no verdict, no file from a draft, or no catalogue page.
 ///
-/// Later versions of the engine have more refusals, and may give up one of these. There is no 9: it was "No row has kind 1 or 2",
-/// and no file got as far as that check to fail it (document 02, [3]). The number is not used again. There is no 10 either: it was
-/// for a record of any kind without a place, where there are 13, 14 and 15 now (document 02, [4]).
-#[derive(Clone, Copy, Debug, PartialEq, Eq, Hash)]
+/// Later versions of the engine have more refusals, and may give up one of these. There is no 9 and no 10, and these
+/// numbers are not used again.
+///
+/// It prints as the programs print it, with its sentence, also where a program ends with it:
+///
+/// ```
+/// use gumbyra::Refusal;
+///
+/// assert_eq!(Refusal::Repeat.to_string(), "REFUSED 7: Two rows have the same four bytes.");
+/// let short = Refusal::NodesShort { lent: 1024 };
+/// assert_eq!(format!("{short:?}"), "REFUSED 13 1024: The procedure's next node has no place in its area.");
+/// ```
+#[derive(Clone, Copy, PartialEq, Eq, Hash)]
 #[non_exhaustive]
 pub enum Refusal {
     /// 1: the file's length.
@@ -28,21 +38,37 @@ pub enum Refusal {
     /// 8: a rule or the wanted row; where a list of wanted rows takes its place, one of them.
     NoSuchRow,
     /// 11: the kit can exist, but the example areas don't hold so many records.
-    ExampleTooLong { elements: usize, links: usize },
+    ExampleTooLong {
+        /// How many elements the example has.
+        elements: usize,
+        /// How many links the example has.
+        links: usize,
+    },
     /// 12: what the draft becomes is too long for a rule file or for the area.
     ResultTooLong,
-    /// 13: the work area for nodes is short; so many records counted as lent. In a larger one the run gets further, unless that is
-    /// [`MOST_RECORDS`] already. This and the next two come from the first record that the procedure could not place, so no
-    /// other area has to be larger for that; [`Sizes::enlarged`](crate::Sizes::enlarged) is for a caller who asks again.
-    NodesShort { lent: usize },
+    /// 13: the work area for nodes is short; so many records counted as lent. In a larger one the run gets further,
+    /// unless that is [`MOST_RECORDS`] already. This and the next two come from the first record that the procedure
+    /// could not place, so no other area has to be larger for that; [`Sizes::enlarged`](crate::Sizes::enlarged) is for
+    /// a caller who asks again.
+    NodesShort {
+        /// How many records counted as lent.
+        lent: usize,
+    },
     /// 14: the work area for edges is short.
-    EdgesShort { lent: usize },
+    EdgesShort {
+        /// How many records counted as lent.
+        lent: usize,
+    },
     /// 15: the work area for alternatives is short.
-    AlternativesShort { lent: usize },
-    /// 16: a row of kind 7, which speaks of roles, in a place for a row that speaks of elements. The check comes after that of 8.
+    AlternativesShort {
+        /// How many records counted as lent.
+        lent: usize,
+    },
+    /// 16: a row of kind 7, which speaks of roles, in a place for a row that speaks of elements. The check comes after
+    /// that of 8.
     Inclusion,
-    /// 17: the area for the table of a catalogue is shorter than the square of how many names are listed. It comes after all checks of the
-    /// file. [`LARGEST_TABLE`](crate::LARGEST_TABLE) bytes suffice for every table.
+    /// 17: the area for the table of a catalogue is shorter than the square of how many names are listed. It comes
+    /// after all checks of the file. [`LARGEST_TABLE`](crate::LARGEST_TABLE) bytes suffice for every table.
     TableShort,
 }
 
@@ -60,8 +86,8 @@ const CHECKS: [Refusal; 9] = [
 ];
 
 impl Refusal {
-    /// The refusal of a run with this number, these counts of elements and links and so many records lent; `None` if the engine
-    /// never gives these.
+    /// The refusal of a run with this number, these counts of elements and links and so many records lent; `None` if
+    /// the engine never gives these.
     pub(crate) fn of_run(number: u32, counts: [usize; 2], lent: usize) -> Option<Refusal> {
         match (number, counts, lent) {
             (11, [elements, links], 0) => Some(Refusal::ExampleTooLong { elements, links }),
@@ -98,12 +124,12 @@ impl Refusal {
         self.entry().0
     }
 
-    /// Its sentence, in the words of the documents. Where it speaks of the file, a draft is meant if that was refused.
+    /// Its sentence. Where it speaks of the file, a draft is meant if that was refused.
     pub fn sentence(&self) -> &'static str {
         self.entry().1
     }
 
-    /// Document 01's list, and what document 02 adds.
+    /// Its number and its sentence.
     fn entry(&self) -> (u8, &'static str) {
         match self {
             Refusal::Length => (1, "The file is shorter than 8 or longer than 4,096 bytes."),
@@ -112,8 +138,8 @@ impl Refusal {
             Refusal::Extent => (4, "The first row's place + 4 × rows + rules + 8 is not the file's length."),
             Refusal::Row => (
                 5,
-                "A row has a kind outside 1 to 7 (in a draft 8 and 9 are kinds too), a non-zero unused byte, a role above 31 or \
-                 a name above 63.",
+                "A row has a kind outside 1 to 7 (in a draft 8 and 9 are kinds too), a non-zero unused byte, a role \
+                 above 31 or a name above 63.",
             ),
             Refusal::Argument => (6, "A row names an argument row that isn't lower than itself."),
             Refusal::Repeat => (7, "Two rows have the same four bytes."),
@@ -131,18 +157,67 @@ impl Refusal {
     }
 }
 
-/// The number and the sentence, the counts of 11 and the count of 13, 14 and 15.
+/// Which row a refusal is about. This is worked out by [`Table`], apart from the proved call that refused.
+impl Refusal {
+    /// The row, the two rows or the rule of a rule file that refusal 5, 6, 7, 8 or 16 is about. `None` for the others,
+    /// and if this is not what the file is refused with.
+    ///
+    /// ```
+    /// use gumbyra::{Place, Space, Table};
+    ///
+    /// // The rule is row 4, and there are two.
+    /// let file = [1, 0, 0, 0, 2, 0, 0, 0, 4, 0, 0, 2, 1, 0, b'F', b'I', b'T'];
+    /// let refusal = Space::usual().fit(&file).unwrap_err();
+    /// let fault = refusal.fault(&file).expect("8 is about a rule or the wanted row");
+    /// assert_eq!(fault.place, Place::Rule(0));
+    /// assert_eq!(
+    ///     format!("{refusal} ({fault})"),
+    ///     "REFUSED 8: A rule or the wanted row isn't below the number of rows. \
+    ///      (rule 0 of the list is row 4, and there are 2 rows)"
+    /// );
+    /// ```
+    pub fn fault(&self, file: &[u8]) -> Option<Fault> {
+        self.fault_of(Table::read(file))
+    }
+
+    /// The same of a file with this list of wanted rows in place of its own, as [`fit_wanted`](crate::fit_wanted())
+    /// refuses it.
+    pub fn fault_wanted(&self, file: &[u8], wanted: &[u8]) -> Option<Fault> {
+        self.fault_of(Table::read_wanted(file, wanted))
+    }
+
+    /// The same of a draft, as [`convert`](crate::convert()) refuses it.
+    pub fn fault_of_draft(&self, draft: &[u8]) -> Option<Fault> {
+        self.fault_of(Table::read_draft(draft))
+    }
+
+    /// What reading tells, if it is this refusal and about less than the whole file.
+    fn fault_of(&self, read: Result<Table, Fault>) -> Option<Fault> {
+        read.err().filter(|fault| fault.number == self.number() && fault.place != Place::File)
+    }
+}
+
+/// As the programs print it: the number, with 11 the elements and links of the example, with 13, 14 and 15 how many
+/// records were lent; and then the sentence.
 impl fmt::Display for Refusal {
     fn fmt(&self, f: &mut fmt::Formatter) -> fmt::Result {
         let (number, sentence) = self.entry();
-        write!(f, "refusal {number}: {sentence}")?;
+        write!(f, "REFUSED {number}")?;
         match self {
-            Refusal::ExampleTooLong { elements, links } => write!(f, " Elements needed: {elements}, links: {links}."),
-            Refusal::NodesShort { lent } => write!(f, " Nodes lent: {lent}."),
-            Refusal::EdgesShort { lent } => write!(f, " Edges lent: {lent}."),
-            Refusal::AlternativesShort { lent } => write!(f, " Alternatives lent: {lent}."),
-            _ => Ok(()),
+            Refusal::ExampleTooLong { elements, links } => write!(f, " {elements} {links}")?,
+            Refusal::NodesShort { lent } | Refusal::EdgesShort { lent } | Refusal::AlternativesShort { lent } => {
+                write!(f, " {lent}")?
+            }
+            _ => (),
         }
+        write!(f, ": {sentence}")
+    }
+}
+
+/// The same: a `main` that gives an error prints it by this.
+impl fmt::Debug for Refusal {
+    fn fmt(&self, f: &mut fmt::Formatter) -> fmt::Result {
+        fmt::Display::fmt(self, f)
     }
 }
 
@@ -199,39 +274,30 @@ mod tests {
         assert!([0, 9, 10, 11, 12, 13, 14, 15, 18].into_iter().all(|number| Refusal::of_page(number).is_none()));
     }
 
-    /// For callers and translators: docs/USE.md has each number with its sentence, rising, and no other.
     #[test]
-    fn the_list_of_messages_is_complete() {
-        let path = concat!(env!("CARGO_MANIFEST_DIR"), "/../../docs/USE.md");
-        let document = std::fs::read_to_string(path).expect("docs/USE.md");
-        let (_, list) = document.split_once("## Refusals\n").expect("the list of refusals");
-        // An item is `- **5** SENTENCE *What to do.*`, and may go on in further lines.
-        let items: Vec<String> = list.split("\n- **").skip(1).map(|item| item.replace("\n  ", " ")).collect();
-        let others = [Refusal::ExampleTooLong { elements: 0, links: 0 }, Refusal::ResultTooLong, Refusal::TableShort];
-        let mut all = [CHECKS.as_slice(), &others, &short(0)].concat();
-        all.sort_by_key(Refusal::number);
-        assert_eq!(items.len(), all.len(), "{items:#?}");
-        for (item, refusal) in items.iter().zip(&all) {
-            let start = format!("{}** {} *", refusal.number(), refusal.sentence());
-            assert!(item.starts_with(&start), "{item} does not begin with {start}");
-        }
+    fn a_refusal_prints_its_number_its_counts_and_its_sentence() {
+        assert_eq!(Refusal::Repeat.to_string(), "REFUSED 7: Two rows have the same four bytes.");
+        let too_long = Refusal::ExampleTooLong { elements: 2, links: 1 };
+        assert_eq!(too_long.to_string(), "REFUSED 11 2 1: The verdict is \"can\" and an example area is too short.");
+        let [nodes, edges, alternatives] = short(1024).map(|refusal| refusal.to_string());
+        assert_eq!(nodes, "REFUSED 13 1024: The procedure's next node has no place in its area.");
+        assert_eq!(edges, "REFUSED 14 1024: The procedure's next edge has no place in its area.");
+        assert!(alternatives.starts_with("REFUSED 15 1024: ") && format!("{:?}", short(1024)[2]) == alternatives);
     }
 
+    /// One row, "is a pump", which names no row; then the same with another number in its place.
     #[test]
-    fn a_refusal_prints_its_number_and_its_sentence() {
-        assert_eq!(Refusal::Repeat.to_string(), "refusal 7: Two rows have the same four bytes.");
-        let inclusion = "refusal 16: A row of kind 7 serves as an argument, a rule or the wanted row.";
-        assert_eq!(Refusal::Inclusion.to_string(), inclusion);
-        let too_long = Refusal::ExampleTooLong { elements: 2, links: 1 };
-        assert!(too_long.to_string().starts_with("refusal 11: The verdict is \"can\" and"));
-        assert!(too_long.to_string().ends_with("too short. Elements needed: 2, links: 1."));
-        let [nodes, edges, alternatives] = short(7).map(|refusal| refusal.to_string());
-        assert_eq!(nodes, "refusal 13: The procedure's next node has no place in its area. Nodes lent: 7.");
-        assert!(
-            edges.starts_with("refusal 14: ") && edges.ends_with("next edge has no place in its area. Edges lent: 7.")
-        );
-        assert!(alternatives.ends_with("next alternative has no place in its area. Alternatives lent: 7."));
-        let table = "refusal 17: The table's area is shorter than the square of its names.";
-        assert_eq!(Refusal::TableShort.to_string(), table);
+    fn a_fault_is_told_of_the_refusal_that_it_is_for() {
+        let file = |row: [u8; 4], rule: u8| [row.as_slice(), &[rule], &[0, 0, 1, 1, 0], b"FIT"].concat();
+        let (rule, row) = (file([1, 0, 0, 0], 3), file([8, 0, 0, 0], 0));
+        let place = |fault: Option<Fault>| fault.map(|fault| fault.place);
+        assert_eq!(place(Refusal::NoSuchRow.fault(&rule)), Some(Place::Rule(0)));
+        assert_eq!(place(Refusal::Row.fault(&row)), Some(Place::Row(0)));
+        assert_eq!(place(Refusal::Argument.fault_of_draft(&row)), Some(Place::Row(0)));
+        assert_eq!(place(Refusal::Row.fault_of_draft(&row)), None, "as a draft it is refused with 6");
+        assert_eq!(place(Refusal::NoSuchRow.fault_wanted(&file([1, 0, 0, 0], 0), &[0, 7])), Some(Place::Wanted));
+        assert_eq!(place(Refusal::Length.fault(b"")), None, "it is about the file as a whole");
+        assert_eq!(place(Refusal::Repeat.fault(&rule)), None, "another refusal");
+        assert_eq!(place(Refusal::Row.fault(&file([1, 0, 0, 0], 0))), None, "a file that is not refused");
     }
 }

@@ -1,11 +1,12 @@
-//! A set of rows, as an element's record holds it (document 01, "Areas"; document 02, [2]).
+//! A set of rows, as an element's record holds it.
 
 use std::fmt;
 
 /// Bytes of a row set, and so of an element's record.
 pub const ELEMENT_BYTES: usize = 8;
 
-/// The rows that hold at an element: row k as bit k, low byte first. A row of the table that is not in the set does not hold there.
+/// The rows that hold at an element: row k as bit k, low byte first. A row of the table that is not in the set does not
+/// hold there.
 ///
 /// It prints as hexadecimal digits, the highest row first.
 #[derive(Clone, Copy, PartialEq, Eq, Hash)]
@@ -18,13 +19,13 @@ impl RowSet {
     }
 
     /// Is the row in the set?
-    pub fn contains(&self, row: usize) -> bool {
-        self.0.get(row / 8).is_some_and(|byte| byte >> (row % 8) & 1 == 1)
+    pub fn contains(&self, row: u8) -> bool {
+        self.0.get(usize::from(row / 8)).is_some_and(|byte| byte >> (row % 8) & 1 == 1)
     }
 
     /// The rows of the set, rising.
-    pub fn rows(self) -> impl Iterator<Item = usize> {
-        (0..8 * ELEMENT_BYTES).filter(move |&row| self.contains(row))
+    pub fn rows(self) -> impl Iterator<Item = u8> {
+        (0..=u8::MAX).filter(move |&row| self.contains(row))
     }
 }
 
@@ -52,13 +53,18 @@ mod tests {
 
     #[test]
     fn row_k_is_bit_k_low_byte_first() {
-        for row in 0..8 * ELEMENT_BYTES {
+        const ROWS: u8 = 8 * ELEMENT_BYTES as u8;
+        for row in 0..ROWS {
             let mut record = [0; ELEMENT_BYTES];
-            record[row / 8] = 1 << (row % 8);
+            record[usize::from(row / 8)] = 1 << (row % 8);
             let set = RowSet::of_record(record);
             assert_eq!(set.rows().collect::<Vec<_>>(), [row]);
-            assert!(set.contains(row) && !set.contains(row + 1) && !set.contains(row + 8 * ELEMENT_BYTES));
+            assert!(set.contains(row) && !set.contains(row + 1) && !set.contains(row + ROWS));
         }
+        assert_eq!(
+            RowSet::of_record([u8::MAX; ELEMENT_BYTES]).rows().collect::<Vec<_>>(),
+            (0..ROWS).collect::<Vec<_>>()
+        );
     }
 
     #[test]

@@ -7,8 +7,11 @@ use crate::refusal::Refusal;
 /// How many records a run used.
 #[derive(Clone, Copy, Debug, PartialEq, Eq)]
 pub struct Used {
+    /// Nodes.
     pub nodes: usize,
+    /// Graph edges.
     pub edges: usize,
+    /// Alternatives.
     pub alternatives: usize,
 }
 
@@ -16,19 +19,43 @@ pub struct Used {
 #[derive(Clone, Copy, Debug, PartialEq, Eq)]
 pub enum Verdict<'a> {
     /// It can exist, and this assembly shows it.
-    Can { used: Used, example: Example<'a> },
+    Can {
+        /// The records that the run used.
+        used: Used,
+        /// An assembly that obeys every rule and has a member of the kit.
+        example: Example<'a>,
+    },
     /// It cannot exist, in no assembly of any size.
-    Cannot { used: Used },
+    Cannot {
+        /// The records that the run used.
+        used: Used,
+    },
+}
+
+impl Verdict<'_> {
+    /// How many records the run used.
+    pub fn used(&self) -> Used {
+        match *self {
+            Verdict::Can { used, .. } | Verdict::Cannot { used } => used,
+        }
+    }
 }
 
 const CAN: u32 = 1;
 const CANNOT: u32 = 2;
 const REFUSED: u32 = 0;
 
-/// The outcome that an answer tells, with the areas of elements and links as they are after the call. `None` if it is no answer
-/// of the engine: each refusal gives its number and zeros elsewhere, but 11 also the counts needed, and 13, 14 and 15 how many
-/// records were lent.
-pub(crate) fn outcome<'a>(answer: &Answer, areas: [&'a [u8]; 2]) -> Option<Result<Verdict<'a>, Refusal>> {
+/// The outcome that an answer tells, with the areas of elements and links as they are after the call.
+///
+/// # Panics
+/// If it is no answer of the engine.
+pub(crate) fn outcome<'a>(answer: &Answer, areas: [&'a [u8]; 2]) -> Result<Verdict<'a>, Refusal> {
+    read(answer, areas).unwrap_or_else(|| panic!("no answer of the engine: {answer:?}"))
+}
+
+/// The same; `None` if it is no answer of the engine: each refusal gives its number and zeros elsewhere, but 11 also
+/// the counts needed, and 13, 14 and 15 how many records were lent.
+fn read<'a>(answer: &Answer, areas: [&'a [u8]; 2]) -> Option<Result<Verdict<'a>, Refusal>> {
     let &Answer { verdict, refusal, nodes, edges, alternatives, elements, links, lent } = answer;
     let [nodes, edges, alternatives] = [nodes, edges, alternatives].map(|count| count as usize);
     let used = Used { nodes, edges, alternatives };
@@ -52,7 +79,7 @@ mod tests {
     fn of_numbers(numbers: [u32; 8]) -> Option<Result<Verdict<'static>, Refusal>> {
         let [verdict, refusal, nodes, edges, alternatives, elements, links, lent] = numbers;
         let answer = Answer { verdict, refusal, nodes, edges, alternatives, elements, links, lent };
-        outcome(&answer, [&ELEMENTS, &LINKS])
+        read(&answer, [&ELEMENTS, &LINKS])
     }
 
     #[test]
@@ -63,7 +90,9 @@ mod tests {
         };
         assert_eq!((of_can, example.elements().len()), (used, 2));
         assert_eq!(example.links().collect::<Vec<_>>(), [Link { from: 256, role: 2, to: 1 }]);
-        assert_eq!(of_numbers([2, 0, 8, 7, 1, 0, 0, 0]), Some(Ok(Verdict::Cannot { used })));
+        let verdicts = [[1, 0, 8, 7, 1, 2, 1, 0], [2, 0, 8, 7, 1, 0, 0, 0]].map(of_numbers);
+        assert!(verdicts.iter().flatten().flatten().all(|verdict| verdict.used() == used));
+        assert_eq!(verdicts[1], Some(Ok(Verdict::Cannot { used })));
         assert_eq!(of_numbers([0, 8, 0, 0, 0, 0, 0, 0]), Some(Err(Refusal::NoSuchRow)));
         assert_eq!(of_numbers([0, 16, 0, 0, 0, 0, 0, 0]), Some(Err(Refusal::Inclusion)));
         let too_long = Refusal::ExampleTooLong { elements: 2, links: 1 };

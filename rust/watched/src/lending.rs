@@ -150,8 +150,8 @@ fn decided(verdict: Verdict) -> Answer {
 
 /// An example in the words of `plain`.
 fn read(example: Example) -> (Vec<RowSet>, Vec<(u16, u16, u16)>) {
-    let elements = example.elements().map(|set| set.rows().collect()).collect();
-    (elements, example.links().map(|link| (link.from, link.role, link.to)).collect())
+    let elements = example.elements().map(|set| set.rows().map(usize::from).collect()).collect();
+    (elements, example.links().map(|link| (link.from, link.role.into(), link.to)).collect())
 }
 
 /// Why a call panicked, in one line.

@@ -1,17 +1,15 @@
-//! A hosting desk that begins with nothing lent and enlarges what was short, by `Sizes::enlarged` (document 02, [4]).
+//! A hosting desk that begins with nothing lent and enlarges what was short, by `Sizes::enlarged` (document 02, [4]) or
+//! by `Space::fit_enlarging`.
 
 use compare::long_orders::{branches, signals};
-use compare::{random_file, Prng, Shape};
+use compare::tally::Tally;
+use compare::wanted_lists::random_question;
+use compare::wide::{wide, wide_kinds, wide_with_inclusions};
+use compare::{cases, random_file, Prng, Shape};
 use gumbyra::{Refusal, Sizes, Space, Verdict, MOST_RECORDS};
 
 const NOTHING: Sizes = Sizes { nodes: 0, edges: 0, alternatives: 0, elements: 0, links: 0 };
-const MOST: Sizes = Sizes {
-    nodes: MOST_RECORDS,
-    edges: MOST_RECORDS,
-    alternatives: MOST_RECORDS,
-    elements: MOST_RECORDS,
-    links: MOST_RECORDS,
-};
+const SHAPE: Shape = Shape { names: 2, roles: 1, compound: 16, rules: 4, text: 8 };
 
 /// How often the desk had to ask, and how the sizes ended.
 struct Served {
@@ -28,7 +26,7 @@ fn serve(file: &[u8]) -> Served {
         let outcome = space.fit(file);
         let larger = outcome.err().and_then(|refusal| served.sizes.enlarged(refusal));
         let Some(larger) = larger else {
-            assert_eq!(outcome, Space::with(MOST).fit(file), "{file:02x?} in {:?}", served.sizes);
+            assert_eq!(outcome, Space::with(Sizes::MOST).fit(file), "{file:02x?} in {:?}", served.sizes);
             return served;
         };
         assert_eq!(grown(&served.sizes, &larger), 1, "only what was short: {:?}, {larger:?}", served.sizes);
@@ -45,8 +43,8 @@ fn grown(before: &Sizes, after: &Sizes) -> usize {
 
 /// At most twice what the run uses is lent, and nothing of which nothing is used.
 fn check_thrift(file: &[u8], sizes: &Sizes) {
-    let mut space = Space::with(MOST);
-    let Ok(Verdict::Can { used, .. } | Verdict::Cannot { used }) = space.fit(file) else { panic!("{file:02x?}") };
+    let mut space = Space::with(Sizes::MOST);
+    let used = space.fit(file).unwrap_or_else(|refusal| panic!("{refusal}: {file:02x?}")).used();
     let lent = [sizes.nodes, sizes.edges, sizes.alternatives];
     for (lent, used) in lent.into_iter().zip([used.nodes, used.edges, used.alternatives]) {
         assert!(used <= lent && (used == 0 && lent == 0 || lent < 2 * used), "{lent} for {used}: {file:02x?}");
@@ -55,11 +53,10 @@ fn check_thrift(file: &[u8], sizes: &Sizes) {
 
 #[test]
 fn random_files_are_served() {
-    let shape = Shape { names: 2, roles: 1, compound: 16, rules: 4, text: 8 };
     let mut prng = Prng::new(111);
     let (mut most, mut all, files) = (0, 0, 2000);
     for _ in 0..files {
-        let file = random_file(&mut prng, shape);
+        let file = random_file(&mut prng, SHAPE);
         let served = serve(&file);
         check_thrift(&file, &served.sizes);
         all += served.asked;
@@ -76,4 +73,63 @@ fn a_desk_gives_up_where_no_larger_area_helps() {
     let refusal = |served: &Served, file: &[u8]| Space::with(served.sizes).fit(file).expect_err("no verdict");
     assert_eq!(refusal(&nodes, &branches(13).file), Refusal::NodesShort { lent: MOST_RECORDS });
     assert_eq!(refusal(&edges, &signals(10).file), Refusal::EdgesShort { lent: MOST_RECORDS });
+}
+
+/// One call is as good as asking again and again: in the same sizes at the end, with the outcome of the largest areas.
+#[test]
+fn one_call_serves() {
+    let mut prng = Prng::new(112);
+    for _ in 0..1000 {
+        let file = random_file(&mut prng, SHAPE);
+        let mut space = Space::with(NOTHING);
+        assert_eq!(space.fit_enlarging(&file), Space::with(Sizes::MOST).fit(&file), "{file:02x?}");
+        assert_eq!(space.sizes(), serve(&file).sizes, "{file:02x?}");
+    }
+    for file in [branches(13).file, signals(10).file] {
+        let mut space = Space::with(NOTHING);
+        assert_eq!(space.fit_enlarging(&file), Space::with(Sizes::MOST).fit(&file));
+        assert_eq!(space.sizes(), serve(&file).sizes);
+    }
+}
+
+/// Files and lists of all sorts, one after the other in one space, which keeps what it has.
+#[test]
+fn one_space_serves_all() {
+    let mut prng = Prng::new(113);
+    let (mut space, mut most, mut tally) = (Space::with(NOTHING), Space::with(Sizes::MOST), Tally::default());
+    for _ in 0..10_000 {
+        let (file, list) = random_question(&mut prng, SHAPE);
+        let before = space.sizes();
+        let outcome = space.fit_wanted_enlarging(&file, &list);
+        assert_eq!(outcome, most.fit_wanted(&file, &list), "{file:02x?} wanting {list:?}");
+        let mut cases = vec![
+            ("can", matches!(outcome, Ok(Verdict::Can { .. }))),
+            ("cannot", matches!(outcome, Ok(Verdict::Cannot { .. }))),
+            ("refused by a check", outcome.is_err_and(|refusal| matches!(refusal.number(), 1..=8 | 16))),
+        ];
+        cases.push(("enlarged", grown(&before, &space.sizes()) > 0));
+        tally.add(cases);
+    }
+    tally.assert_often("files with lists", 10);
+}
+
+/// In the largest sizes every example has room.
+#[test]
+fn the_largest_areas_hold_every_example() {
+    let mut space = Space::with(Sizes::MOST);
+    let (mut examples, mut most) = (0, [0; 2]);
+    let vectors = cases().into_iter().map(|case| case.file);
+    for file in vectors.chain(wide()).chain(wide_kinds()).chain(wide_with_inclusions()) {
+        match space.fit(&file) {
+            Ok(Verdict::Can { used, example }) => {
+                let (elements, links) = (example.elements().len(), example.links().len());
+                assert!(elements <= used.nodes && links <= used.edges, "{file:02x?}");
+                most = [most[0].max(elements), most[1].max(links)];
+                examples += 1;
+            }
+            outcome => assert!(!matches!(outcome, Err(Refusal::ExampleTooLong { .. })), "{file:02x?}"),
+        }
+    }
+    println!("{examples} examples, of at most {} elements, and {} links", most[0], most[1]);
+    assert!(examples >= 300 && most[0] > Sizes::USUAL.elements && most[1] > 2000);
 }

@@ -19,7 +19,8 @@ refusal 14, lent 6: now 12 edges
 verdict 1, refusal 0, used 8 7 1
 ";
 
-/// The rule becomes either not name 0 (row 0) or name 1 (row 1); its opposite both name 0 (row 3) and not name 1 (row 4).
+/// The rule becomes either not name 0 (row 0) or name 1 (row 1); its opposite both name 0 (row 3) and not name 1 (row
+/// 4).
 const DRAFT: &str = "\
 refusal 0, length 37
 text: pump
@@ -32,15 +33,16 @@ row 3 0 3 4
 verdict 2
 ";
 
-/// What is screwed on is acid-proof (row 2), so it lists rows 2, 4 and 5: nothing is fitted to it. What is glued on can't be without that.
+/// What is screwed on is acid-proof (row 2), so it lists rows 2, 4 and 5: nothing is fitted to it. What is glued on
+/// can't be without that.
 const FITTED: &str = "\
 row 5 wanted: verdict 1, refusal 0; element 0 has rows 34, the link has code 2
 row 7 wanted: verdict 2, refusal 0
 row 0 wanted: verdict 0, refusal 16
 ";
 
-/// With six nodes what needs a hose, and what need not be a dosing pump, is mostly undecided; eight bytes are no room for three names, and
-/// a refusal tells of none.
+/// With six nodes what needs a hose, and what need not be a dosing pump, is mostly undecided; eight bytes are no room
+/// for three names, and a refusal tells of none.
 const CATALOGUE: &str = "\
 64 nodes, 4096 bytes: refusal 0, 3 names
 dosing pump      yes   -   -
