@@ -2,7 +2,7 @@
 
 use gumbyra::{Example, Row, Table};
 
-/// An example: the rows that hold at each element, row k as bit k, and the links.
+/// An example, of a call or of printed lines: the rows that hold at each element, row k as bit k, and the links.
 #[derive(Clone, Debug, PartialEq, Eq)]
 pub struct Assembly {
     pub elements: Vec<u64>,
@@ -19,7 +19,7 @@ pub struct Link {
 impl Assembly {
     pub fn of_example(example: Example) -> Assembly {
         let bits = |rows: gumbyra::RowSet| rows.rows().fold(0, |bits, row| bits | 1 << row);
-        let link = |link: gumbyra::Link| Link { from: link.from.into(), role: link.role as u8, to: link.to.into() };
+        let link = |link: gumbyra::Link| Link { from: link.from.into(), role: link.role, to: link.to.into() };
         Assembly { elements: example.elements().map(bits).collect(), links: example.links().map(link).collect() }
     }
 

@@ -41,30 +41,15 @@ pub fn fit(file: &[u8]) -> Ending {
         Ok(subject) => subject,
         Err((_, lines)) => return Ending::Refused(lines),
     };
-    let (answer, lent) = decide(&subject.file);
+    let mut space = Space::usual();
+    let answer = Answer::of_call(space.fit_enlarging(&subject.file));
     if let Answer::Refused(refusal) = &answer {
         return Ending::Refused(refused::of_run(refusal));
     }
-    let Sizes { nodes, edges, alternatives, .. } = lent;
+    let Sizes { nodes, edges, alternatives, .. } = space.sizes();
     let lent = [count(nodes, "node"), count(edges, "edge"), count(alternatives, "alternative")].join(", ");
     let page = subject.page(&answer).map(|page| format!("{page}Lent: {lent}.\n"));
     page.map_or_else(|why| Ending::Failed(format!("this is no answer of the engine: {why}")), Ending::Shown)
-}
-
-/// The answer, and the areas that it was found in.
-fn decide(file: &[u8]) -> (Answer, Sizes) {
-    let mut sizes = Sizes::USUAL;
-    loop {
-        let answer = Answer::of_call(Space::with(sizes).fit(file));
-        let larger = match &answer {
-            Answer::Refused(refusal) => sizes.enlarged(*refusal),
-            _ => None,
-        };
-        match larger {
-            Some(larger) => sizes = larger,
-            None => return (answer, sizes),
-        }
-    }
 }
 
 /// A rule file that an answer may belong to, with its words: the file itself, or what a draft becomes.
