@@ -57,10 +57,9 @@ impl Wording {
     fn origin(&self, draft: &Table, row: Row, stands_for: &[Origin]) -> String {
         let own = stands_for.iter().find(|origin| !origin.opposite).map(|origin| origin.row);
         let negated = || stands_for.iter().find_map(|origin| draft.find(Row::Not(origin.row)));
-        let said = |name: u8| Some(self.name(name)).filter(|said| !matches!(said, Said::Number(_)));
         let literal = || match row {
-            Row::Name(name) => said(name).map(Said::is),
-            Row::NotName(name) => said(name).map(Said::is_not),
+            Row::Name(name) => Some(self.name(name).is()),
+            Row::NotName(name) => Some(self.name(name).is_not()),
             _ => None,
         };
         let not = || stands_for.first().map(|origin| format!("not: {}", self.row(origin.row)));
