@@ -1,5 +1,5 @@
 //! Runs of an answering function on one file with different areas never contradict each other; and of the work areas only the one
-//! that a refusal names has to be larger (document 02, [4]).
+//! that a refusal names has to be larger (document 02, \[4\]).
 
 use crate::checks::Answering;
 use crate::{check_example, random_file, random_lent, with_broken_records, Prng, Shape};

@@ -1,4 +1,4 @@
-//! Rule files for catalogues (document 02, [7]): random ones in which some kinds follow from others, and large ones with their tables.
+//! Rule files for catalogues (document 02, \[7\]): random ones in which some kinds follow from others, and large ones with their tables.
 //!
 //! In order: random files; 32 names over 64 rows; a chain of names.
 

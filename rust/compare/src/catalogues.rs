@@ -1,4 +1,4 @@
-//! Catalogue pages (document 02, [7]): a cataloguing function against small and large files by hand, the plain program, an answering
+//! Catalogue pages (document 02, \[7\]): a cataloguing function against small and large files by hand, the plain program, an answering
 //! function with two wanted rows, and the meaning of ALCI.
 //!
 //! In order: by hand; random files; what is true of a page.

@@ -1,4 +1,4 @@
-//! Checks of a converting function on random drafts (document 02, [1]): what it writes is a rule file of only the rows that are
+//! Checks of a converting function on random drafts (document 02, \[1\]): what it writes is a rule file of only the rows that are
 //! needed, and in random worlds each rule and the wanted row hold where the draft's do. Drafts with kind 7 rows are in
 //! `inclusion_drafts`.
 

@@ -1,4 +1,4 @@
-//! Drafts with kind 7 rows (document 02, [6]): "A converted draft keeps all its kind 7 rows, in their order, before the other rows." A
+//! Drafts with kind 7 rows (document 02, \[6\]): "A converted draft keeps all its kind 7 rows, in their order, before the other rows." A
 //! converting function by hand and on random drafts: what it writes are these rows, and then what becomes of the draft without them; and
 //! what an answering function then says is true of the draft.
 

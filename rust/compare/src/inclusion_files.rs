@@ -1,4 +1,4 @@
-//! Random files of which about a third of the rows are of kind 7 (document 02, [6]): an answering function against the plain program and
+//! Random files of which about a third of the rows are of kind 7 (document 02, \[6\]): an answering function against the plain program and
 //! the meaning of ALCI, as in `small_worlds`. A world that the search goes through counts only if it obeys the kind 7 rows.
 
 use crate::inclusion_counts::InclusionCounts;

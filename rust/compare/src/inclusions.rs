@@ -1,4 +1,4 @@
-//! Kind 7 rows (document 02, [6]) for the tests of them.
+//! Kind 7 rows (document 02, \[6\]) for the tests of them.
 //!
 //! In order: a file or draft in its parts, with such rows and without; kind 7 rows at random, and in one long chain; which code is narrower
 //! than which, found by going from row to row.

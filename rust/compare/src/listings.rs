@@ -1,4 +1,4 @@
-//! What the elements of an example list (document 02, [2]): an answering function against examples by hand and against the meaning
+//! What the elements of an example list (document 02, \[2\]): an answering function against examples by hand and against the meaning
 //! of ALCI over the world of each example.
 
 use crate::files::{encode, Row};

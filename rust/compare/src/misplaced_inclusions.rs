@@ -1,4 +1,4 @@
-//! Refusal 16 (document 02, [6]): a kind 7 row serves as an argument, a rule or the wanted row. An answering and a converting function by
+//! Refusal 16 (document 02, \[6\]): a kind 7 row serves as an argument, a rule or the wanted row. An answering and a converting function by
 //! hand, with the other checks before it, and on random files and drafts in which one place names such a row.
 
 use crate::drafts::random_draft;
@@ -109,7 +109,8 @@ pub fn check_random(mut answer: impl Answering, mut convert: impl Converting) {
     assert!(times.iter().all(|&times| times >= OFTEN), "{counted:?}");
 }
 
-/// The same file or draft with a kind 7 row named in one place, and which of [`PLACES`] that is. `None` if there is no such place.
+/// The same file or draft with a kind 7 row named in one place, and which of `PLACES` that is. `None` if there is no such
+/// place.
 pub fn with_misplaced(prng: &mut Prng, right: &[u8]) -> Option<(usize, Vec<u8>)> {
     let place = prng.below(PLACES.len());
     misplaced(prng, Parts::of(right), PLACES[place]).map(|wrong| (place, wrong))

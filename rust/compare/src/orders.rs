@@ -1,4 +1,4 @@
-//! The order in which a run places its records, and checks of an answering function that runs short of one of them (document 02, [4]):
+//! The order in which a run places its records, and checks of an answering function that runs short of one of them (document 02, \[4\]):
 //! the first record without a place decides which refusal comes, with how many records of its kind.
 
 use crate::checks::Answering;

@@ -1,4 +1,4 @@
-//! Role codes turned round (document 02, [5]): an answering function on every pair of codes, against answers worked out by hand, on the
+//! Role codes turned round (document 02, \[5\]): an answering function on every pair of codes, against answers worked out by hand, on the
 //! root's put, whose role no row has, and on random files in which all 32 codes are in use. Code 2k is role k, code 2k + 1 its
 //! inverse; what is turned round is told here by that, and not by a sum or by cases.
 

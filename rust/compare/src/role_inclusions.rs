@@ -1,4 +1,4 @@
-//! Narrower roles (document 02, [6]): an answering function on small files by hand, on every single kind 7 row against all pairs of "some"
+//! Narrower roles (document 02, \[6\]): an answering function on small files by hand, on every single kind 7 row against all pairs of "some"
 //! and "all", on the longest chain, and on the root's put. What is narrower is told here for each of them by hand.
 //!
 //! Random files are in `inclusion_files`, drafts in `inclusion_drafts`, rows that serve as something in `misplaced_inclusions`.

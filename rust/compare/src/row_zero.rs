@@ -1,4 +1,4 @@
-//! What a table can begin with (document 02, [3] and [6]): with a row of kind 1 or 2, since row 0 has no lower row to name, or with one of
+//! What a table can begin with (document 02, \[3\] and \[6\]): with a row of kind 1 or 2, since row 0 has no lower row to name, or with one of
 //! kind 7; "but an accepted table still holds a row of kind 1 or 2". An answering and a converting function on every first row that
 //! tells kinds and bounds apart, and on random tables that document 01's check 9 was for: well-formed rows, none of kind 1 or 2.
 

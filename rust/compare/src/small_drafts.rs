@@ -1,4 +1,4 @@
-//! Small drafts with what becomes of them, by hand from document 02, [1].
+//! Small drafts with what becomes of them, by hand from document 02, \[1\].
 
 use crate::files::{encode, Row};
 use crate::Converting;

@@ -1,4 +1,4 @@
-//! Lists of wanted rows in place of a file's own (document 02, [7]): an answering function against small files by hand, the plain program
+//! Lists of wanted rows in place of a file's own (document 02, \[7\]): an answering function against small files by hand, the plain program
 //! and the meaning of ALCI.
 //!
 //! In order: small files; random files and lists; what happened.

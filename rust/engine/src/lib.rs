@@ -18,9 +18,9 @@
 //! The calls are [`fit`](fit()), [`fit_wanted`](fit_wanted()), [`catalogue`](catalogue()), [`text`], [`text_wanted`]
 //! and [`convert`](convert()). They work in lent areas ([`Areas`], [`WorkAreas`]), or in a [`Space`] that owns them,
 //! and give a [`Verdict`], a [`Catalogue`] or a [`Refusal`]. Engine, catalogue and converter are proved. This crate
-//! only hands slices over and reads the numbers and bytes that come back; but for [`Space`] and what a program keeps
-//! ([`Assembly`]) it allocates nothing. To read and write rule files, to tell which row a refusal is about and to put
-//! words to an answer there are [`Table`], [`Fault`], [`Words`] and [`origins`](origins()): these are not proved.
+//! only hands slices over and reads the numbers and bytes that come back. The calls allocate nothing. To read and write
+//! rule files, to tell which row a refusal is about and to put words to an answer there are [`Table`], [`Fault`],
+//! [`Words`] and [`origins`](origins()): these are not proved.
 //!
 //! The library is for x86-64 Linux only. For a call of this build a stack of 1 MiB suffices; a thread of Rust has 2 by
 //! default.

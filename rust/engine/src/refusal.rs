@@ -159,11 +159,11 @@ impl Refusal {
 
 /// Which row a refusal is about. This is worked out by [`Table`], apart from the proved call that refused.
 impl Refusal {
-    /// The row, the two rows or the rule of a rule file that refusal 5, 6, 7, 8 or 16 is about. `None` for the others,
-    /// and if this is not what the file is refused with.
+    /// The row, the two rows or the rule of a rule file that refusal 5, 6, 7, 8 or 16 is about, told outside the proved
+    /// call. `None` for the others, and if this is not what the file is refused with.
     ///
     /// ```
-    /// use gumbyra::{Place, Space, Table};
+    /// use gumbyra::{Place, Space};
     ///
     /// // The rule is row 4, and there are two.
     /// let file = [1, 0, 0, 0, 2, 0, 0, 0, 4, 0, 0, 2, 1, 0, b'F', b'I', b'T'];

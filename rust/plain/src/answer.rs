@@ -100,7 +100,7 @@ pub fn answer(file: &[u8], lent: &Lent) -> Answer {
     answer_listing(RuleFile::read(file), lent, Example::evaluated)
 }
 
-/// The answer to a file with these wanted rows in place of its own: can there be a member of all of them? (Document 02, [7].)
+/// The answer to a file with these wanted rows in place of its own: can there be a member of all of them? (Document 02, \[7\].)
 pub fn answer_wanting(file: &[u8], wanted: &[u8], lent: &Lent) -> Answer {
     answer_listing(RuleFile::read_wanting(file, wanted), lent, Example::evaluated)
 }

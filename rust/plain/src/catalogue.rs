@@ -1,4 +1,4 @@
-//! The catalogue page of kinds (document 02, [7]): which names are such that every part of the one is a part of the other.
+//! The catalogue page of kinds (document 02, \[7\]): which names are such that every part of the one is a part of the other.
 
 use crate::answer::{is_can, Lent};
 use crate::concept::Concept;

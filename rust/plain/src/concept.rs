@@ -1,4 +1,4 @@
-//! Concepts (document 01's rows), role inclusions (document 02, [6]) and role codes.
+//! Concepts (document 01's rows), role inclusions (document 02, \[6\]) and role codes.
 
 /// A role code: 2k is role k, 2k + 1 its inverse.
 pub type Role = u16;

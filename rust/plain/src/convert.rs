@@ -1,5 +1,5 @@
-//! The converter (document 02, [1]): a draft becomes a rule file in which "not" stands before names only and there is no "if". Its
-//! kind 7 rows are kept, all of them, before the other rows (document 02, [6]).
+//! The converter (document 02, \[1\]): a draft becomes a rule file in which "not" stands before names only and there is no "if". Its
+//! kind 7 rows are kept, all of them, before the other rows (document 02, \[6\]).
 
 use crate::concept::{Concept, Kinds, Role, Row};
 use crate::draft::DraftConcept;

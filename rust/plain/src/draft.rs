@@ -1,4 +1,4 @@
-//! Drafts: rule files with "not" and "if" (document 02, [1]).
+//! Drafts: rule files with "not" and "if" (document 02, \[1\]).
 
 use crate::concept::{Concept, Kinds, Role, Row};
 

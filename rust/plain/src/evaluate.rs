@@ -1,4 +1,4 @@
-//! Where each row holds in a finite world (document 01, "The meaning of ALCI"; document 02, [6]). Nothing here knows of graphs: names
+//! Where each row holds in a finite world (document 01, "The meaning of ALCI"; document 02, \[6\]). Nothing here knows of graphs: names
 //! and links come in, row sets go out.
 //!
 //! In order: the rows, each at all elements before the next; the pairs of a role; worlds by hand.

@@ -1,4 +1,4 @@
-//! The example that a run leaves (document 01, "The example"), and the rows that hold in it (document 02, [2]).
+//! The example that a run leaves (document 01, "The example"), and the rows that hold in it (document 02, \[2\]).
 
 use crate::concept::Concept;
 use crate::evaluate::{evaluate, Names, RoleLink};

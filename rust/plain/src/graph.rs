@@ -68,7 +68,7 @@ pub enum Area {
 }
 
 impl Area {
-    /// The refusal of a run whose next record has no place in this area (document 02, [4]).
+    /// The refusal of a run whose next record has no place in this area (document 02, \[4\]).
     pub fn refusal(self) -> u8 {
         match self {
             Area::Nodes => 13,

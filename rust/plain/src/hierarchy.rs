@@ -1,4 +1,4 @@
-//! Which roles are narrower than which (document 02, [6]): the least relation on role codes that has the two codes of each kind 7
+//! Which roles are narrower than which (document 02, \[6\]): the least relation on role codes that has the two codes of each kind 7
 //! row, is reflexive and transitive, and has two codes turned round whenever it has these.
 
 use crate::concept::{inverse, Kinds, Role};

@@ -1,6 +1,6 @@
 //! The rule file and its checks, refusals 1 to 8 and then 16 (document 01, "The rule file" and "Refusals, in checking order"; document
-//! 02, [6]). Wanted rows may be given in place of the file's own (document 02, [7]), and a draft passes the same checks with two kinds of
-//! row more (document 02, [1]): so the wanted rows and what a row can say are parameters.
+//! 02, \[6\]). Wanted rows may be given in place of the file's own (document 02, \[7\]), and a draft passes the same checks with two kinds of
+//! row more (document 02, \[1\]): so the wanted rows and what a row can say are parameters.
 
 use crate::concept::{Concept, Kinds, Row, ROW};
 use crate::draft::DraftConcept;
@@ -36,7 +36,7 @@ impl<'a, C: Kinds> Accepted<'a, C> {
         Accepted::of_parts(Parts::of(bytes)?)
     }
 
-    /// The same with these wanted rows in place of its own, which is not looked at (document 02, [7]).
+    /// The same with these wanted rows in place of its own, which is not looked at (document 02, \[7\]).
     pub fn read_wanting(bytes: &'a [u8], wanted: &'a [u8]) -> Result<Accepted<'a, C>, u8> {
         Accepted::of_parts(Parts { wanted, ..Parts::of(bytes)? })
     }

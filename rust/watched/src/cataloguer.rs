@@ -1,4 +1,4 @@
-//! The four areas lent for one catalogue page after the other, and the promises about them (document 02, [7]).
+//! The four areas lent for one catalogue page after the other, and the promises about them (document 02, \[7\]).
 
 use crate::area::{Area, Fate};
 use crate::lending::reason;

@@ -1,4 +1,4 @@
-//! The area lent for one conversion after the other, and the promises about it (document 02, [1]).
+//! The area lent for one conversion after the other, and the promises about it (document 02, \[1\]).
 
 use crate::area::{Area, Fate};
 use crate::lending::reason;

@@ -1,4 +1,4 @@
-//! A hosting desk that begins with nothing lent and enlarges what was short, by `Sizes::enlarged` (document 02, [4]) or
+//! A hosting desk that begins with nothing lent and enlarges what was short, by `Sizes::enlarged` (document 02, \[4\]) or
 //! by `Space::fit_enlarging`.
 
 use compare::long_orders::{branches, signals};

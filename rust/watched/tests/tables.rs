@@ -25,16 +25,29 @@ enum As {
     Draft,
 }
 
-/// The number of the check that refuses it, by the engine or the converter; 0 if none does.
-fn refusal(file: &[u8], read_as: As) -> u8 {
-    let refused = match read_as {
+/// The refusal of the check that fails, by the engine or the converter.
+fn refused(file: &[u8], read_as: As) -> Option<Refusal> {
+    let refusal = match read_as {
         As::File => Space::with(NOTHING).fit(file).expect_err("no verdict without a node"),
         As::Draft => convert(file, &mut []).expect_err("no file without a byte"),
     };
-    match refused {
-        Refusal::NodesShort { .. } if read_as == As::File => 0,
-        Refusal::ResultTooLong if read_as == As::Draft => 0,
-        check => check.number(),
+    let is_accepted = match read_as {
+        As::File => matches!(refusal, Refusal::NodesShort { .. }),
+        As::Draft => refusal == Refusal::ResultTooLong,
+    };
+    (!is_accepted).then_some(refusal)
+}
+
+/// Its number; 0 if none fails.
+fn refusal(file: &[u8], read_as: As) -> u8 {
+    refused(file, read_as).map_or(0, |refusal| refusal.number())
+}
+
+/// What the wrapper tells of a refusal.
+fn told(refusal: Refusal, file: &[u8], read_as: As) -> Option<Fault> {
+    match read_as {
+        As::File => refusal.fault(file),
+        As::Draft => refusal.fault_of_draft(file),
     }
 }
 
@@ -61,15 +74,17 @@ impl Counts {
 
 /// A table is refused as the engine refuses it and where it is wrong; else its bytes come back.
 fn check(file: &[u8], read_as: As, counts: &mut Counts) {
-    let (expected, table) = (refusal(file, read_as), read(file, read_as));
-    let number = table.as_ref().map_or_else(|fault| fault.number, |_| 0);
-    assert_eq!(number, expected, "{file:02x?}");
-    counts.checks.add(cases_of_checks(|number| number == expected));
+    let (refusal, table) = (refused(file, read_as), read(file, read_as));
+    let expected = refusal.map(|refusal| refusal.number());
+    assert_eq!(table.as_ref().err().map(|fault| fault.number), expected, "{file:02x?}");
+    counts.checks.add(cases_of_checks(|number| expected == Some(number)));
     match table {
         Ok(table) => assert_eq!(table.encode().as_deref(), Ok(file)),
         Err(fault) => {
             let is_right = is_right_place(fault, file, read_as);
             assert!(is_right, "{fault}: {file:02x?}");
+            let of_refusal = refusal.and_then(|refusal| told(refusal, file, read_as));
+            assert_eq!(of_refusal, (fault.number > 4).then_some(fault), "{file:02x?}");
             counts.places.add(cases_of_places(fault));
         }
     }
@@ -174,14 +189,10 @@ fn the_vectors_are_refused_alike() {
     of_drafts.assert_often("vectors as drafts", 1);
 }
 
-/// The number of the check that refuses a file with a list of wanted rows, by the engine and by the table; 0 if none
-/// does.
-fn refusals_wanting(file: &[u8], list: &[u8]) -> [u8; 2] {
-    let of_engine = match Space::with(NOTHING).fit_wanted(file, list).expect_err("no verdict without a node") {
-        Refusal::NodesShort { .. } => 0,
-        check => check.number(),
-    };
-    [of_engine, Table::read_wanted(file, list).map_or_else(|fault| fault.number, |_| 0)]
+/// The refusal of the check that a file with a list of wanted rows fails.
+fn refused_wanting(file: &[u8], list: &[u8]) -> Option<Refusal> {
+    let refusal = Space::with(NOTHING).fit_wanted(file, list).expect_err("no verdict without a node");
+    (!matches!(refusal, Refusal::NodesShort { .. })).then_some(refusal)
 }
 
 /// Where a row of the list is told to be wrong, without the list there is no such refusal, and with one row of it there
@@ -192,14 +203,16 @@ fn lists_of_wanted_rows_are_refused_alike() {
     let (mut checks, mut lists) = (Tally::default(), Tally::default());
     for _ in 0..ROUNDS {
         let (file, list) = random_wanted(&mut prng, SHAPE);
-        let [expected, number] = refusals_wanting(&file, &list);
-        assert_eq!(number, expected, "{file:02x?} wanting {list:?}");
-        checks.add(cases_of_checks(|number| number == expected));
-        let is_of_list = Table::read_wanted(&file, &list).is_err_and(|fault| fault.place == Place::Wanted);
-        let by_one = list.iter().any(|&row| refusals_wanting(&file, &[row])[0] == number);
-        let by_none = refusals_wanting(&file, &[])[0] == number;
-        assert_eq!(is_of_list, by_one && !by_none, "{file:02x?} wanting {list:?}");
-        let is_own_wrong = number == 0 && Table::read(&file).is_err();
+        let (refusal, fault) = (refused_wanting(&file, &list), Table::read_wanted(&file, &list).err());
+        let expected = refusal.map(|refusal| refusal.number());
+        assert_eq!(fault.map(|fault| fault.number), expected, "{file:02x?} wanting {list:?}");
+        checks.add(cases_of_checks(|number| expected == Some(number)));
+        let told = refusal.and_then(|refusal| refusal.fault_wanted(&file, &list));
+        assert_eq!(told, fault.filter(|fault| fault.number > 4), "{file:02x?} wanting {list:?}");
+        let is_of_list = fault.is_some_and(|fault| fault.place == Place::Wanted);
+        let by_one = refusal.is_some() && list.iter().any(|&row| refused_wanting(&file, &[row]) == refusal);
+        assert_eq!(is_of_list, by_one && refused_wanting(&file, &[]) != refusal, "{file:02x?} wanting {list:?}");
+        let is_own_wrong = refusal.is_none() && Table::read(&file).is_err();
         lists.add(vec![("one of the list is wrong", is_of_list), ("the file's own row is wrong", is_own_wrong)]);
     }
     checks.assert_often("files with lists", OFTEN);

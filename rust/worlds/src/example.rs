@@ -1,4 +1,4 @@
-//! An example as the bytes of its two areas (document 01, "Areas" and "The example"; document 02, [6]): the rows that each element
+//! An example as the bytes of its two areas (document 01, "Areas" and "The example"; document 02, \[6\]): the rows that each element
 //! lists, the links, and the world that is read from both.
 
 use crate::ontology::{Concept, Ontology};

@@ -59,12 +59,12 @@ impl Ontology {
         Ontology::decode_kinds(file, &RULE_FILE, None)
     }
 
-    /// Decodes a file with these wanted rows in place of its own (document 02, [7]): a member is a member of all of them.
+    /// Decodes a file with these wanted rows in place of its own (document 02, \[7\]): a member is a member of all of them.
     pub fn decode_wanting(file: &[u8], wanted: &[u8]) -> Option<Ontology> {
         Ontology::decode_kinds(file, &RULE_FILE, Some(wanted))
     }
 
-    /// Decodes a draft (document 02, [1]): kinds 8 and 9 pass too.
+    /// Decodes a draft (document 02, \[1\]): kinds 8 and 9 pass too.
     pub fn decode_draft(draft: &[u8]) -> Option<Ontology> {
         Ontology::decode_kinds(draft, &DRAFT, None)
     }
