@@ -3,7 +3,7 @@
 //! are worse than none.
 
 use crate::phrases::opposites;
-use gumbyra::{Row, Table, Words};
+use gumbyra::{origins, Row, Table, Words};
 
 /// Which lists of a text are meant: those of a rule file or those of a draft.
 #[derive(Clone, Copy, Debug, PartialEq, Eq)]
@@ -55,10 +55,21 @@ pub fn doubt(table: &Table, words: &Words, lists: Lists) -> Option<String> {
     if numbers(&text, lists.rules_heading()).is_some_and(|rules| rules != table.rules) {
         return Some("the text lists other rules than the file has".to_string());
     }
-    if numbers(&text, lists.wanted_heading()).is_some_and(|wanted| wanted != [table.wanted]) {
-        return Some("by the text another row is wanted".to_string());
+    match numbers(&text, lists.wanted_heading()) {
+        Some(wanted) if wanted != [table.wanted] => return Some("by the text another row is wanted".to_string()),
+        None if lists == Lists::OfFile && may_be_converted(table) => {
+            let why =
+                "the file may be a converted draft, and no list \"Wanted:\" shows that the text's numbers are its own";
+            return Some(why.to_string());
+        }
+        _ => {}
     }
     other_name(table, words, lists).or_else(|| false_opposite(table, words, lists))
+}
+
+/// Is the file one that `./convert` writes? Then it would write the same again.
+fn may_be_converted(table: &Table) -> bool {
+    !table.is_draft() && table.encode().is_ok_and(|file| origins(&file, &file).is_some())
 }
 
 /// The numbers of a list, as long as they are those of rows; `None` without its heading.
@@ -161,6 +172,20 @@ mod tests {
             let doubt = doubt_of(&text).unwrap_or_else(|| panic!("no doubt of {text}"));
             assert!(doubt.contains(reason), "{doubt} of {text}");
         }
+    }
+
+    /// A draft of rows name 0, name 1, 1 and 0: what it becomes begins with name 1, and has as many rows.
+    #[test]
+    fn a_list_that_may_be_of_a_draft_is_not_used() {
+        let text = b"Rows:\n0 is a box\n1 is red\n2 is a red box\n".to_vec();
+        let rows = vec![Row::Name(1), Row::Name(0), Row::Both(0, 1)];
+        let mut table = Table { text, rows, rules: vec![], wanted: 2 };
+        let doubt_of = |table: &Table| doubt(table, &table.words(), Lists::OfFile);
+        assert!(doubt_of(&table).is_some_and(|doubt| doubt.starts_with("the file may be a converted draft")));
+        table.text.extend_from_slice(b"Wanted:\n2 is a red box\n");
+        assert_eq!(doubt_of(&table), None);
+        let draft = Table { rows: vec![Row::Name(0), Row::Name(1), Row::Both(1, 0)], ..table };
+        assert_eq!(doubt_of(&draft), None);
     }
 
     /// In a draft the opposite of a name may be said with "not".
