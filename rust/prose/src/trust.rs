@@ -64,7 +64,8 @@ pub fn doubt(table: &Table, words: &Words, lists: Lists) -> Option<String> {
         }
         _ => {}
     }
-    other_name(table, words, lists).or_else(|| false_opposite(table, words, lists))
+    let other_name = other_name(table, words, lists).or_else(|| other_sign(table, words, lists));
+    other_name.or_else(|| false_opposite(table, words, lists))
 }
 
 /// Is the file one that `./convert` writes? Then it would write the same again.
@@ -87,6 +88,23 @@ fn other_name(table: &Table, words: &Words, lists: Lists) -> Option<String> {
         let other = (0..=u8::MAX).find(|&other| words.name(other).is_some_and(|words| says_name(said, words)))?;
         let is_other = !words.name(name).is_some_and(|words| says_name(said, words));
         is_other.then(|| format!("row {row} has name {name}, and in the text's list of rows the words of name {other}"))
+    })
+}
+
+/// A name whose words deny something, or "not" a name whose words name a kind.
+fn other_sign(table: &Table, words: &Words, lists: Lists) -> Option<String> {
+    let begins = |row: u8, with: &[&str]| {
+        let said = lists.row(words, row);
+        said.is_some_and(|said| with.iter().any(|with| said.starts_with(with)))
+    };
+    (0u8..).zip(&table.rows).find_map(|(row, made_of)| match made_of {
+        Row::Name(name) if begins(row, &["is no ", "is not ", "has no "]) => {
+            Some(format!("row {row} says name {name}, and in the text's list of rows it denies something"))
+        }
+        Row::NotName(name) if begins(row, &["is a ", "is an "]) => {
+            Some(format!("row {row} denies name {name}, and in the text's list of rows it does not"))
+        }
+        _ => None,
     })
 }
 
@@ -165,6 +183,8 @@ mod tests {
                 "row 0 has name 0, and in the text's list of rows the words of name 1",
             ),
             (format!("{ROWS}Names:\n5 box\n"), "the words of name 5"),
+            (ROWS.replace("1 is red", "1 is not blue"), "row 1 says name 1, and"),
+            (ROWS.replace("2 is no box", "2 is a chest"), "row 2 denies name 0, and"),
             (ROWS.replace("2 is no box", "2 is not red"), "row 2 is the opposite of row 1"),
             (ROWS.replace("3 a box is red", "3 is not red"), "row 3 is the opposite of row 1"),
         ];
