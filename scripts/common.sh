@@ -154,7 +154,9 @@ prove() {
 run_rust() {
   local program=$1 status
   shift
-  { true >&1; } 2>/dev/null || fail "standard output is closed"
+  # A program in Rust finds /dev/null in place of what is closed. (`>&1` alone would be no copy, and no error.)
+  { true 3>&1; } 2>/dev/null || fail "standard output is closed"
+  [[ " $* " != *" - "* ]] || { true 3<&0; } 2>/dev/null || fail "standard input is closed"
   command -v cargo >/dev/null || fail "cargo is not installed: Rust 1.88 or later is needed, for instance from https://rustup.rs"
   "$root/library" >&2 || exit 2
   cargo build --release --offline --quiet --manifest-path "$root/rust/Cargo.toml" --target-dir "$root/rust/target" \
