@@ -115,6 +115,31 @@ impl Refusal {
         }
     }
 
+    /// The refusal that a line tells, as the programs print it; the sentence may follow, behind a colon. `None` if
+    /// there is none.
+    ///
+    /// ```
+    /// use gumbyra::Refusal;
+    ///
+    /// assert_eq!(Refusal::of_line("REFUSED 13 1024"), Some(Refusal::NodesShort { lent: 1024 }));
+    /// assert_eq!(Refusal::of_line(&Refusal::Repeat.to_string()), Some(Refusal::Repeat));
+    /// assert_eq!(Refusal::of_line("REFUSED 9"), None);
+    /// ```
+    pub fn of_line(line: &str) -> Option<Refusal> {
+        let line = line.split_once(':').map_or(line, |(numbers, _)| numbers);
+        let is_number = |word: &&str| !word.is_empty() && word.bytes().all(|byte| byte.is_ascii_digit());
+        let numbers: Option<Vec<usize>> =
+            line.strip_prefix("REFUSED ")?.split(' ').map(|word| Some(word).filter(is_number)?.parse().ok()).collect();
+        match numbers?.as_slice() {
+            &[number @ 11, elements, links] => Refusal::of_run(number as u32, [elements, links], 0),
+            &[number @ 13..=15, lent] => Refusal::of_run(number as u32, [0, 0], lent),
+            [12] => Some(Refusal::ResultTooLong),
+            [17] => Some(Refusal::TableShort),
+            &[number] => Refusal::of_check(u32::try_from(number).ok()?),
+            _ => None,
+        }
+    }
+
     fn of_check(number: u32) -> Option<Refusal> {
         CHECKS.into_iter().find(|refusal| u32::from(refusal.number()) == number)
     }
@@ -127,6 +152,29 @@ impl Refusal {
     /// Its sentence. Where it speaks of the file, a draft is meant if that was refused.
     pub fn sentence(&self) -> &'static str {
         self.entry().1
+    }
+
+    /// What to do about it, in a sentence. "How many rules fit" is a part of docs/RULE-FILES.md in the repository.
+    pub fn advice(&self) -> &'static str {
+        match self {
+            Refusal::Length => "Shorten the text, or send the whole file.",
+            Refusal::Mark => "It is no rule file, or was cut off.",
+            Refusal::Counts => "Split the file, or drop rows that nothing needs.",
+            Refusal::Extent => "Build the file again: a part was changed later.",
+            Refusal::Row => "Correct the row; kinds 8 and 9: convert the draft first.",
+            Refusal::Argument => "Put a row behind the rows that it names.",
+            Refusal::Repeat => "Use the first of them twice.",
+            Refusal::NoSuchRow => "Correct the number, or the list of wanted rows.",
+            Refusal::ExampleTooLong { .. } => "Lend what the answer says, and ask again.",
+            Refusal::ResultTooLong => "Lend 4,096 bytes, or say less in the draft.",
+            Refusal::NodesShort { .. } => "Lend more nodes, up to 4,096; then see \"How many rules fit\".",
+            Refusal::EdgesShort { .. } => "Lend more edges, up to 4,096; then see \"How many rules fit\".",
+            Refusal::AlternativesShort { .. } => {
+                "Lend more alternatives, up to 4,096; then see \"How many rules fit\"."
+            }
+            Refusal::Inclusion => "Keep the row, which holds as it stands, and name it nowhere.",
+            Refusal::TableShort => "Lend 4,096 bytes.",
+        }
     }
 
     /// Its number and its sentence.
@@ -194,6 +242,13 @@ impl Refusal {
     /// What reading tells, if it is this refusal and about less than the whole file.
     fn fault_of(&self, read: Result<Table, Fault>) -> Option<Fault> {
         read.err().filter(|fault| fault.number == self.number() && fault.place != Place::File)
+    }
+}
+
+/// A fault has the number of the check that refuses the file.
+impl From<Fault> for Refusal {
+    fn from(fault: Fault) -> Refusal {
+        Refusal::of_check(fault.number.into()).expect("a fault is found by a check")
     }
 }
 

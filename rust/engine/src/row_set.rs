@@ -9,13 +9,40 @@ pub const ELEMENT_BYTES: usize = 8;
 /// hold there.
 ///
 /// It prints as hexadecimal digits, the highest row first.
-#[derive(Clone, Copy, PartialEq, Eq, Hash)]
+#[derive(Clone, Copy, Default, PartialEq, Eq, Hash)]
 pub struct RowSet([u8; ELEMENT_BYTES]);
 
 impl RowSet {
     /// The set in an element's record.
     pub(crate) fn of_record(record: [u8; ELEMENT_BYTES]) -> RowSet {
         RowSet(record)
+    }
+
+    /// The set that these digits print; `None` if none prints so.
+    ///
+    /// ```
+    /// use gumbyra::RowSet;
+    ///
+    /// let set: RowSet = [0, 2].into_iter().collect();
+    /// assert_eq!(set.to_string(), "0000000000000005");
+    /// assert_eq!(RowSet::of_digits("0000000000000005"), Some(set));
+    /// assert_eq!(RowSet::of_digits("5"), None);
+    /// ```
+    pub fn of_digits(digits: &str) -> Option<RowSet> {
+        let mut set = RowSet::default();
+        let pairs = digits.as_bytes().as_chunks::<2>().0;
+        for (byte, pair) in set.0.iter_mut().rev().zip(pairs) {
+            *byte = u8::from_str_radix(std::str::from_utf8(pair).ok()?, 16).ok()?;
+        }
+        Some(set).filter(|set| set.to_string() == digits)
+    }
+
+    /// Puts a row into the set.
+    ///
+    /// # Panics
+    /// If no element lists a row so high.
+    pub fn insert(&mut self, row: u8) {
+        self.0[usize::from(row / 8)] |= 1 << (row % 8);
     }
 
     /// Is the row in the set?
@@ -26,6 +53,14 @@ impl RowSet {
     /// The rows of the set, rising.
     pub fn rows(self) -> impl Iterator<Item = u8> {
         (0..=u8::MAX).filter(move |&row| self.contains(row))
+    }
+}
+
+impl FromIterator<u8> for RowSet {
+    fn from_iter<T: IntoIterator<Item = u8>>(rows: T) -> RowSet {
+        let mut set = RowSet::default();
+        rows.into_iter().for_each(|row| set.insert(row));
+        set
     }
 }
 
@@ -72,5 +107,17 @@ mod tests {
         let set = RowSet::of_record(std::array::from_fn(|at| [0x8e, 0x01][at.min(1)]));
         assert_eq!(set.to_string(), "01".repeat(ELEMENT_BYTES - 1) + "8e");
         assert_eq!(format!("{set:x} {set:?}"), format!("{set} RowSet({set})"));
+    }
+
+    #[test]
+    fn digits_are_those_that_it_prints() {
+        let digits = "01".repeat(ELEMENT_BYTES - 1) + "8e";
+        let set = RowSet::of_digits(&digits).expect("a set");
+        assert_eq!((set.to_string(), set.rows().collect::<RowSet>()), (digits.clone(), set));
+        let upper = digits.replace('e', "E");
+        let signed = digits.replacen("01", "+1", 1);
+        for other in ["", "01", &digits[1..], &format!("{digits}0"), &format!("00{digits}"), &upper, &signed] {
+            assert_eq!(RowSet::of_digits(other), None, "{other}");
+        }
     }
 }

@@ -1,8 +1,6 @@
 //! An answer as `./fit` prints it, read back.
 
-use crate::assembly::{Assembly, Link};
-use crate::refused::refusal;
-use gumbyra::{Refusal, Used, Verdict};
+use gumbyra::{Assembly, Link, Refusal, RowSet, Used, Verdict, ELEMENT_BYTES};
 
 /// What the engine says of a rule file.
 #[derive(Clone, Debug, PartialEq, Eq)]
@@ -16,7 +14,7 @@ impl Answer {
     /// The answer that a call gave.
     pub fn of_call(outcome: Result<Verdict, Refusal>) -> Answer {
         match outcome {
-            Ok(Verdict::Can { used, example }) => Answer::Can { used, assembly: Assembly::of_example(example) },
+            Ok(Verdict::Can { used, example }) => Answer::Can { used, assembly: example.into_owned() },
             Ok(Verdict::Cannot { used }) => Answer::Cannot { used },
             Err(refusal) => Answer::Refused(refusal),
         }
@@ -63,12 +61,11 @@ fn used(line: &str, at: usize) -> Result<Used, String> {
     Ok(Used { nodes, edges, alternatives })
 }
 
-/// `E`, its number, its rows as 16 hexadecimal digits.
-fn element(line: &str, number: usize) -> Result<u64, String> {
-    let wrong = || format!("line {} is not E {number} and 16 hexadecimal digits", number + 3);
-    let digits = line.strip_prefix(&format!("E {number} ")).ok_or_else(wrong)?;
-    let are_digits = digits.len() == 16 && digits.bytes().all(|digit| digit.is_ascii_hexdigit());
-    u64::from_str_radix(digits, 16).ok().filter(|_| are_digits).ok_or_else(wrong)
+/// `E`, its number, its rows as hexadecimal digits.
+fn element(line: &str, number: usize) -> Result<RowSet, String> {
+    let rows = line.strip_prefix(&format!("E {number} ")).and_then(RowSet::of_digits);
+    let digits = 2 * ELEMENT_BYTES;
+    rows.ok_or_else(|| format!("line {} is not E {number} and {digits} hexadecimal digits", number + 3))
 }
 
 /// `L`, from, role code, to.
@@ -76,7 +73,8 @@ fn link(line: &str, at: usize) -> Result<Link, String> {
     let wrong = || format!("line {at} is not L, an element, a role code and an element");
     let words: Vec<&str> = line.strip_prefix("L ").ok_or_else(wrong)?.split(' ').collect();
     let &[from, role, to] = numbers(&words, at)?.as_slice() else { return Err(wrong()) };
-    Ok(Link { from, role: u8::try_from(role).map_err(|_| wrong())?, to })
+    let element = |number: usize| u16::try_from(number).map_err(|_| wrong());
+    Ok(Link { from: element(from)?, role: u8::try_from(role).map_err(|_| wrong())?, to: element(to)? })
 }
 
 /// `REFUSED`, its number, the numbers that come with it; the sentence may follow, behind a colon.
@@ -84,13 +82,7 @@ fn refused(first: &str, rest: &[&str]) -> Result<Answer, String> {
     if !rest.is_empty() {
         return Err("a line REFUSED stands alone".to_string());
     }
-    let line = first.split_once(':').map_or(first, |(line, _)| line);
-    let words: Vec<&str> = line.split(' ').skip(1).collect();
-    let wrong = || format!("there is no refusal {}", words.join(" "));
-    let numbers = numbers(&words, 1)?;
-    let (&number, further) = numbers.split_first().ok_or_else(wrong)?;
-    let number = u32::try_from(number).map_err(|_| wrong())?;
-    refusal(number, further).map(Answer::Refused).ok_or_else(wrong)
+    Refusal::of_line(first).map(Answer::Refused).ok_or_else(|| format!("there is no refusal {first:?}"))
 }
 
 fn numbers(words: &[&str], line: usize) -> Result<Vec<usize>, String> {

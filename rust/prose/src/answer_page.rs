@@ -10,7 +10,7 @@ use crate::answer::Answer;
 use crate::assembly::Parts;
 use crate::phrases::{count, link, Said};
 use crate::wording::Wording;
-use gumbyra::{Row, Table, Used};
+use gumbyra::{Row, RowSet, Table, Used};
 
 /// A verdict on a rule file in words; else a sentence that says why it does not belong to the file. A refusal is told
 /// by [`refused`](crate::refused).
@@ -38,7 +38,7 @@ pub fn page(table: &Table, wording: &Wording, answer: &Answer) -> Result<String,
 }
 
 /// A part: its names, then a line for each row that is told, for each link, and for what is asked.
-fn told(parts: &Parts, wording: &Wording, part: usize, needed: u64) -> String {
+fn told(parts: &Parts, wording: &Wording, part: usize, needed: RowSet) -> String {
     let names: Vec<String> = parts.names[part].iter().map(|&name| wording.name(name).is()).collect();
     let names = if names.is_empty() { "has none of the names".to_string() } else { names.join(", ") };
     let questions = questions(parts.table);
@@ -47,7 +47,7 @@ fn told(parts: &Parts, wording: &Wording, part: usize, needed: u64) -> String {
     let mut lines: Vec<String> = rows.map(|(row, _)| wording.row(row).to_string()).collect();
     lines.extend(parts.links[part].iter().map(|&(role, to)| told_link(parts, wording, role, to)));
     for (holds, heading) in [(true, "asked, yes: "), (false, "asked, no: ")] {
-        let rows = questions.iter().filter(|&&row| parts.assembly.holds(part, row) == holds);
+        let rows = questions.iter().filter(|&&row| parts.holds(part, row) == holds);
         let words: Vec<&str> = rows.map(|&row| wording.row(row)).collect();
         lines.extend((!words.is_empty()).then(|| format!("{heading}{}", words.join("; "))));
     }
@@ -72,12 +72,12 @@ pub fn questions(table: &Table) -> Vec<u8> {
 }
 
 /// Is a row that holds at a part told there?
-fn is_told(parts: &Parts, wording: &Wording, part: usize, needed: u64, row: u8, said: Row) -> bool {
-    let holds = parts.assembly.holds(part, row) && !parts.table.is_rule(row);
+fn is_told(parts: &Parts, wording: &Wording, part: usize, needed: RowSet, row: u8, said: Row) -> bool {
+    let holds = parts.holds(part, row) && !parts.table.is_rule(row);
     holds
         && match said {
             Row::NotName(name) => matches!(wording.name(name), Said::Phrase(_)),
-            Row::All { role, .. } => needed >> row & 1 == 1 || parts.reached(part, role).next().is_some(),
+            Row::All { role, .. } => needed.contains(row) || parts.reached(part, role).next().is_some(),
             Row::Some { role, row } => !is_shown(parts, part, role, row),
             _ => false,
         }
@@ -87,7 +87,7 @@ fn is_told(parts: &Parts, wording: &Wording, part: usize, needed: u64, row: u8, 
 /// show nothing.
 fn is_shown(parts: &Parts, part: usize, role: u8, row: u8) -> bool {
     let is_name = matches!(parts.table.rows[usize::from(row)], Row::Name(_));
-    is_name && parts.links[part].iter().any(|&(code, to)| code == role && parts.assembly.holds(to, row))
+    is_name && parts.links[part].iter().any(|&(code, to)| code == role && parts.holds(to, row))
 }
 
 /// "is fitted to part 0 (a dosing pump)".

@@ -1,32 +1,6 @@
 //! The parts and links of an example, what its roles lead to, and whether it belongs to a rule file.
 
-use gumbyra::{Example, Row, Table};
-
-/// An example, of a call or of printed lines: the rows that hold at each element, row k as bit k, and the links.
-#[derive(Clone, Debug, PartialEq, Eq)]
-pub struct Assembly {
-    pub elements: Vec<u64>,
-    pub links: Vec<Link>,
-}
-
-#[derive(Clone, Copy, Debug, PartialEq, Eq, PartialOrd, Ord)]
-pub struct Link {
-    pub from: usize,
-    pub role: u8,
-    pub to: usize,
-}
-
-impl Assembly {
-    pub fn of_example(example: Example) -> Assembly {
-        let bits = |rows: gumbyra::RowSet| rows.rows().fold(0, |bits, row| bits | 1 << row);
-        let link = |link: gumbyra::Link| Link { from: link.from.into(), role: link.role, to: link.to.into() };
-        Assembly { elements: example.elements().map(bits).collect(), links: example.links().map(link).collect() }
-    }
-
-    pub fn holds(&self, part: usize, row: u8) -> bool {
-        self.elements[part] >> row & 1 == 1
-    }
-}
+use gumbyra::{Assembly, Link, Row, RowSet, Table};
 
 /// An assembly with its links as each part sees them.
 pub struct Parts<'a> {
@@ -45,11 +19,12 @@ impl<'a> Parts<'a> {
     /// wanted row are true where they have to be. Else a sentence that says what does not.
     pub fn of(table: &'a Table, assembly: &'a Assembly) -> Result<Parts<'a>, String> {
         let parts = assembly.elements.len();
-        let rows = table.rows.len();
-        if let Some(part) = (0..parts).find(|&part| rows < 64 && assembly.elements[part] >> rows != 0) {
-            return Err(format!("element {part} lists a row above {}, the file's last", rows - 1));
+        let is_row = |row: u8| usize::from(row) < table.rows.len();
+        if let Some(part) = assembly.elements.iter().position(|set| !set.rows().all(is_row)) {
+            return Err(format!("element {part} lists a row above {}, the file's last", table.rows.len() - 1));
         }
-        let is_link = |link: &&Link| link.from < parts && link.to < parts && link.role < 32;
+        let is_part = |element: u16| usize::from(element) < parts;
+        let is_link = |link: &&Link| is_part(link.from) && is_part(link.to) && link.role < 32;
         if let Some(link) = assembly.links.iter().find(|link| !is_link(link)) {
             let Link { from, role, to } = link;
             return Err(format!("link {from} {role} {to} names an element or a role code that is not there"));
@@ -64,6 +39,11 @@ impl<'a> Parts<'a> {
         }
     }
 
+    /// Is the row true of the part?
+    pub fn holds(&self, part: usize, row: u8) -> bool {
+        self.assembly.elements[part].contains(row)
+    }
+
     /// The parts that a role leads to from a part.
     pub fn reached(&self, part: usize, role: u8) -> impl Iterator<Item = usize> + '_ {
         let within = move |&&(narrower, _): &&(u8, usize)| self.wider[usize::from(narrower)] >> role & 1 == 1;
@@ -74,15 +54,14 @@ impl<'a> Parts<'a> {
     /// wanted row.
     fn false_row(&self, part: usize) -> Option<u8> {
         let numbered = (0u8..).zip(&self.table.rows);
-        let mut wrong =
-            numbered.filter(|&(row, &said)| self.is_true(part, said) == Some(!self.assembly.holds(part, row)));
+        let mut wrong = numbered.filter(|&(row, &said)| self.is_true(part, said) == Some(!self.holds(part, row)));
         let needed = self.table.rules.iter().chain((part == 0).then_some(&self.table.wanted));
-        let missing = || needed.copied().find(|&row| !self.assembly.holds(part, row));
+        let missing = || needed.copied().find(|&row| !self.holds(part, row));
         wrong.next().map(|(row, _)| row).or_else(missing)
     }
 
     fn not_as_listed(&self, part: usize, row: u8) -> &'static str {
-        if self.assembly.holds(part, row) {
+        if self.holds(part, row) {
             "not true of"
         } else {
             "true of"
@@ -91,30 +70,30 @@ impl<'a> Parts<'a> {
 
     /// Is a row true of a part, by the rows that it names? `None` of a name, which stands for itself.
     fn is_true(&self, part: usize, row: Row) -> Option<bool> {
-        let holds = |row: u8| self.assembly.holds(part, row);
+        let holds = |row: u8| self.holds(part, row);
         Some(match row {
             Row::Name(_) => return None,
             Row::NotName(name) => !holds(self.table.row_of_name(name)?),
             Row::Both(left, right) => holds(left) && holds(right),
             Row::Either(left, right) => holds(left) || holds(right),
-            Row::All { role, row } => self.reached(part, role).all(|to| self.assembly.holds(to, row)),
-            Row::Some { role, row } => self.reached(part, role).any(|to| self.assembly.holds(to, row)),
+            Row::All { role, row } => self.reached(part, role).all(|to| self.holds(to, row)),
+            Row::Some { role, row } => self.reached(part, role).any(|to| self.holds(to, row)),
             Row::Within { .. } => false,
             Row::Not(row) => !holds(row),
             Row::If(left, right) => !holds(left) || holds(right),
         })
     }
 
-    /// For each part, as bits, the rows on which it depends there that the rules and the wanted row are true: both of a
+    /// For each part the rows on which it depends there that the rules and the wanted row are true: both of a
     /// "both", the only one that is true of an "either", what an "all" leads to. Rows name lower ones, so one way down
     /// finds them all.
-    pub fn needed(&self) -> Vec<u64> {
-        let bit = |row: u8| 1u64 << row;
-        let rules = self.table.rules.iter().fold(0, |bits, &rule| bits | bit(rule));
+    pub fn needed(&self) -> Vec<RowSet> {
+        let rules: RowSet = self.table.rules.iter().copied().collect();
         let mut needed = vec![rules; self.assembly.elements.len()];
-        needed[0] |= bit(self.table.wanted);
-        for (at, &said) in self.table.rows.iter().enumerate().rev() {
-            for part in (0..needed.len()).filter(|&part| needed[part] >> at & 1 == 1).collect::<Vec<_>>() {
+        needed[0].insert(self.table.wanted);
+        let rows: Vec<(u8, Row)> = (0u8..).zip(self.table.rows.iter().copied()).collect();
+        for &(row, said) in rows.iter().rev() {
+            for part in (0..needed.len()).filter(|&part| needed[part].contains(row)).collect::<Vec<_>>() {
                 self.add_needed(&mut needed, part, said);
             }
         }
@@ -122,16 +101,15 @@ impl<'a> Parts<'a> {
     }
 
     /// What a row that is needed at a part needs in turn.
-    fn add_needed(&self, needed: &mut [u64], part: usize, said: Row) {
-        let bit = |row: u8| 1u64 << row;
+    fn add_needed(&self, needed: &mut [RowSet], part: usize, said: Row) {
         match said {
-            Row::Both(left, right) => needed[part] |= bit(left) | bit(right),
-            Row::Either(left, right) => match [left, right].map(|row| self.assembly.holds(part, row)) {
-                [true, false] => needed[part] |= bit(left),
-                [false, true] => needed[part] |= bit(right),
+            Row::Both(left, right) => [left, right].into_iter().for_each(|row| needed[part].insert(row)),
+            Row::Either(left, right) => match [left, right].map(|row| self.holds(part, row)) {
+                [true, false] => needed[part].insert(left),
+                [false, true] => needed[part].insert(right),
                 _ => {}
             },
-            Row::All { role, row } => self.reached(part, role).for_each(|to| needed[to] |= bit(row)),
+            Row::All { role, row } => self.reached(part, role).for_each(|to| needed[to].insert(row)),
             _ => {}
         }
     }
@@ -145,17 +123,18 @@ fn names_of(table: &Table, assembly: &Assembly) -> Vec<Vec<u8>> {
             own.or_else(|| table.row_of_not_name(name).map(|row| (name, row, false)))
         })
         .collect();
-    let names = |part: usize| {
-        let there = rows.iter().filter(|&&(_, row, says)| assembly.holds(part, row) == says);
+    let names = |set: &RowSet| {
+        let there = rows.iter().filter(|&&(_, row, says)| set.contains(row) == says);
         there.map(|&(name, _, _)| name).collect()
     };
-    (0..assembly.elements.len()).map(names).collect()
+    assembly.elements.iter().map(names).collect()
 }
 
 /// Each part's links, from both ends and each once: `L 1 3 3` and `L 3 2 1` are one.
 fn seen_links(assembly: &Assembly) -> Vec<Vec<(u8, usize)>> {
     let mut seen = vec![Vec::new(); assembly.elements.len()];
     for &Link { from, role, to } in &assembly.links {
+        let (from, to) = (usize::from(from), usize::from(to));
         seen[from].push((role, to));
         seen[to].push((role ^ 1, from));
     }

@@ -1,7 +1,7 @@
 //! The catalogue page of a rule file: which of its kinds are which, as a table and in sentences.
 
 use crate::kinds::Known;
-use crate::phrases::{count, enumerated, Said};
+use crate::phrases::{enumerated, Said};
 use crate::wording::Wording;
 use gumbyra::{Catalogue, IsA, Refusal, Sizes, Space, Table, Verdict, LARGEST_TABLE};
 
@@ -113,9 +113,12 @@ impl Runs<'_> {
         if self.short.is_empty() {
             return String::new();
         }
-        let are = if open.len() == 1 { "is" } else { "are" };
-        let entries = count(open.len(), "entry").replace("entrys", "entries");
-        format!("\n{entries} {are} not decided, for want of {}. {}\n", self.short_areas(), self.call())
+        let what = match open.len() {
+            0 => "Whether there can be one is".to_string(),
+            1 => "1 entry is".to_string(),
+            many => format!("{many} entries are"),
+        };
+        format!("\n{what} not decided, for want of {}. {}\n", self.short_areas(), self.call())
     }
 
     /// "nodes (60 lent)".

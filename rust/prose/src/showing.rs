@@ -70,7 +70,7 @@ impl Subject {
             Ok((Kind::Draft, draft)) => {
                 Subject::of_draft(file, &draft).map_err(|refusal| (refusal, refused::of_run(&refusal)))
             }
-            Err((kind, fault)) => Err((refused::of_fault(&fault), refused::of_check(kind, &fault, file))),
+            Err((kind, fault)) => Err((Refusal::from(fault), refused::of_check(kind, &fault, file))),
         }
     }
 

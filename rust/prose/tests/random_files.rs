@@ -5,9 +5,8 @@ mod common;
 use common::{fit, shown};
 use compare::inclusions::with_inclusions;
 use compare::{damage, random_bytes, random_draft, random_file, Prng, Shape};
-use gumbyra::{convert, Row, Sizes, Table, LONGEST_FILE};
+use gumbyra::{convert, Assembly, Link, Row, Sizes, Table, LONGEST_FILE};
 use prose::answer::Answer;
-use prose::assembly::{Assembly, Link};
 use prose::command::Ending;
 use prose::showing::{answer, file};
 use std::collections::BTreeSet;
@@ -70,8 +69,9 @@ fn link_of(words: &str) -> (u8, usize) {
 
 /// The links of a part, seen from both ends.
 fn links_of(assembly: &Assembly, part: usize) -> BTreeSet<(u8, usize)> {
-    let forth = assembly.links.iter().filter(|link| link.from == part).map(|link| (link.role, link.to));
-    let back = assembly.links.iter().filter(|link| link.to == part).map(|link| (link.role ^ 1, link.from));
+    let ends = assembly.links.iter().map(|link| (usize::from(link.from), link.role, usize::from(link.to)));
+    let forth = ends.clone().filter(|&(from, ..)| from == part).map(|(_, role, to)| (role, to));
+    let back = ends.filter(|&(.., to)| to == part).map(|(from, role, _)| (role ^ 1, from));
     forth.chain(back).collect()
 }
 
@@ -80,10 +80,14 @@ fn check_parts(table: &Table, assembly: &Assembly, page: &str) {
     let parts = told(page);
     assert_eq!(parts.len(), assembly.elements.len(), "{page}");
     for (at, part) in parts.iter().enumerate() {
-        assert!(part.holds.iter().all(|&row| assembly.holds(at, row)), "part {at}\n{page}");
-        assert!(part.not.iter().all(|&row| !assembly.holds(at, row)), "part {at}\n{page}");
+        assert!(part.holds.iter().all(|&row| assembly.elements[at].contains(row)), "part {at}\n{page}");
+        assert!(part.not.iter().all(|&row| !assembly.elements[at].contains(row)), "part {at}\n{page}");
         for (row, _) in (0u8..).zip(&table.rows).filter(|(_, said)| matches!(said, Row::Name(_))) {
-            assert_eq!(part.holds.contains(&row), assembly.holds(at, row), "row {row} of part {at}\n{page}");
+            assert_eq!(
+                part.holds.contains(&row),
+                assembly.elements[at].contains(row),
+                "row {row} of part {at}\n{page}"
+            );
         }
         assert_eq!(part.links, links_of(assembly, at), "part {at}\n{page}");
     }
@@ -148,8 +152,8 @@ fn is_true(
 ) -> bool {
     let own = |row: u8| truths[part][usize::from(row)];
     let has = |name: u8| match (file.row_of_name(name), file.row_of_not_name(name)) {
-        (Some(row), _) => assembly.holds(part, row),
-        (None, Some(row)) => !assembly.holds(part, row),
+        (Some(row), _) => assembly.elements[part].contains(row),
+        (None, Some(row)) => !assembly.elements[part].contains(row),
         (None, None) => false,
     };
     let reached = |role: u8| {
@@ -264,5 +268,5 @@ fn an_answer_is_read_as_it_was_given() {
     let link = Link { from: 0, role: 31, to: 0 };
     let read = Answer::read(b"CAN 1 1\nUSED 1 2 3\nE 0 ffffffffffffffff\nL 0 31 0");
     let Ok(Answer::Can { assembly, .. }) = read else { panic!("{read:?}") };
-    assert_eq!(assembly, Assembly { elements: vec![u64::MAX], links: vec![link] });
+    assert_eq!(assembly, Assembly { elements: vec![(0..64).collect()], links: vec![link] });
 }

@@ -48,7 +48,7 @@ fn the_library_has_the_sentences() {
     }
 }
 
-/// For callers and translators: docs/USE.md has each number with its sentence, rising, and no other.
+/// For callers and translators: docs/USE.md has each number with its sentence and what to do, rising, and no other.
 #[test]
 fn the_list_of_messages_is_complete() {
     let document = document("docs/USE.md");
@@ -57,7 +57,7 @@ fn the_list_of_messages_is_complete() {
     let items: Vec<String> = list.split("\n- **").skip(1).map(|item| item.replace("\n  ", " ")).collect();
     assert_eq!(items.len(), REFUSALS.len(), "{items:#?}");
     for (item, refusal) in items.iter().zip(&REFUSALS) {
-        let start = format!("{}** {} *", refusal.number(), refusal.sentence());
+        let start = format!("{}** {} *{}*", refusal.number(), refusal.sentence(), refusal.advice());
         assert!(item.starts_with(&start), "{item} does not begin with {start}");
     }
 }
