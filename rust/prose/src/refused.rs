@@ -25,6 +25,6 @@ fn lines(refusal: &Refusal, place: Option<String>) -> String {
 
 /// What to do; where an area was short, also that a command lends more.
 fn advice(refusal: &Refusal) -> String {
-    let enlarging = Sizes::USUAL.enlarged(*refusal).map_or("", |_| " ./show --fit does so.");
+    let enlarging = Sizes::USUAL.enlarged(*refusal).map_or("", |_| " (./show --fit lends more.)");
     format!("{}{enlarging}", refusal.advice())
 }
