@@ -22,9 +22,6 @@ trap : PIPE
 can_tell=yes
 true >&2 || { can_tell=no; exec 2>/dev/null; }
 
-# A program in Rust takes a closed standard input for an empty one; a folder in its place can't be read.
-{ true <&0; } 2>/dev/null || exec <"$root"
-
 # rt and cargo are called in other folders.
 [[ ${TMPDIR:-/} = /* ]] || TMPDIR=$PWD/$TMPDIR
 
@@ -162,7 +159,8 @@ prove() {
   command -v rt >/dev/null || fail "the Rattle toolchain, rt, is not installed: README.md, Try it, says where it comes from"
   lock
   if ! is_built "$stamp" "$result"; then
-    say "proving, 5 to 15 minutes, once (less if it was done before and little has changed since)"
+    [ -n "${announced-}" ] || say "proving, 5 to 15 minutes, once (less if it was done before and little has changed since)"
+    announced=yes
     mkdir -p -- "$root/target/built" && touch -- "$stamp.begun" || fail "target/ can't be written"
     (cd -- "$root" && rt "$@") </dev/null >&2 && [ -e "$result" ] || fail "rt $* failed: its last lines say why"
     mv -- "$stamp.begun" "$stamp" || fail "target/ can't be written"
@@ -173,13 +171,15 @@ prove() {
 # ---- programs in Rust
 
 # Builds a program of rust/ over the library and runs it on the words that follow: 0, 1 and 2 are its own, anything else is a failure.
-# A program in Rust does not notice that standard output is closed. cargo and rustup go by the settings of the folder they are called in.
+# A program in Rust takes a closed stream for /dev/null, so that is looked for here; a folder in place of standard input can't be read.
+# cargo and rustup go by the settings of the folder they are called in.
 run_rust() {
   local program=$1 status
   shift
   [ "${1-}" != --help ] || { print_usage; exit 0; }
   [ "$#" -gt 0 ] || fail "a file is to be named"$'\n'"$usage"
-  { true >&1; } 2>/dev/null || fail "standard output is closed"
+  { true 3>&1; } 2>/dev/null || fail "standard output can't be written"
+  { true 3<&0; } 2>/dev/null || exec <"$root"
   command -v cargo >/dev/null || fail "cargo is not installed: Rust 1.88 or later is needed, for instance from https://rustup.rs"
   "$root/library" </dev/null >&2 || exit 2
   (cd -- "$root/rust" && cargo build --release --offline --quiet --target-dir "$root/rust/target" -p prose --bin "$program") \
