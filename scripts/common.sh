@@ -102,11 +102,12 @@ is_refusal() {
 # Is it a whole verdict: as many lines as its first one tells of, each ended, and no other lines than a verdict has?
 is_verdict() {
   local -x LC_ALL=C
-  local line='' first='^(CANNOT|CAN ([0-9]{1,5}) ([0-9]{1,5}))$'
+  local line='' lines first='^(CANNOT|CAN ([0-9]{1,5}) ([0-9]{1,5}))$'
   local known='CANNOT|CAN [0-9]+ [0-9]+|USED( [0-9]+){3}|E [0-9]+ [0-9a-f]{16}|L( [0-9]+){3}'
   IFS= read -r line <"$1"
   [[ $line =~ $first ]] || return 1
-  [ "$(wc -l <"$1")" -eq $((2 + 10#${BASH_REMATCH[2]:-0} + 10#${BASH_REMATCH[3]:-0})) ] && ! grep -aEvqx "$known" "$1"
+  lines=$((2 + 10#${BASH_REMATCH[2]:-0} + 10#${BASH_REMATCH[3]:-0}))
+  [ "$(wc -l <"$1")" -eq "$lines" ] && [ "$(grep -aEcx "$known" "$1")" -eq "$lines" ]
 }
 
 # Is it a whole rule file: a mark at its end, and the length that its trailer (place of the first row, rows, rules, wanted, mark) tells of?
