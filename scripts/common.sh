@@ -18,6 +18,15 @@ command_name=${0##*/}
 # A reader that is gone is a failed write, told by the status of the write, and not the end of this shell.
 trap : PIPE
 
+# Ends by the signal, as a shell without traps does; what stands in the trap for EXIT is done before.
+end_by() {
+  trap - "$1"
+  kill -"$1" "$$"
+}
+
+# Without this, bash forgets a Ctrl-C that comes while a tool ends as usual, and goes on.
+trap 'end_by INT' INT
+
 # A closed standard error would make rt and cargo fail for want of it; what only goes there is lost (`can_tell` remembers).
 can_tell=yes
 true >&2 || { can_tell=no; exec 2>/dev/null; }
@@ -69,12 +78,15 @@ take_file() {
 
 # ---- input
 
-# A folder of its own, gone at the end. Its name is known before it is made: a signal in between leaves nothing. (mkdir takes no folder that
-# is there already.)
+# A folder of its own, gone at the end. Its name is known before it is made, and signals wait until mkdir has ended, so that one in between
+# leaves nothing. (mkdir takes no folder that is there already.)
 make_work() {
   work=${TMPDIR:-/tmp}/gumbyra.$$.$RANDOM$RANDOM
   trap 'rm -rf -- "$work"' EXIT
+  trap 'end_by TERM' TERM
+  trap 'end_by HUP' HUP
   mkdir -m 700 -- "$work" || { trap - EXIT; fail "no temporary folder can be made in ${TMPDIR:-/tmp}"; }
+  trap - TERM HUP
 }
 
 # Copies the file, or standard input for `-`, to $work/input. Of a longer one 1 MiB is enough to see that it is no rule file. Standard input

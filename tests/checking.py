@@ -54,7 +54,7 @@ class Room:
         """The shell that runs the line, at the head of a process group of its own; its streams are files of the folder."""
         streams = {key: open(self.folder / key, "wb+") for key in ("stdout", "stderr")}
         settings = {"cwd": ROOT, "env": self.variables, "stdin": subprocess.DEVNULL, **streams, **more}
-        return subprocess.Popen(["bash", "-c", line], start_new_session=True, **settings)
+        return subprocess.Popen(["bash", "-c", line], start_new_session=True, preexec_fn=take_signals, **settings)
 
     def ended(self, process):
         """Its status; it is killed if it hangs."""
@@ -72,8 +72,9 @@ class Room:
         wrong = [f"status {got!r} in place of {status}"] if got != status else []
         for stream, wanted in (("stdout", out), ("stderr", err)):
             wrong += difference(stream, (self.folder / stream).read_bytes(), wanted)
-        left = sorted(path.name for path in self.temporary.iterdir())
-        wrong += [f"left in TMPDIR: {left}"] if left else []
+        for left in self.temporary.iterdir():
+            wrong += [f"left in TMPDIR: {left.name}"]
+            shutil.rmtree(left)
         self.check(name, "; ".join(wrong))
 
     def wait_for(self, name, condition):
@@ -82,6 +83,12 @@ class Room:
         while not condition() and time.monotonic() < end:
             time.sleep(0.01)
         self.check(name, "" if condition() else "it does not come about")
+
+
+def take_signals():
+    """A shell that runs the checks in the background, or nohup, lets them ignore signals; a run is not to inherit that."""
+    for number in (signal.SIGINT, signal.SIGTERM, signal.SIGHUP):
+        signal.signal(number, signal.SIG_DFL)
 
 
 def difference(stream, got, wanted):

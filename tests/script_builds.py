@@ -4,6 +4,7 @@ import os
 import shutil
 import signal
 import subprocess
+import time
 
 from checking import ROOT, Last
 from script_runs import usage
@@ -261,6 +262,7 @@ def check_interrupted(room, copy):
     for name, number, send in (("SIGINT", signal.SIGINT, os.killpg), ("SIGTERM", signal.SIGTERM, os.killpg), ("SIGTERM alone", signal.SIGTERM, os.kill)):
         copy.clean()
         process = holding(room, copy, "fit")
+        time.sleep(0.1)
         send(process.pid, number)
         room.same(f"building, {name}: the status", room.ended(process), -number)
         room.same(f"building, {name}: nothing is left", list(room.temporary.iterdir()), [])

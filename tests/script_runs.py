@@ -2,8 +2,9 @@
 import os
 import pathlib
 import signal
-import socket
+import stat
 import subprocess
+import time
 
 from checking import ROOT, Last
 
@@ -99,8 +100,7 @@ def check_inputs(room, command):
     with open(room.folder / "zeros", "wb") as zeros:
         zeros.truncate(10**9)
     os.symlink("loop", room.write("made", b"").with_name("loop"))
-    server = socket.socket(socket.AF_UNIX)
-    server.bind(str(room.folder / "socket"))
+    os.mknod(room.folder / "socket", stat.S_IFSOCK | 0o600)
     folder, missing = command.failure(f"{room.folder} is a folder"), command.failure(f"there is no file {room.folder}/none")
     unread = Last(f"{command.name}: {{}} can't be read, or not be copied to {room.temporary}\n")
     for name, word, wanted in (
@@ -120,7 +120,6 @@ def check_inputs(room, command):
         ("a socket", '"$T/socket"', (2, "", Last(unread.format(f"{room.folder}/socket")))),
     ):
         room.run(f"{command.name}: {name}", f'"$R/$C" {word}', *wanted)
-    server.close()
     for name in ("zeros", "loop", "socket"):
         os.unlink(room.folder / name)
 
@@ -287,7 +286,9 @@ def check_signals(room, command):
         reader, writer = os.pipe()
         process = room.start('exec "$R/$C" -', stdin=reader)
         os.close(reader)
-        room.wait_for(f"{command.name}: {name}: a temporary folder", lambda: any(room.temporary.iterdir()))
+        room.wait_for(f"{command.name}: {name}: it reads", lambda: any(room.temporary.glob("*/input")))
+        # A signal that comes while the shell starts a tool may pass the tool by; now it waits for input.
+        time.sleep(0.1)
         send(process.pid, number)
         room.same(f"{command.name}: {name}: the status", room.ended(process), -number)
         os.close(writer)
