@@ -1,5 +1,5 @@
 """Checks of building, in a copy of the commands in a folder with a space and a comma in its name. Stand-ins take the place of rt and cargo:
-they log how they are called and where, and write programs that do what a file of the check says."""
+they log how they are called and where, read what they are given to read, and write programs that do what a file of the check says."""
 import os
 import shutil
 import signal
@@ -18,7 +18,9 @@ CAN = "CAN 2 1\nUSED 3 4 5\nE 0 0000000000000001\nE 1 00000000000000ff\nL 0 3 1\
 RULES = b"x\1\0\0\0\1\0\1\0\0FIT"
 
 STAND_IN_RT = """#!/bin/sh
+[ ! -e "$T/deaf" ] || trap "" INT
 echo "rt $* in $(pwd)" >>"$T/calls"
+cat >/dev/null
 echo "rt: on standard output"
 echo "rt: on standard error" >&2
 sleep 0.02
@@ -32,6 +34,7 @@ esac
 """
 STAND_IN_CARGO = """#!/bin/sh
 echo "cargo $* in $(pwd)" >>"$T/calls"
+cat >/dev/null
 [ ! -e "$T/cargo fails" ] || exit 101
 while [ "$#" -gt 0 ]; do
   case $1 in
@@ -106,7 +109,8 @@ class Copy:
 
 def check_builds(room):
     copy = Copy(room)
-    for part in (check_once, check_old, check_failing, check_missing, check_answers, check_two, check_interrupted, check_library, check_rust):
+    for part in (check_once, check_old, check_failing, check_missing, check_answers, check_two, check_interrupted, check_deaf, check_library,
+                 check_rust):
         copy.clean()
         part(room, copy)
 
@@ -172,6 +176,10 @@ def check_failing(room, copy):
     room.write("rt fails", "1")
     copy.run("fit: an old program does not answer for a failed build", '"$R/fit" "$F"', 2, "", failure, ["rt check fit"])
     (room.folder / "rt fails").unlink()
+    (copy.root / "crates.txt").rename(copy.root / "away")
+    for setting in ("", "POSIXLY_CORRECT=1 "):
+        copy.run(f"fit: {setting}no crates.txt", f'{setting}"$R/fit" "$F"', 2, "", Last("fit: crates.txt can't be read\n"), [])
+    (copy.root / "away").rename(copy.root / "crates.txt")
     shutil.rmtree(copy.root / "target")
     room.write("a copy, with spaces/target", "a file")
     copy.run("fit: target can't be written", '"$R/fit" "$F"', 2, "", Last("fit: target/ can't be written\n"), [])
@@ -278,6 +286,19 @@ def check_interrupted(room, copy):
             copy.run(f"building, {name}: the next", '"$R/fit" "$F"', 0, CAN, PROVING.format("fit") + SAID, ["rt check fit", "rt check fit"])
 
 
+def check_deaf(room, copy):
+    """Ctrl-C ends a command also if rt, or another tool, ends as usual."""
+    room.write("deaf", "")
+    process = holding(room, copy, "fit")
+    time.sleep(0.1)
+    os.killpg(process.pid, signal.SIGINT)
+    (room.folder / "hold").unlink()
+    room.same("building, rt ignores SIGINT: the status", room.ended(process), -signal.SIGINT)
+    room.same("building, rt ignores SIGINT: nothing is printed", (room.folder / "first").read_text(), "")
+    (room.folder / "deaf").unlink()
+    copy.run("building, rt ignores SIGINT: the next", '"$R/fit" "$F"', 0, CAN, None, ["rt check fit", "rt check fit"])
+
+
 ARCHIVES = ["rt staticlib gumbyra", "rt staticlib gumbyra_kinds"]
 LAID_OUT = ["include/gumbyra.h", "lib/libgumbyra.a", "lib/libgumbyra.so", "lib/pkgconfig/gumbyra.pc"]
 
@@ -344,6 +365,7 @@ def check_rust(room, copy):
         for status, wanted in (("0", 0), ("1", 1), ("2", 2), ("3", 2), ("101", 2), ("255", 2)):
             err = "told\n" + (f"{name}: the program ended with status {status}\n" if int(status) > 2 else "")
             copy.run(f"{name}: status {status}", f'STATUS={status} "$R/$C" x', wanted, None, err, build)
+            copy.run(f"{name}: status {status}, errexit", f'env SHELLOPTS=errexit STATUS={status} "$R/$C" x', wanted, None, err, build)
         check_rust_program(room, copy, name, build)
 
 

@@ -9,6 +9,13 @@ import time
 from checking import ROOT, Last
 
 SAMPLES = ROOT / "samples"
+# Gives a stream (1 or 2) to a pipe whose reader is gone, and runs a command; Python itself ignores SIGPIPE.
+GONE = """python3 -c 'import os, signal, sys
+signal.signal(signal.SIGPIPE, signal.{1})
+reader, writer = os.pipe()
+os.close(reader)
+os.dup2(writer, {0})
+os.execv(sys.argv[1], sys.argv[1:])' """
 EXPLANATION = "{}: refused: docs/USE.md, Refusals, says what the number means and what to do; ./show tells which row\n"
 
 
@@ -195,17 +202,17 @@ def check_places(room, command):
 def check_outputs(room, command):
     """A standard output that does not take the answer."""
     lost = (2, "", Last(f"{command.name}: standard output can't be written\n"))
-    gone = "import os, sys; r, w = os.pipe(); os.close(r); os.dup2(w, 1); os.execv(sys.argv[1], sys.argv[1:])"
     for name, line in (
         ("/dev/full", '"$R/$C" "$F" >/dev/full'),
         ("closed", '"$R/$C" "$F" >&-'),
         ("standard input and output closed", '"$R/$C" "$F" >&- <&-'),
         ("not for writing", '"$R/$C" "$F" 1</dev/null'),
-        ("the reader is gone", f'python3 -c "{gone}" "$R/$C" "$F"'),
-        ("the reader is gone, SIGPIPE ignored", f'trap "" PIPE; python3 -c "{gone}" "$R/$C" "$F"'),
+        ("the reader is gone", GONE.format(1, "SIG_DFL") + '"$R/$C" "$F"'),
+        ("the reader is gone, SIGPIPE ignored", GONE.format(1, "SIG_IGN") + '"$R/$C" "$F"'),
         ("usage to /dev/full", '"$R/$C" --help >/dev/full'),
         ("usage, closed", '"$R/$C" --help >&-'),
-        ("usage, the reader is gone", f'python3 -c "{gone}" "$R/$C" --help'),
+        ("usage, the reader is gone", GONE.format(1, "SIG_DFL") + '"$R/$C" --help'),
+        ("usage, the reader is gone, SIGPIPE ignored", GONE.format(1, "SIG_IGN") + '"$R/$C" --help'),
     ):
         room.run(f"{command.name}: {name}", line, *lost)
     room.run(f"{command.name}: all streams closed", '"$R/$C" "$F" >&- <&- 2>&-', 2, "", "")
@@ -218,11 +225,11 @@ def check_errors(room, command):
     """A standard error that takes nothing: an answer is one all the same, a refusal that is told nowhere is a failure."""
     status, out, _ = command.refusal(1)
     told = status if out else 2
-    gone = "import os, sys; r, w = os.pipe(); os.close(r); os.dup2(w, 2); os.execv(sys.argv[1], sys.argv[1:])"
     for name, line in (
         ("closed", '"$R/$C" {} 2>&-'),
         ("/dev/full", '"$R/$C" {} 2>/dev/full'),
-        ("the reader is gone", f'python3 -c "{gone}" "$R/$C" {{}}'),
+        ("the reader is gone", GONE.format(2, "SIG_DFL") + '"$R/$C" {}'),
+        ("the reader is gone, SIGPIPE ignored", GONE.format(2, "SIG_IGN") + '"$R/$C" {}'),
     ):
         room.run(f"{command.name}: standard error {name}", line.format('"$F"'), 0, command.answer, "")
         room.run(f"{command.name}: a refusal, standard error {name}", line.format("/dev/null"), told, out, "")
