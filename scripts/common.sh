@@ -3,11 +3,36 @@
 # A command ends with 0 if it gives what was asked for, 1 with a refusal, 2 if reading, writing or building failed. A Rattle program has no
 # exit status and takes a read error for the end of its input; so input and output go through files, and are judged here.
 #
-# In order: messages; the words of a call; input; judging and handing over an output; building; programs in Rust.
+# In order: the shell and its streams; messages; the words of a call; input; judging and handing over an output; building; programs in Rust.
+
+# ---- the shell and its streams
+
+# Each step is judged where it stands, so the shell is not to end by itself, whatever options the caller hands down by SHELLOPTS or
+# POSIXLY_CORRECT: it would end with a status that says something else.
+set +e +o posix
 set -uo pipefail
 
-root=$(realpath -- "$(dirname -- "$(realpath -- "${BASH_SOURCE[0]}")")/..")
-command_name=$(basename -- "$(realpath -- "$0")")
+root=${BASH_SOURCE[0]%/scripts/common.sh}
+command_name=${0##*/}
+
+# A reader that is gone is a failed write, told by the status of the write, and not the end of this shell.
+trap : PIPE
+
+# Ends by the signal, as a shell without traps does; what stands in the trap for EXIT is done before.
+end_by() {
+  trap - "$1"
+  kill -"$1" "$$"
+}
+
+# Without this, bash forgets a Ctrl-C that comes while a tool ends as usual, and goes on.
+trap 'end_by INT' INT
+
+# A closed standard error would make rt and cargo fail for want of it; what only goes there is lost (`can_tell` remembers).
+can_tell=yes
+true >&2 || { can_tell=no; exec 2>/dev/null; }
+
+# rt and cargo are called in other folders.
+[[ ${TMPDIR:-/} = /* ]] || TMPDIR=$PWD/$TMPDIR
 
 # ---- messages
 
@@ -41,7 +66,7 @@ take_words() {
 }
 
 print_usage() {
-  printf '%s\n' "$usage" || exit 2
+  { printf '%s\n' "$usage"; } 2>/dev/null || fail "standard output can't be written"
 }
 
 # The one file that the call names.
@@ -53,49 +78,56 @@ take_file() {
 
 # ---- input
 
-# A folder of its own, gone at the end.
+# A folder of its own, gone at the end. Its name is known before it is made, and signals wait until mkdir has ended, so that one in between
+# leaves nothing. (mkdir takes no folder that is there already.)
 make_work() {
-  work=$(mktemp -d) || fail "there is no room for temporary files"
+  work=${TMPDIR:-/tmp}/gumbyra.$$.$RANDOM$RANDOM
   trap 'rm -rf -- "$work"' EXIT
+  trap 'end_by TERM' TERM
+  trap 'end_by HUP' HUP
+  mkdir -m 700 -- "$work" || { trap - EXIT; fail "no temporary folder can be made in ${TMPDIR:-/tmp}"; }
+  trap - TERM HUP
 }
 
-# Copies the file, or standard input for `-`, to $work/input. Of a longer one 1 MiB is enough to see that it is no rule file.
+# Copies the file, or standard input for `-`, to $work/input. Of a longer one 1 MiB is enough to see that it is no rule file. Standard input
+# may have lost as much to `head`, which is no harm: a rule file ends where its input does.
 read_input() {
   if [ "$file" = - ]; then
-    head -c 1048576 >"$work/input" || fail "standard input can't be read"
+    head -c 1048576 >"$work/input" || fail "standard input can't be read, or not be copied to ${TMPDIR:-/tmp}"
     return
   fi
   [ -e "$file" ] || fail "there is no file $file"
   [ ! -d "$file" ] || fail "$file is a folder"
-  { head -c 1048576 <"$file" >"$work/input"; } || fail "$file can't be read"
+  head -c 1048576 -- "$file" >"$work/input" || fail "$file can't be read, or not be copied to ${TMPDIR:-/tmp}"
 }
 
 # ---- judging and handing over an output
 
 # Is the file exactly one line `REFUSED ..`? A rule file may hold such a line, too.
 is_refusal() {
+  local -x LC_ALL=C
   local line=''
   IFS= read -r line <"$1"
   [[ $line =~ ^REFUSED(\ [0-9]+)+$ ]] && printf '%s\n' "$line" | cmp -s - "$1"
 }
 
-# Is it a whole verdict, with all the lines that its first one tells of?
+# Is it a whole verdict: as many lines as its first one tells of, each ended, and no other lines than a verdict has?
 is_verdict() {
-  local verdict='' elements='' links='' lines
-  read -r verdict elements links <"$1"
-  lines=$(wc -l <"$1")
-  case $verdict in
-    CANNOT) [ "$lines" -eq 2 ] ;;
-    CAN) [ "$lines" -eq $((2 + elements + links)) ] ;;
-    *) false ;;
-  esac
+  local -x LC_ALL=C
+  local line='' lines first='^(CANNOT|CAN ([0-9]{1,5}) ([0-9]{1,5}))$'
+  local known='CANNOT|CAN [0-9]+ [0-9]+|USED( [0-9]+){3}|E [0-9]+ [0-9a-f]+|L( [0-9]+){3}'
+  IFS= read -r line <"$1"
+  [[ $line =~ $first ]] || return 1
+  lines=$((2 + 10#${BASH_REMATCH[2]:-0} + 10#${BASH_REMATCH[3]:-0}))
+  [ "$(wc -l <"$1")" -eq "$lines" ] && [ "$(grep -aEcx "$known" "$1")" -eq "$lines" ]
 }
 
-# Is it a whole rule file: a mark at its end, and the length that its trailer tells of?
+# Is it a whole rule file: a mark at its end, and the length that its trailer (place of the first row, rows, rules, wanted, mark) tells of?
 is_rule_file() {
-  local low high rows rules wanted mark
-  read -r low high rows rules wanted mark <<<"$(tail -c 8 "$1" | od -An -v -tu1 -w8)"
-  [ "$mark" = '70 73 84' ] && [ $((low + 256 * high + 4 * rows + rules + 8)) -eq "$(wc -c <"$1")" ]
+  local trailer
+  read -r -a trailer <<<"$(tail -c 8 "$1" | od -An -v -tu1 -w8)"
+  [ "${trailer[*]:5}" = '70 73 84' ] &&
+    [ $((trailer[0] + 256 * trailer[1] + 4 * trailer[2] + trailer[3] + 8)) -eq "$(wc -c <"$1")" ]
 }
 
 # Runs the program on what was read; a whole output is a refusal or passes the test that is named.
@@ -140,9 +172,10 @@ prove() {
   command -v rt >/dev/null || fail "the Rattle toolchain, rt, is not installed: README.md, Try it, says where it comes from"
   lock
   if ! is_built "$stamp" "$result"; then
-    say "proving, 5 to 15 minutes, once (less if it was done before and little has changed since)"
+    [ -n "${announced-}" ] || say "proving, 5 to 15 minutes, once (less if it was done before and little has changed since)"
+    announced=yes
     mkdir -p -- "$root/target/built" && touch -- "$stamp.begun" || fail "target/ can't be written"
-    (cd -- "$root" && rt "$@") </dev/null >&2 || fail "rt $* failed: its last lines say why"
+    (cd -- "$root" && rt "$@") </dev/null >&2 && [ -e "$result" ] || fail "rt $* failed: its last lines say why"
     mv -- "$stamp.begun" "$stamp" || fail "target/ can't be written"
   fi
   unlock
@@ -151,16 +184,19 @@ prove() {
 # ---- programs in Rust
 
 # Builds a program of rust/ over the library and runs it on the words that follow: 0, 1 and 2 are its own, anything else is a failure.
+# A program in Rust takes a closed stream for /dev/null, so that is looked for here; a folder in place of standard input can't be read.
+# cargo and rustup go by the settings of the folder they are called in.
 run_rust() {
   local program=$1 status
   shift
-  # A program in Rust finds /dev/null in place of what is closed. (`>&1` alone would be no copy, and no error.)
-  { true 3>&1; } 2>/dev/null || fail "standard output is closed"
-  [[ " $* " != *" - "* ]] || { true 3<&0; } 2>/dev/null || fail "standard input is closed"
+  [ "${1-}" != --help ] || { print_usage; exit 0; }
+  [ "$#" -gt 0 ] || fail "a file is to be named"$'\n'"$usage"
+  { true 3>&1; } 2>/dev/null || fail "standard output can't be written"
+  { true 3<&0; } 2>/dev/null || exec <"$root"
   command -v cargo >/dev/null || fail "cargo is not installed: Rust 1.88 or later is needed, for instance from https://rustup.rs"
-  "$root/library" >&2 || exit 2
-  cargo build --release --offline --quiet --manifest-path "$root/rust/Cargo.toml" --target-dir "$root/rust/target" \
-    -p prose --bin "$program" </dev/null >&2 || fail "cargo could not build the program"
+  "$root/library" </dev/null >&2 || exit 2
+  (cd -- "$root/rust" && cargo build --release --offline --quiet --target-dir "$root/rust/target" -p prose --bin "$program") \
+    </dev/null >&2 || fail "cargo could not build the program"
   "$root/rust/target/release/$program" "$@"
   status=$?
   [ "$status" -le 2 ] || fail "the program ended with status $status"
