@@ -22,7 +22,7 @@ STAND_IN_RT = """#!/bin/sh
 echo "rt $* in $(pwd)" >>"$T/calls"
 cat >/dev/null
 echo "rt: on standard output"
-echo "rt: on standard error" >&2
+echo "rt: on standard error" >&2 || exit 1
 sleep 0.02
 while [ -e "$T/hold" ]; do sleep 0.02; done
 [ ! -e "$T/rt fails" ] || exit "$(cat "$T/rt fails")"
