@@ -27,9 +27,13 @@ end_by() {
 # Without this, bash forgets a Ctrl-C that comes while a tool ends as usual, and goes on.
 trap 'end_by INT' INT
 
-# A closed standard error would make rt and cargo fail for want of it; what only goes there is lost (`can_tell` remembers).
+# A closed standard error would make rt and cargo fail for want of it; what only goes there is lost, so `can_tell` remembers. (In its place
+# bash has opened the command's file, $here, and left it open, or it is still closed.)
 can_tell=yes
-true >&2 || { can_tell=no; exec 2>/dev/null; }
+if ! true >&2 || [ /dev/fd/2 -ef "$here" ]; then
+  can_tell=no
+  exec 2>/dev/null
+fi
 
 # rt and cargo are called in other folders.
 [[ ${TMPDIR:-/} = /* ]] || TMPDIR=$PWD/$TMPDIR

@@ -22,7 +22,7 @@ STAND_IN_RT = """#!/bin/sh
 echo "rt $* in $(pwd)" >>"$T/calls"
 cat >/dev/null
 echo "rt: on standard output"
-echo "rt: on standard error" >&2
+echo "rt: on standard error" >&2 || exit 1
 sleep 0.02
 while [ -e "$T/hold" ]; do sleep 0.02; done
 [ ! -e "$T/rt fails" ] || exit "$(cat "$T/rt fails")"
@@ -371,7 +371,8 @@ def check_rust(room, copy):
 
 def check_rust_program(room, copy, name, build):
     """The program's streams and signals, and a build that fails."""
-    room.write(name, "cat\n")
+    # As a program in Rust, it takes a closed standard input for an empty one.
+    room.write(name, "{ true 3<&0; } 2>/dev/null || exit 0; cat\n")
     copy.run(f"{name}: standard input", 'echo in | "$R/$C" -', 0, "in\n", "", build)
     copy.run(f"{name}: standard input closed can't be read", '"$R/$C" - <&-', 1, "", None, build)
     copy.run(f"{name}: standard error closed", 'echo in | "$R/$C" - 2>&-', 0, "in\n", "", build)
