@@ -3,10 +3,11 @@
 use crate::convention::Page;
 use crate::names::Names;
 use crate::refusal::Refusal;
+use gumbyra_table::NAMES;
 
 /// The most names of a catalogue: there are names 0 to 63, and each is listed once. So many are enough for every table
 /// of this engine, and of one that takes more rows.
-pub const MOST_NAMES: usize = 64;
+pub const MOST_NAMES: usize = NAMES as usize;
 
 /// The most entries of a table, a byte each. An area of so many bytes is enough for every table of this engine, and of
 /// one that takes more rows.

@@ -2,9 +2,7 @@
 
 use crate::convention::Conversion;
 use crate::refusal::Refusal;
-
-/// The most bytes of a rule file. An area of so many suffices for every conversion.
-pub const LONGEST_FILE: usize = 4096;
+use gumbyra_table::LONGEST_FILE;
 
 /// The file that a conversion wrote, or its refusal, with the area as it is after the call. `None` if it is no answer
 /// of the converter.

@@ -1,13 +1,11 @@
 //! The example that comes with "can", read from the bytes of the two example areas.
 
 use crate::row_set::{RowSet, ELEMENT_BYTES};
+use gumbyra_table::ROLE_CODES;
 use std::fmt;
 
 /// A link's record: from, role code, to, 2 bytes each, low byte first.
 pub const LINK_BYTES: usize = 6;
-
-/// The highest role code.
-const LAST_CODE: u8 = 31;
 
 /// An assembly that shows that the kit can exist. It borrows the two areas that hold it.
 #[derive(Clone, Copy, PartialEq, Eq)]
@@ -67,7 +65,7 @@ impl<'a> Example<'a> {
         let [elements, links] = areas;
         let elements = elements.as_chunks().0.get(..counts[0])?;
         let links: &[[u8; LINK_BYTES]] = links.as_chunks().0.get(..counts[1])?;
-        let have_roles = links.iter().all(|&[_, _, code, high, _, _]| code <= LAST_CODE && high == 0);
+        let have_roles = links.iter().all(|&[_, _, code, high, _, _]| code < ROLE_CODES && high == 0);
         have_roles.then_some(Example { elements, links })
     }
 

@@ -41,10 +41,9 @@ mod verdict;
 mod version;
 
 pub use catalogue::{Catalogue, IsA, LARGEST_TABLE, MOST_NAMES};
-pub use conversion::LONGEST_FILE;
 pub use example::{Assembly, Example, Link, LINK_BYTES};
 #[doc(inline)]
-pub use gumbyra_table::{origins, Fault, Origin, Place, Row, Table, Words};
+pub use gumbyra_table::{origins, Fault, Origin, Place, Row, Table, Words, LONGEST_FILE, NAMES, ROLE_CODES};
 pub use names::Names;
 pub use refusal::Refusal;
 pub use row_set::{RowSet, ELEMENT_BYTES};

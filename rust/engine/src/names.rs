@@ -1,9 +1,7 @@
 //! A set of names, as a catalogue page lists them.
 
+use gumbyra_table::NAMES;
 use std::fmt;
-
-/// How many names there are: 0 to 63.
-const NAMES: u8 = 64;
 
 /// A set of names: name n as bit n.
 #[derive(Clone, Copy, PartialEq, Eq, Hash)]

@@ -6,35 +6,31 @@
 //! where a link shows it. Rows that neither a rule nor the wanted row needs are questions: they are answered with yes
 //! and no.
 
-use crate::answer::Answer;
 use crate::assembly::Parts;
 use crate::phrases::{count, link, Said};
 use crate::wording::Wording;
-use gumbyra::{Row, RowSet, Table, Used};
+use gumbyra::{Assembly, Row, RowSet, Table, Used};
 
-/// A verdict on a rule file in words; else a sentence that says why it does not belong to the file. A refusal is told
-/// by [`refused`](crate::refused).
-pub fn page(table: &Table, wording: &Wording, answer: &Answer) -> Result<String, String> {
+/// "Cannot" in words.
+pub fn cannot(table: &Table, wording: &Wording, used: &Used) -> String {
+    let verdict = "CANNOT: no assembly of any size obeys the rules and has such a part.";
+    format!("{verdict}\nWanted: {}\n\n{}", wording.row(table.wanted), source(wording, used))
+}
+
+/// "Can" in words, with the example.
+pub fn can(table: &Table, wording: &Wording, used: &Used, assembly: &Assembly) -> String {
+    let parts = Parts::of(table, assembly);
+    let needed = parts.needed();
+    let example: String = (0..needed.len()).map(|part| told(&parts, wording, part, needed[part])).collect();
+    let verdict = format!("CAN: here is an example that obeys the rules, with {}.", count(needed.len(), "part"));
     let wanted = wording.row(table.wanted);
-    let (verdict, used) = match answer {
-        Answer::Refused(refusal) => return Err(format!("it is refusal {}", refusal.number())),
-        Answer::Cannot { used } => {
-            let verdict = "CANNOT: no assembly of any size obeys the rules and has such a part.";
-            (format!("{verdict}\nWanted: {wanted}\n\n"), used)
-        }
-        Answer::Can { used, assembly } => {
-            let parts = Parts::of(table, assembly)?;
-            let needed = parts.needed();
-            let example: String = (0..needed.len()).map(|part| told(&parts, wording, part, needed[part])).collect();
-            let verdict =
-                format!("CAN: here is an example that obeys the rules, with {}.", count(needed.len(), "part"));
-            (format!("{verdict}\nWanted: {wanted}. That is part 0.\n\n{example}\n"), used)
-        }
-    };
-    let Used { nodes, edges, alternatives } = used;
-    let used =
-        format!("Used: {}, {}, {}.", count(*nodes, "node"), count(*edges, "edge"), count(*alternatives, "alternative"));
-    Ok(format!("{verdict}{}\n{used}\n", wording.source()))
+    format!("{verdict}\nWanted: {wanted}. That is part 0.\n\n{example}\n{}", source(wording, used))
+}
+
+/// Where the words come from, and what the run took.
+fn source(wording: &Wording, Used { nodes, edges, alternatives }: &Used) -> String {
+    let [nodes, edges] = [count(*nodes, "node"), count(*edges, "edge")];
+    format!("{}\nUsed: {nodes}, {edges}, {}.\n", wording.source(), count(*alternatives, "alternative"))
 }
 
 /// A part: its names, then a line for each row that is told, for each link, and for what is asked.
@@ -42,8 +38,8 @@ fn told(parts: &Parts, wording: &Wording, part: usize, needed: RowSet) -> String
     let names: Vec<String> = parts.names[part].iter().map(|&name| wording.name(name).is()).collect();
     let names = if names.is_empty() { "has none of the names".to_string() } else { names.join(", ") };
     let questions = questions(parts.table);
-    let rows = (0u8..).zip(&parts.table.rows).filter(|(row, _)| !questions.contains(row));
-    let rows = rows.filter(|&(row, &said)| is_told(parts, wording, part, needed, row, said));
+    let rows = parts.table.numbered().filter(|(row, _)| !questions.contains(row));
+    let rows = rows.filter(|&(row, said)| is_told(parts, wording, part, needed, row, said));
     let mut lines: Vec<String> = rows.map(|(row, _)| wording.row(row).to_string()).collect();
     lines.extend(parts.links[part].iter().map(|&(role, to)| told_link(parts, wording, role, to)));
     for (holds, heading) in [(true, "asked, yes: "), (false, "asked, no: ")] {
@@ -68,7 +64,7 @@ pub fn questions(table: &Table) -> Vec<u8> {
         }
     }
     let asks = |row: &Row| !matches!(row, Row::Name(_) | Row::NotName(_) | Row::Within { .. });
-    (0u8..).zip(&table.rows).filter(|(row, said)| asks(said) && !needed.contains(row)).map(|(row, _)| row).collect()
+    table.numbered().filter(|(row, said)| asks(said) && !needed.contains(row)).map(|(row, _)| row).collect()
 }
 
 /// Is a row that holds at a part told there?

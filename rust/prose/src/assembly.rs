@@ -1,6 +1,6 @@
-//! The parts and links of an example, what its roles lead to, and whether it belongs to a rule file.
+//! The parts and links of an example, and what its roles lead to.
 
-use gumbyra::{Assembly, Link, Row, RowSet, Table};
+use gumbyra::{Assembly, Link, Row, RowSet, Table, NAMES, ROLE_CODES};
 
 /// An assembly with its links as each part sees them.
 pub struct Parts<'a> {
@@ -15,28 +15,10 @@ pub struct Parts<'a> {
 }
 
 impl<'a> Parts<'a> {
-    /// The assembly, if it belongs to the rule file: each row is listed exactly where it is true, and the rules and the
-    /// wanted row are true where they have to be. Else a sentence that says what does not.
-    pub fn of(table: &'a Table, assembly: &'a Assembly) -> Result<Parts<'a>, String> {
-        let parts = assembly.elements.len();
-        let is_row = |row: u8| usize::from(row) < table.rows.len();
-        if let Some(part) = assembly.elements.iter().position(|set| !set.rows().all(is_row)) {
-            return Err(format!("element {part} lists a row above {}, the file's last", table.rows.len() - 1));
-        }
-        let is_part = |element: u16| usize::from(element) < parts;
-        let is_link = |link: &&Link| is_part(link.from) && is_part(link.to) && link.role < 32;
-        if let Some(link) = assembly.links.iter().find(|link| !is_link(link)) {
-            let Link { from, role, to } = link;
-            return Err(format!("link {from} {role} {to} names an element or a role code that is not there"));
-        }
+    /// The assembly of an answer that the engine gives to the rule file.
+    pub fn of(table: &'a Table, assembly: &'a Assembly) -> Parts<'a> {
         let names = names_of(table, assembly);
-        let all = Parts { table, assembly, links: seen_links(assembly), names, wider: wider(table) };
-        match (0..parts).find_map(|part| all.false_row(part).map(|row| (part, row))) {
-            Some((part, row)) => {
-                Err(format!("by the file row {row} is {} element {part}", all.not_as_listed(part, row)))
-            }
-            None => Ok(all),
-        }
+        Parts { table, assembly, links: seen_links(assembly), names, wider: wider(table) }
     }
 
     /// Is the row true of the part?
@@ -50,40 +32,6 @@ impl<'a> Parts<'a> {
         self.links[part].iter().filter(within).map(|&(_, to)| to)
     }
 
-    /// The first row that is listed at a part and not true there, or the other way; also a rule, or at part 0 the
-    /// wanted row.
-    fn false_row(&self, part: usize) -> Option<u8> {
-        let numbered = (0u8..).zip(&self.table.rows);
-        let mut wrong = numbered.filter(|&(row, &said)| self.is_true(part, said) == Some(!self.holds(part, row)));
-        let needed = self.table.rules.iter().chain((part == 0).then_some(&self.table.wanted));
-        let missing = || needed.copied().find(|&row| !self.holds(part, row));
-        wrong.next().map(|(row, _)| row).or_else(missing)
-    }
-
-    fn not_as_listed(&self, part: usize, row: u8) -> &'static str {
-        if self.holds(part, row) {
-            "not true of"
-        } else {
-            "true of"
-        }
-    }
-
-    /// Is a row true of a part, by the rows that it names? `None` of a name, which stands for itself.
-    fn is_true(&self, part: usize, row: Row) -> Option<bool> {
-        let holds = |row: u8| self.holds(part, row);
-        Some(match row {
-            Row::Name(_) => return None,
-            Row::NotName(name) => !holds(self.table.row_of_name(name)?),
-            Row::Both(left, right) => holds(left) && holds(right),
-            Row::Either(left, right) => holds(left) || holds(right),
-            Row::All { role, row } => self.reached(part, role).all(|to| self.holds(to, row)),
-            Row::Some { role, row } => self.reached(part, role).any(|to| self.holds(to, row)),
-            Row::Within { .. } => false,
-            Row::Not(row) => !holds(row),
-            Row::If(left, right) => !holds(left) || holds(right),
-        })
-    }
-
     /// For each part the rows on which it depends there that the rules and the wanted row are true: both of a
     /// "both", the only one that is true of an "either", what an "all" leads to. Rows name lower ones, so one way down
     /// finds them all.
@@ -91,7 +39,7 @@ impl<'a> Parts<'a> {
         let rules: RowSet = self.table.rules.iter().copied().collect();
         let mut needed = vec![rules; self.assembly.elements.len()];
         needed[0].insert(self.table.wanted);
-        let rows: Vec<(u8, Row)> = (0u8..).zip(self.table.rows.iter().copied()).collect();
+        let rows: Vec<(u8, Row)> = self.table.numbered().collect();
         for &(row, said) in rows.iter().rev() {
             for part in (0..needed.len()).filter(|&part| needed[part].contains(row)).collect::<Vec<_>>() {
                 self.add_needed(&mut needed, part, said);
@@ -117,7 +65,7 @@ impl<'a> Parts<'a> {
 
 /// The names that each part has: a name without a row of its own is there where the row that denies it is not.
 fn names_of(table: &Table, assembly: &Assembly) -> Vec<Vec<u8>> {
-    let rows: Vec<(u8, u8, bool)> = (0..64)
+    let rows: Vec<(u8, u8, bool)> = (0..NAMES)
         .filter_map(|name| {
             let own = table.row_of_name(name).map(|row| (name, row, true));
             own.or_else(|| table.row_of_not_name(name).map(|row| (name, row, false)))
@@ -147,8 +95,8 @@ fn seen_links(assembly: &Assembly) -> Vec<Vec<(u8, usize)>> {
 
 /// For each role code those that it is within, itself too: by the rows of kind 7, chained, and turned round.
 fn wider(table: &Table) -> Vec<u32> {
-    let mut wider: Vec<u32> = (0..32).map(|code| 1 << code).collect();
-    for _ in 0..32 {
+    let mut wider: Vec<u32> = (0..ROLE_CODES).map(|code| 1 << code).collect();
+    for _ in 0..ROLE_CODES {
         for row in &table.rows {
             if let Row::Within { role, wider: wide } = *row {
                 wider[usize::from(role)] |= wider[usize::from(wide)];

@@ -57,7 +57,7 @@ fn codes(row: Row) -> Vec<u8> {
 /// The table of rows: number, bytes, made of, says.
 fn rows(table: &Table, wording: &Wording) -> String {
     let mut lines = vec![["row", "bytes", "made of", "says"].map(str::to_string)];
-    for (number, &row) in (0u8..).zip(&table.rows) {
+    for (number, row) in table.numbered() {
         let bytes = row.bytes().map(|byte| byte.to_string()).join(" ");
         lines.push([number.to_string(), bytes, made_of(row), wording.row(number).to_string()]);
     }

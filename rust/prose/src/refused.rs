@@ -2,13 +2,13 @@
 
 use crate::command::MOST_READ;
 use crate::judged::Kind;
-use gumbyra::{Fault, Refusal, Sizes};
+use gumbyra::{Fault, Refusal, Sizes, LONGEST_FILE};
 
 /// The lines of a refusal by a check: what the file was judged as, and where it fails.
 pub fn of_check(kind: Kind, fault: &Fault, file: &[u8]) -> String {
     let place = match file.len() {
         0..=MOST_READ => fault.to_string(),
-        _ => format!("the file has more than {MOST_READ} bytes, and has to have 8 to 4,096"),
+        _ => format!("the file has more than {MOST_READ} bytes, and has to have at most {LONGEST_FILE}"),
     };
     lines(&Refusal::from(*fault), Some(format!("Judged as a {kind}: {place}.")))
 }

@@ -18,20 +18,22 @@ pub fn file(file: &[u8]) -> Ending {
     }
 }
 
-/// What `./fit` printed for a rule file, or for what a draft becomes, in words.
+/// What `./fit` printed for a rule file, or for what a draft becomes, in words. The engine is asked again, so an answer
+/// that it does not give is not shown.
 pub fn answer(file: &[u8], text: &[u8]) -> Ending {
     let answer = match Answer::read(text) {
         Ok(answer) => answer,
         Err(why) => return Ending::Failed(format!("the answer is not one that ./fit prints: {why}")),
     };
-    let stranger = |why: String| Ending::Failed(format!("the answer does not belong to the file: {why}"));
     if let Answer::Refused(refusal) = &answer {
-        return refusal_of(file, refusal).map_or_else(stranger, Ending::Refused);
+        if let Some(lines) = refusal_before_a_run(file, refusal) {
+            return Ending::Refused(lines);
+        }
     }
-    match Subject::of(file) {
-        Ok(subject) => subject.page_or_converted(file, &answer).map_or_else(stranger, Ending::Shown),
-        Err((refusal, _)) => stranger(format!("the file gets refusal {}", refusal.number())),
-    }
+    let subjects = subjects(file);
+    let subject = subjects.iter().flatten().find(|subject| subject.gives(&answer));
+    let stranger = || Ending::Failed("the answer does not belong to the file: the engine gives another".to_string());
+    subject.map_or_else(stranger, |subject| subject.ending(&answer))
 }
 
 /// Decides a rule file, or what a draft becomes, and shows the answer. Areas that are short are enlarged as far as that
@@ -43,13 +45,12 @@ pub fn fit(file: &[u8]) -> Ending {
     };
     let mut space = Space::usual();
     let answer = Answer::of_call(space.fit_enlarging(&subject.file));
-    if let Answer::Refused(refusal) = &answer {
-        return Ending::Refused(refused::of_run(refusal));
-    }
     let Sizes { nodes, edges, alternatives, .. } = space.sizes();
     let lent = [count(nodes, "node"), count(edges, "edge"), count(alternatives, "alternative")].join(", ");
-    let page = subject.page(&answer).map(|page| format!("{page}Lent: {lent}.\n"));
-    page.map_or_else(|why| Ending::Failed(format!("this is no answer of the engine: {why}")), Ending::Shown)
+    match subject.ending(&answer) {
+        Ending::Shown(page) => Ending::Shown(format!("{page}Lent: {lent}.\n")),
+        other => other,
+    }
 }
 
 /// A rule file that an answer may belong to, with its words: the file itself, or what a draft becomes.
@@ -70,7 +71,7 @@ impl Subject {
             Ok((Kind::Draft, draft)) => {
                 Subject::of_draft(file, &draft).map_err(|refusal| (refusal, refused::of_run(&refusal)))
             }
-            Err((kind, fault)) => Err((Refusal::from(fault), refused::of_check(kind, &fault, file))),
+            Err((kind, fault)) => Err((fault.into(), refused::of_check(kind, &fault, file))),
         }
     }
 
@@ -83,32 +84,42 @@ impl Subject {
         Ok(Subject { file, table, wording })
     }
 
-    /// The page of an answer to this file; or to what becomes of it, since a draft may do without "not" and "if".
-    fn page_or_converted(&self, file: &[u8], answer: &Answer) -> Result<String, String> {
-        self.page(answer).or_else(|why| {
-            let converted = Subject::of_draft(file, &self.table).ok();
-            converted.and_then(|subject| subject.page(answer).ok()).ok_or(why)
-        })
+    /// Does the engine give this answer? Once a run has records enough it is the same in all areas; and where it lacked
+    /// one, it lacks that however much is lent of the others.
+    fn gives(&self, answer: &Answer) -> bool {
+        let sizes = match *answer {
+            Answer::Refused(Refusal::NodesShort { lent }) => Sizes { nodes: lent, ..Sizes::MOST },
+            Answer::Refused(Refusal::EdgesShort { lent }) => Sizes { edges: lent, ..Sizes::MOST },
+            Answer::Refused(Refusal::AlternativesShort { lent }) => Sizes { alternatives: lent, ..Sizes::MOST },
+            Answer::Refused(Refusal::ExampleTooLong { .. }) => Sizes { elements: 0, ..Sizes::MOST },
+            _ => Sizes::MOST,
+        };
+        Answer::of_call(Space::with(sizes).fit(&self.file)) == *answer
     }
 
-    fn page(&self, answer: &Answer) -> Result<String, String> {
-        answer_page::page(&self.table, &self.wording, answer)
+    /// An answer of the engine to this file, in words.
+    fn ending(&self, answer: &Answer) -> Ending {
+        match answer {
+            Answer::Refused(refusal) => Ending::Refused(refused::of_run(refusal)),
+            Answer::Cannot { used } => Ending::Shown(answer_page::cannot(&self.table, &self.wording, used)),
+            Answer::Can { used, assembly } => {
+                Ending::Shown(answer_page::can(&self.table, &self.wording, used, assembly))
+            }
+        }
     }
 }
 
-/// The lines of a refusal that `./fit` or `./convert` printed for a file, or `./fit` for what a draft becomes; else why
-/// it can't be.
-fn refusal_of(file: &[u8], refusal: &Refusal) -> Result<String, String> {
+/// The file as it stands, and what it becomes as a draft, which may do without "not" and "if".
+fn subjects(file: &[u8]) -> [Option<Subject>; 2] {
+    let converted = Table::read_draft(file).ok().and_then(|draft| Subject::of_draft(file, &draft).ok());
+    [Subject::of(file).ok(), converted]
+}
+
+/// The lines of a refusal that `./fit` or `./convert` prints for a file without a run; `None` if they don't.
+fn refusal_before_a_run(file: &[u8], refusal: &Refusal) -> Option<String> {
     let fault = Table::read(file).err().map(|fault| (Kind::RuleFile, fault));
-    let faults = fault.into_iter().chain(judge(file).err());
-    if let Some((kind, fault)) = faults.into_iter().find(|(_, fault)| fault.number == refusal.number()) {
-        return Ok(refused::of_check(kind, &fault, file));
-    }
-    let of_run = matches!(refusal.number(), 11 | 13..=15);
-    match Subject::of(file) {
-        Ok(_) if of_run => Ok(refused::of_run(refusal)),
-        Err((own, lines)) if own == *refusal => Ok(lines),
-        Ok(_) => Err(format!("it is refusal {}, and no check refuses the file", refusal.number())),
-        Err((own, _)) => Err(format!("it is refusal {}, and the file gets refusal {}", refusal.number(), own.number())),
-    }
+    let mut faults = fault.into_iter().chain(judge(file).err());
+    let by_check = faults.find(|&(_, fault)| Refusal::from(fault) == *refusal);
+    let by_check = by_check.map(|(kind, fault)| refused::of_check(kind, &fault, file));
+    by_check.or_else(|| Subject::of(file).err().filter(|(own, _)| own == refusal).map(|(_, lines)| lines))
 }

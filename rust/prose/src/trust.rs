@@ -26,17 +26,17 @@ impl Lists {
         (0..=u8::MAX).any(|row| self.row(words, row).is_some())
     }
 
-    fn rules_heading(self) -> &'static str {
+    fn rules(self, words: &Words) -> Option<&[u8]> {
         match self {
-            Lists::OfFile => "Rules, each true of every part:",
-            Lists::OfDraft => "Rules of the draft, each true of every part:",
+            Lists::OfFile => words.rules(),
+            Lists::OfDraft => words.rules_of_draft(),
         }
     }
 
-    fn wanted_heading(self) -> &'static str {
+    fn wanted(self, words: &Words) -> Option<&[u8]> {
         match self {
-            Lists::OfFile => "Wanted:",
-            Lists::OfDraft => "Wanted in the draft:",
+            Lists::OfFile => words.wanted(),
+            Lists::OfDraft => words.wanted_in_draft(),
         }
     }
 }
@@ -51,11 +51,10 @@ pub fn doubt(table: &Table, words: &Words, lists: Lists) -> Option<String> {
     if (0..=u8::MAX).any(|row| lists.row(words, row).is_some() != (usize::from(row) < rows)) {
         return Some(format!("the text's list of rows does not have words for just the numbers 0 to {}", rows - 1));
     }
-    let text = String::from_utf8_lossy(&table.text);
-    if numbers(&text, lists.rules_heading()).is_some_and(|rules| rules != table.rules) {
+    if lists.rules(words).is_some_and(|rules| rules != table.rules) {
         return Some("the text lists other rules than the file has".to_string());
     }
-    match numbers(&text, lists.wanted_heading()) {
+    match lists.wanted(words) {
         Some(wanted) if wanted != [table.wanted] => return Some("by the text another row is wanted".to_string()),
         None if lists == Lists::OfFile && may_be_converted(table) => {
             let why =
@@ -69,21 +68,14 @@ pub fn doubt(table: &Table, words: &Words, lists: Lists) -> Option<String> {
 }
 
 /// Is the file one that `./convert` writes? Then it would write the same again.
-fn may_be_converted(table: &Table) -> bool {
+pub fn may_be_converted(table: &Table) -> bool {
     !table.is_draft() && table.encode().is_ok_and(|file| origins(&file, &file).is_some())
-}
-
-/// The numbers of a list, as long as they are those of rows; `None` without its heading.
-fn numbers(text: &str, heading: &str) -> Option<Vec<u8>> {
-    let mut lines = text.lines().skip_while(|line| *line != heading);
-    lines.next()?;
-    Some(lines.map_while(|line| line.split_once(' ')?.0.parse().ok()).collect())
 }
 
 /// A row of kind 1 that the list gives the words of another name.
 fn other_name(table: &Table, words: &Words, lists: Lists) -> Option<String> {
-    (0u8..).zip(&table.rows).find_map(|(row, made_of)| {
-        let Row::Name(name) = *made_of else { return None };
+    table.numbered().find_map(|(row, made_of)| {
+        let Row::Name(name) = made_of else { return None };
         let said = lists.row(words, row)?;
         let other = (0..=u8::MAX).find(|&other| words.name(other).is_some_and(|words| says_name(said, words)))?;
         let is_other = !words.name(name).is_some_and(|words| says_name(said, words));
@@ -97,7 +89,7 @@ fn other_sign(table: &Table, words: &Words, lists: Lists) -> Option<String> {
         let said = lists.row(words, row);
         said.is_some_and(|said| with.iter().any(|with| said.starts_with(with)))
     };
-    (0u8..).zip(&table.rows).find_map(|(row, made_of)| match made_of {
+    table.numbered().find_map(|(row, made_of)| match made_of {
         Row::Name(name) if begins(row, &["is no ", "is not ", "has no "]) => {
             Some(format!("row {row} says name {name}, and in the text's list of rows it denies something"))
         }
@@ -115,7 +107,7 @@ pub fn says_name(row: &str, name: &str) -> bool {
 
 /// A row that says the opposite of a name, or of "not" a name, and is not its opposite.
 fn false_opposite(table: &Table, words: &Words, lists: Lists) -> Option<String> {
-    let rows = || (0u8..).zip(&table.rows).filter_map(|(row, _)| Some((row, lists.row(words, row)?)));
+    let rows = || table.numbered().filter_map(|(row, _)| Some((row, lists.row(words, row)?)));
     rows().find_map(|(row, said)| {
         let opposite = opposites(said);
         let (other, _) = rows().find(|(_, words)| opposite.iter().any(|opposite| opposite == words))?;

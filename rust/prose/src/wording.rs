@@ -3,12 +3,8 @@
 
 use crate::composed::composed;
 use crate::phrases::Said;
-use crate::trust::{doubt, says_name, Lists};
-use gumbyra::{Origin, Row, Table, Words};
-
-/// Names 0 to 63 and role codes 0 to 31.
-const NAMES: u8 = 64;
-const ROLE_CODES: u8 = 32;
+use crate::trust::{doubt, may_be_converted, says_name, Lists};
+use gumbyra::{Origin, Row, Table, Words, NAMES, ROLE_CODES};
 
 /// Words for one table.
 #[derive(Clone, Debug)]
@@ -26,7 +22,7 @@ impl Wording {
         let words = table.words();
         let (lists, doubt) = lists_of(table, &words);
         let list: Option<Vec<String>> = match doubt {
-            None => (0u8..).zip(&table.rows).map(|(row, _)| lists.row(&words, row).map(clean)).collect(),
+            None => table.numbered().map(|(row, _)| lists.row(&words, row).map(clean)).collect(),
             Some(_) => None,
         };
         let names: Vec<Said> = (0..NAMES).map(|name| said(table, &words, list.as_deref(), name)).collect();
@@ -94,15 +90,16 @@ impl Wording {
 }
 
 /// The lists that belong to the table, and what speaks against its list of rows. In a draft a list that is headed as a
-/// rule file's is the draft's own.
+/// rule file's is the draft's own; and a draft may do without "not" and "if".
 fn lists_of(table: &Table, words: &Words) -> (Lists, Option<String>) {
-    let of_draft = table.is_draft() && Lists::OfDraft.has_rows(words);
+    let is_draft = || table.is_draft() || !Lists::OfFile.has_rows(words) && !may_be_converted(table);
+    let of_draft = Lists::OfDraft.has_rows(words) && is_draft();
     let lists = if of_draft { Lists::OfDraft } else { Lists::OfFile };
     (lists, doubt(table, words, lists))
 }
 
 fn source(table: &Table, words: &Words, doubt: Option<String>) -> String {
-    let Some(doubt) = doubt else { return "The words of the rows are those of the text.".to_string() };
+    let Some(doubt) = doubt else { return "The words of the rows are those of the text, and not proved.".to_string() };
     if !table.is_draft() && Lists::OfDraft.has_rows(words) && !Lists::OfFile.has_rows(words) {
         let why = "those of the text are for the rows of a draft, and ./show of the draft has them";
         return format!("The words of the rows are composed: {why}.");

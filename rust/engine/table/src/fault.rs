@@ -1,6 +1,7 @@
 //! What is wrong with a file, and where.
 
 use crate::row::trouble;
+use crate::table::{LONGEST_FILE, MOST_ROWS, MOST_RULES, TRAILER};
 use std::fmt;
 
 /// Why a file is refused with 1 to 8 or 16, and where. The number is the engine's, which tests hold to it; the place is
@@ -92,10 +93,13 @@ impl fmt::Display for Fault {
     fn fmt(&self, f: &mut fmt::Formatter) -> fmt::Result {
         const OF_ROLES: &str = "which is of kind 7 and speaks of roles";
         match self.why {
-            Why::Length(length) => write!(f, "the file has {length} bytes, and has to have 8 to 4,096"),
+            Why::Length(length) => {
+                write!(f, "the file has {length} bytes, and has to have {TRAILER} to {LONGEST_FILE}")
+            }
             Why::Mark([a, b, c]) => write!(f, "the file ends in {a:02x} {b:02x} {c:02x}, and has to end in 46 49 54"),
             Why::Counts { rows, rules } => {
-                write!(f, "the file has {rows} rows and {rules} rules, and has to have 1 to 64 and 0 to 64")
+                write!(f, "the file has {rows} rows and {rules} rules")?;
+                write!(f, ", and has to have 1 to {MOST_ROWS} and 0 to {MOST_RULES}")
             }
             Why::Extent { told, length } => {
                 write!(f, "text, rows, rules and trailer are told to have {told} bytes, and the file has {length}")
@@ -128,7 +132,7 @@ mod tests {
     use super::*;
 
     const FAULTS: [(Why, u8, Place, &str); 13] = [
-        (Why::Length(7), 1, Place::File, "the file has 7 bytes, and has to have 8 to 4,096"),
+        (Why::Length(7), 1, Place::File, "the file has 7 bytes, and has to have 8 to 4096"),
         (Why::Mark([0, 73, 255]), 2, Place::File, "the file ends in 00 49 ff, and has to end in 46 49 54"),
         (
             Why::Counts { rows: 65, rules: 3 },

@@ -33,6 +33,6 @@ mod words;
 
 pub use fault::{Fault, Place};
 pub use origins::{origins, Origin};
-pub use row::Row;
-pub use table::Table;
+pub use row::{Row, NAMES, ROLE_CODES};
+pub use table::{Table, LONGEST_FILE};
 pub use words::Words;

@@ -15,8 +15,8 @@ pub struct Origin {
 /// For each row of the file that a draft becomes, the rows of the draft that it stands for, as first needed; there is
 /// always one.
 ///
-/// `None` if the file is not, byte for byte, what the draft becomes: so what is told belongs to the bytes that the
-/// proved converter wrote.
+/// The draft is converted here once more, without proof, and `None` comes back unless that gives the file, byte for
+/// byte. So what is told belongs to the bytes, whoever wrote them.
 ///
 /// ```
 /// use gumbyra_table::{origins, Origin, Row, Table};
@@ -74,7 +74,7 @@ impl Conversion<'_> {
     fn of(draft: &Table) -> Conversion<'_> {
         let numbers = vec![[None; 2]; draft.rows.len()];
         let mut conversion = Conversion { draft, result: Table::default(), needed: Vec::new(), numbers };
-        for (row, &said) in (0..).zip(&draft.rows).filter(|(_, said)| matches!(said, Row::Within { .. })) {
+        for (row, said) in draft.numbered().filter(|(_, said)| matches!(said, Row::Within { .. })) {
             conversion.needed.push(Origin { row, opposite: false });
             conversion.numbers[usize::from(row)][0] = Some(conversion.result.row(said));
         }

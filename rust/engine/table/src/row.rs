@@ -1,8 +1,9 @@
 //! What a row says, and its four bytes.
 
-/// The highest name and the highest role code.
-const LAST_NAME: u8 = 63;
-const LAST_CODE: u8 = 31;
+/// How many names there are, from 0 on.
+pub const NAMES: u8 = 64;
+/// How many role codes there are, from 0 on.
+pub const ROLE_CODES: u8 = 32;
 
 /// What a row says. Arguments are numbers of lower rows; a role is a code: 2k is role k, 2k + 1 its inverse.
 ///
@@ -120,11 +121,11 @@ impl Row {
     /// What is higher than it may be, in words.
     fn excess(self) -> Option<&'static str> {
         match self {
-            Row::Name(name) | Row::NotName(name) if name > LAST_NAME => Some("the name is above 63"),
-            Row::All { role, .. } | Row::Some { role, .. } | Row::Within { role, .. } if role > LAST_CODE => {
+            Row::Name(name) | Row::NotName(name) if name >= NAMES => Some("the name is above 63"),
+            Row::All { role, .. } | Row::Some { role, .. } | Row::Within { role, .. } if role >= ROLE_CODES => {
                 Some("the role is above 31")
             }
-            Row::Within { wider, .. } if wider > LAST_CODE => Some("the wider role is above 31"),
+            Row::Within { wider, .. } if wider >= ROLE_CODES => Some("the wider role is above 31"),
             _ => None,
         }
     }

@@ -6,11 +6,12 @@ use crate::fault::{Fault, Why};
 use crate::row::Row;
 use crate::words::Words;
 
-const LONGEST_FILE: usize = 4096;
-const MOST_ROWS: usize = 64;
-const MOST_RULES: usize = 64;
+/// The most bytes of a rule file or a draft. An area of so many suffices for every conversion.
+pub const LONGEST_FILE: usize = 4096;
+pub(crate) const MOST_ROWS: usize = 64;
+pub(crate) const MOST_RULES: usize = 64;
 const ROW_BYTES: usize = 4;
-const TRAILER: usize = 8;
+pub(crate) const TRAILER: usize = 8;
 const MARK: [u8; 3] = *b"FIT";
 
 /// A rule file or a draft, taken apart. It can hold what no file may; [`encode`](Table::encode) and the engine refuse
@@ -96,7 +97,7 @@ impl Table {
         require(told == file.len(), || Why::Extent { told, length: file.len() })?;
         let (text, rest) = body.split_at(place);
         let (rows, rules) = rest.split_at(ROW_BYTES * rows);
-        let rows = (0..).zip(rows.as_chunks().0).map(|(number, &bytes)| check_row(number, bytes, is_draft));
+        let rows = (0..=u8::MAX).zip(rows.as_chunks().0).map(|(number, &bytes)| check_row(number, bytes, is_draft));
         Ok(Table { text: text.to_vec(), rows: rows.collect::<Result<_, _>>()?, rules: rules.to_vec(), wanted })
     }
 
@@ -106,7 +107,7 @@ impl Table {
         let length = self.text.len() + ROW_BYTES * self.rows.len() + self.rules.len() + TRAILER;
         check_length(length)?;
         check_counts(self.rows.len(), self.rules.len())?;
-        for (number, row) in (0..).zip(&self.rows) {
+        for (number, row) in self.numbered() {
             check_row(number, row.bytes(), true)?;
         }
         self.check(&[self.wanted])?;
@@ -152,7 +153,7 @@ impl Table {
 
     /// Check 7: no two rows are equal.
     fn check_repeats(&self) -> Result<(), Fault> {
-        (0..).zip(&self.rows).try_for_each(|(second, &row)| {
+        self.numbered().try_for_each(|(second, row)| {
             let first = self.find(row).expect("itself at least");
             require(first == second, || Why::Repeat { first, second, bytes: row.bytes() })
         })
@@ -172,7 +173,7 @@ impl Table {
 
     /// Each row that names another, and the other.
     fn arguments(&self) -> impl Iterator<Item = (u8, u8)> + '_ {
-        (0..).zip(&self.rows).flat_map(|(number, row)| row.arguments().map(move |argument| (number, argument)))
+        self.numbered().flat_map(|(number, row)| row.arguments().map(move |argument| (number, argument)))
     }
 }
 
@@ -295,6 +296,11 @@ impl Table {
             false => of_text.row(row),
         };
         (0..=u8::MAX).take(self.rows.len()).find(|&row| called(row) == Some(words))
+    }
+
+    /// The rows, each with its number.
+    pub fn numbered(&self) -> impl Iterator<Item = (u8, Row)> + '_ {
+        (0..=u8::MAX).zip(self.rows.iter().copied())
     }
 
     /// Is the row a rule?

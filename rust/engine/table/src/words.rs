@@ -25,6 +25,10 @@ pub struct Words {
     roles: List,
     rows: List,
     rows_of_draft: List,
+    rules: Option<Vec<u8>>,
+    rules_of_draft: Option<Vec<u8>>,
+    wanted: Option<Vec<u8>>,
+    wanted_in_draft: Option<Vec<u8>>,
 }
 
 /// The words of each number that a list has.
@@ -41,6 +45,10 @@ impl Words {
             roles: list(&text, "Role codes:"),
             rows: list(&text, "Rows:"),
             rows_of_draft: list(&text, "Rows of the draft:"),
+            rules: numbers(&text, "Rules, each true of every part:"),
+            rules_of_draft: numbers(&text, "Rules of the draft, each true of every part:"),
+            wanted: numbers(&text, "Wanted:"),
+            wanted_in_draft: numbers(&text, "Wanted in the draft:"),
         }
     }
 
@@ -69,16 +77,47 @@ impl Words {
     pub fn row_of_draft(&self, row: u8) -> Option<&str> {
         self.rows_of_draft.get(&row).map(String::as_str)
     }
+
+    /// The rules, below `Rules, each true of every part:`; `None` without that heading.
+    pub fn rules(&self) -> Option<&[u8]> {
+        self.rules.as_deref()
+    }
+
+    /// The rules, below `Rules of the draft, each true of every part:`.
+    pub fn rules_of_draft(&self) -> Option<&[u8]> {
+        self.rules_of_draft.as_deref()
+    }
+
+    /// The wanted row, below `Wanted:`; any other number of rows is wrong.
+    pub fn wanted(&self) -> Option<&[u8]> {
+        self.wanted.as_deref()
+    }
+
+    /// The wanted row, below `Wanted in the draft:`.
+    pub fn wanted_in_draft(&self) -> Option<&[u8]> {
+        self.wanted_in_draft.as_deref()
+    }
 }
 
-/// The list below a heading.
+/// The list below a heading, by its numbers.
 fn list(text: &str, heading: &str) -> List {
-    let below = text.lines().skip_while(|line| *line != heading).skip(1);
     let mut list = List::new();
-    for (number, words) in below.map_while(numbered) {
+    for (number, words) in below(text, heading).into_iter().flatten() {
         list.entry(number).or_insert_with(|| words.to_string());
     }
     list
+}
+
+/// The numbers of the list below a heading, in order; `None` if there is no such heading.
+fn numbers(text: &str, heading: &str) -> Option<Vec<u8>> {
+    below(text, heading).map(|lines| lines.map(|(number, _)| number).collect())
+}
+
+/// The lines below a heading, each a number and words.
+fn below<'a>(text: &'a str, heading: &str) -> Option<impl Iterator<Item = (u8, &'a str)>> {
+    let mut lines = text.lines();
+    lines.find(|line| *line == heading)?;
+    Some(lines.map_while(numbered))
 }
 
 /// The number that a line begins with, and the words behind it.
@@ -118,6 +157,14 @@ mod tests {
             ["a", "b", "c", "e"]
         );
         assert_eq!([words.name(1), words.role(1), words.row(1), words.row_of_draft(1)], [None, None, None, Some("f")]);
+    }
+
+    #[test]
+    fn rules_and_the_wanted_row_are_numbers() {
+        let words =
+            Words::of_text(b"Rules, each true of every part:\n3 a\n3 a\n1 b\nWanted:\n2 c\nWanted in the draft:");
+        assert_eq!((words.rules(), words.wanted()), (Some([3, 3, 1].as_slice()), Some([2].as_slice())));
+        assert_eq!((words.rules_of_draft(), words.wanted_in_draft()), (None, Some([].as_slice())));
     }
 
     #[test]
