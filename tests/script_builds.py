@@ -307,7 +307,7 @@ def check_library(room, copy):
     """./library, with a linker that works and archives that are stand-ins."""
     laid_out = copy.root / "target" / "library"
     copy.run("library: --help builds nothing", '"$R/library" --help', 0, usage("library"), "", [])
-    (room.folder / "there").mkdir()
+    (room.folder / "there" / "a b,c").mkdir(parents=True)
     for name, word, sentence in (
         ("that is there", '"$T/there"', f"{room.folder}/there is there already"),
         ("that is a file", '"$F"', f"{room.folder}/file is there already"),
@@ -326,7 +326,8 @@ def check_library(room, copy):
     copy.run("library: a folder in a missing one", '"$R/library" "$T/none/new"', 2, "", Last(f"library: {room.folder}/none/new can't be written\n"), [])
     before = (laid_out / "lib" / "libgumbyra.a").stat().st_mtime_ns
     os.utime(copy.root / "c" / "gumbyra.c")
-    copy.run("library: the C file is touched", 'TMPDIR="$T/there" "$R/library"', 0, "", "", [])
+    copy.run("library: the C file is touched", 'cd "$T/there" && TMPDIR="$T/there/a b,c" "$R/library"', 0, "", "", [])
+    room.same("library: nothing is left", [path.name for path in (room.folder / "there").rglob("*")], ["a b,c"])
     room.check("library: it is laid out anew", "" if (laid_out / "lib" / "libgumbyra.a").stat().st_mtime_ns > before else "it is not")
     os.utime(copy.root / "crates.txt")
     copy.run("library: crates.txt is touched", '"$R/library" >&- 2>&-', 0, "", "", ARCHIVES)
