@@ -23,6 +23,9 @@ from ways import WAYS_SAMPLES
 
 ALL_SAMPLES = SAMPLES | WAYS_SAMPLES | KIND_SAMPLES
 
+# The most rows, rules and names, and the most bytes of a file (document 01, "The rule file").
+MOST, LONGEST = 64, 4096
+
 HERE = pathlib.Path(__file__).resolve().parent
 
 
@@ -49,7 +52,7 @@ def row_bytes(sample, row):
     kind, role, left, right = row
     role = 0 if role is None else role_code(sample, role)
     if kind in (1, 2):
-        left = place(left, sample.names, "name")
+        left = place(left, sample.names[:MOST], f"name, of {MOST} at most,")
     elif kind == INCLUSION:
         left = role_code(sample, left)
     else:
@@ -75,8 +78,8 @@ def text(sample):
 
 
 def encode(words, rows, rules, wanted):
-    if max(len(rows), len(rules)) > 255 or len(words) > 65535:
-        sys.exit(f"{len(rows)} rows, {len(rules)} rules and a text of {len(words)} bytes: a file has no room to say so")
+    if max(len(rows), len(rules)) > MOST or len(words) + 4 * len(rows) + len(rules) + 8 > LONGEST:
+        sys.exit(f"{len(rows)} rows, {len(rules)} rules and a text of {len(words)} bytes: {MOST}, {MOST} and {LONGEST} bytes are the most")
     trailer = len(words).to_bytes(2, "little") + bytes([len(rows), len(rules), wanted]) + b"FIT"
     return words + b"".join(rows) + bytes(rules) + trailer
 

@@ -49,9 +49,15 @@ fail() {
   exit 2
 }
 
-# What a refusal means is said once, in the list of them.
+# What a refusal means is said once, in the list of them; a command that helps further is named.
 explain_refusal() {
-  say "refused: docs/USE.md, Refusals, says what the number means and what to do${1:+; $1}"
+  local number help=''
+  read -r _ number _ <"$work/output"
+  case $number in
+    5 | 6 | 7 | 8 | 16) help='; ./show tells which row' ;;
+    11 | 13 | 14 | 15) help='; ./show --fit lends more' ;;
+  esac
+  say "refused: docs/USE.md, Refusals, says what the number means and what to do$help"
 }
 
 # ---- the words of a call
@@ -93,8 +99,8 @@ make_work() {
   trap - TERM HUP
 }
 
-# Copies the file, or standard input for `-`, to $work/input. Of a longer one 1 MiB is enough to see that it is no rule file. Standard input
-# may have lost as much to `head`, which is no harm: a rule file ends where its input does.
+# Copies the file, or standard input for `-`, to $work/input. Of a longer one 1 MiB is enough to see that it is no rule file; what `head` reads
+# beyond that is lost to whoever shares the input, which is no harm: a rule file ends where its input does.
 read_input() {
   if [ "$file" = - ]; then
     head -c 1048576 >"$work/input" || fail "standard input can't be read, or not be copied to ${TMPDIR:-/tmp}"
@@ -191,9 +197,14 @@ prove() {
 # A program in Rust takes a closed stream for /dev/null, so that is looked for here; a folder in place of standard input can't be read.
 # cargo and rustup go by the settings of the folder they are called in.
 run_rust() {
-  local program=$1 status
+  local program=$1 status word
   shift
-  [ "${1-}" != --help ] || { print_usage; exit 0; }
+  for word in "$@"; do
+    case $word in
+      --) break ;;
+      --help) print_usage; exit 0 ;;
+    esac
+  done
   [ "$#" -gt 0 ] || fail "a file is to be named"$'\n'"$usage"
   { true 3>&1; } 2>/dev/null || fail "standard output can't be written"
   { true 3<&0; } 2>/dev/null || exec <"$root"

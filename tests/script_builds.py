@@ -1,110 +1,16 @@
-"""Checks of building, in a copy of the commands in a folder with a space and a comma in its name. Stand-ins take the place of rt and cargo:
-they log how they are called and where, read what they are given to read, and write programs that do what a file of the check says."""
+"""Checks of building, in a copy of the commands with stand-ins for rt and cargo (stand_ins.py)."""
 import os
 import shutil
 import signal
-import subprocess
 import time
 
 from checking import ROOT, Last
 from script_runs import usage
+from stand_ins import CAN, RULES, Copy
 
-COPIED = ("fit", "convert", "catalogue", "show", "library", "scripts", "c")
 PROVING = "{}: proving, 5 to 15 minutes, once (less if it was done before and little has changed since)\n"
 SAID = "rt: on standard output\nrt: on standard error\n"
 CANNOT = "CANNOT\nUSED 1 2 3\n"
-CAN = "CAN 2 1\nUSED 3 4 5\nE 0 0000000000000001\nE 1 00000000000000ff\nL 0 3 1\n"
-# A rule file with the text "x", one row, no rule.
-RULES = b"x\1\0\0\0\1\0\1\0\0FIT"
-
-STAND_IN_RT = """#!/bin/sh
-[ ! -e "$T/deaf" ] || trap "" INT
-echo "rt $* in $(pwd)" >>"$T/calls"
-cat >/dev/null
-echo "rt: on standard output"
-echo "rt: on standard error" >&2 || exit 1
-sleep 0.02
-while [ -e "$T/hold" ]; do sleep 0.02; done
-[ ! -e "$T/rt fails" ] || exit "$(cat "$T/rt fails")"
-mkdir -p target/bin target/staticlib
-case $1 in
-  check) cp "$T/program" "target/bin/$2" ;;
-  staticlib) cp "$T/lib.a" "target/staticlib/lib$2.a" ;;
-esac
-"""
-STAND_IN_CARGO = """#!/bin/sh
-echo "cargo $* in $(pwd)" >>"$T/calls"
-cat >/dev/null
-[ ! -e "$T/cargo fails" ] || exit 101
-while [ "$#" -gt 0 ]; do
-  case $1 in
-    --bin) program=$2 ;;
-    --target-dir) folder=$2 ;;
-  esac
-  shift
-done
-mkdir -p "$folder/release" && cp "$T/program" "$folder/release/$program"
-"""
-# Each program reads the check's file of its own name.
-PROGRAM = """#!/bin/bash
-. "$T/${0##*/}"
-"""
-
-
-class Copy:
-    """The copy, and the stand-ins in front of PATH."""
-
-    def __init__(self, room):
-        self.room = room
-        self.root = room.folder / "a copy, with spaces"
-        self.root.mkdir()
-        for name in COPIED:
-            (shutil.copytree if (ROOT / name).is_dir() else shutil.copy2)(ROOT / name, self.root / name)
-        room.write("a copy, with spaces/crates.txt", "fit:\nconvert:\n")
-        room.write("a copy, with spaces/crates/fit/src/main.rt", "fn main() {}\n")
-        room.write("a copy, with spaces/crates/convert/src/main.rt", "fn main() {}\n")
-        (self.root / "rust").mkdir()
-        self.program("bin/rt", STAND_IN_RT)
-        self.program("bin/cargo", STAND_IN_CARGO)
-        self.program("program", PROGRAM)
-        self.archive()
-        room.write("file", "a file\n")
-        room.variables.update(R=str(self.root), F=str(room.folder / "file"), PATH=f"{room.folder}/bin:{os.environ['PATH']}")
-        self.answers(fit=CAN, convert=RULES)
-
-    def program(self, name, content):
-        self.room.write(name, content).chmod(0o755)
-
-    def archive(self):
-        """An archive to link, in place of the proved ones."""
-        self.room.write("empty.c", "static const char stand_in[] __attribute__((used)) = \"\";\n")
-        commands = (["cc", "-fPIC", "-c", "empty.c", "-o", "empty.o"], ["ar", "rc", "lib.a", "empty.o"])
-        for command in commands:
-            subprocess.run(command, cwd=self.room.folder, check=True)
-
-    def answers(self, **contents):
-        """Lets the programs write these."""
-        for name, content in contents.items():
-            self.room.write(f"{name}.answer", content)
-            self.room.write(name, f'cat >/dev/null; cat "$T/{name}.answer"\n')
-
-    def calls(self):
-        """How the stand-ins were called since the last look, without the folder if it is the copy's own."""
-        log = self.room.folder / "calls"
-        lines = log.read_text().splitlines() if log.exists() else []
-        log.write_text("")
-        return [line.replace(f" in {self.root}", "") for line in lines]
-
-    def clean(self):
-        """Nothing is built."""
-        for folder in (self.root / "target", self.root / "rust" / "target"):
-            shutil.rmtree(folder, ignore_errors=True)
-        self.calls()
-
-    def run(self, name, line, status, out, err, calls, **more):
-        """One check of a run, and one of the calls that it makes."""
-        self.room.run(name, line, status, out, err, **more)
-        self.room.same(f"{name}: the calls", self.calls(), calls)
 
 
 def check_builds(room):
@@ -120,6 +26,7 @@ def check_once(room, copy):
     for name, answer in (("fit", CAN), ("convert", RULES)):
         room.variables["C"] = name
         copy.run(f"{name}: --help builds nothing", '"$R/$C" --help', 0, usage(name), "", [])
+        copy.run(f"{name}: --help behind a file", '"$R/$C" "$F" --help', 0, usage(name), "", [])
         copy.run(f"{name}: a wrong call builds nothing", '"$R/$C"', 2, "", None, [])
         copy.run(f"{name}: a missing file builds nothing", '"$R/$C" "$T/none"', 2, "", None, [])
         copy.run(f"{name}: first run", '"$R/$C" "$F"', 0, answer, PROVING.format(name) + SAID, [f"rt check {name}"])
@@ -189,11 +96,11 @@ def check_failing(room, copy):
 def check_missing(room, copy):
     """Without a tool the sentence says what to do, before anything is built."""
     tools = "bash env sh realpath mkdir rm head find flock cat cmp wc grep tail od touch mv cp sed cc ar ranlib ln sleep".split()
-    toolchain = "rt is not installed" + ": README.md, Try it, says where it comes from\n"
+    toolchain = "the Rattle toolchain, rt, is not installed: README.md, Try it, says where it comes from\n"
     rust = "cargo is not installed: Rust 1.88 or later is needed, for instance from https://rustup.rs\n"
     for lacking, name, sentence in (
-        ("rt", "fit", "the Rattle toolchain, " + toolchain.replace("rt is", "rt, is")),
-        ("rt", "library", "the Rattle toolchain, " + toolchain.replace("rt is", "rt, is")),
+        ("rt", "fit", toolchain),
+        ("rt", "library", toolchain),
         ("cargo", "catalogue", rust),
         ("cargo", "show", rust),
         ("flock", "convert", "flock is not installed: Debian's package util-linux has it\n"),
@@ -337,6 +244,20 @@ def check_library(room, copy):
     shutil.copy2(ROOT / "c" / "gumbyra.c", copy.root / "c" / "gumbyra.c")
     os.utime(copy.root / "c" / "gumbyra.c")
     copy.run("library: it is right again", '"$R/library"', 0, "", "", [])
+    check_library_anew(room, copy)
+
+
+def check_library_anew(room, copy):
+    """What is missing is made anew, and so is what is older than an archive: a source may change while another archive is proved."""
+    laid_out = copy.root / "target" / "library"
+    for name in LAID_OUT:
+        (laid_out / name).unlink()
+        copy.run(f"library: {name} is gone", '"$R/library"', 0, "", "", [])
+        room.check(f"library: {name} is back", "" if (laid_out / name).exists() else "it is not")
+    before = (laid_out / "lib" / "libgumbyra.a").stat().st_mtime_ns
+    os.utime(copy.root / "target" / "staticlib" / "libgumbyra.a")
+    copy.run("library: an archive is newer", '"$R/library"', 0, "", "", [])
+    room.check("library: it has the newer archive", "" if (laid_out / "lib" / "libgumbyra.a").stat().st_mtime_ns > before else "it has not")
 
 
 def check_rust(room, copy):
@@ -349,6 +270,7 @@ def check_rust(room, copy):
         room.write(name, 'printf "<%s>" "$@"; echo; pwd; echo told >&2; exit "${STATUS:-0}"\n')
         wrong = f"{name}: a file is to be named\n{usage(name)}"
         copy.run(f"{name}: --help builds nothing", '"$R/$C" --help', 0, usage(name), "", [])
+        copy.run(f"{name}: --help behind a file", '"$R/$C" "$F" --help', 0, usage(name), "", [])
         copy.run(f"{name}: no word builds nothing", '"$R/$C"', 2, "", wrong, [])
         copy.run(f"{name}: --help to /dev/full", '"$R/$C" --help >/dev/full', 2, "", f"{name}: standard output can't be written\n", [])
         copy.run(f"{name}: standard output closed", '"$R/$C" x >&-', 2, "", f"{name}: standard output can't be written\n", [])

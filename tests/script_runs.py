@@ -16,7 +16,7 @@ reader, writer = os.pipe()
 os.close(reader)
 os.dup2(writer, {0})
 os.execv(sys.argv[1], sys.argv[1:])' """
-EXPLANATION = "{}: refused: docs/USE.md, Refusals, says what the number means and what to do; ./show tells which row\n"
+ROWS = "{}: the text has a list \"Rows:\", and the rule file's rows have other numbers: in a draft its heading is \"Rows of the draft:\"\n"
 
 
 class Command:
@@ -28,11 +28,19 @@ class Command:
 
     def refusal(self, number):
         """Status, standard output and standard error of a refusal."""
-        explanation = EXPLANATION.format(self.name)
+        explanation = explained(self.name, str(number))
         return (1, f"REFUSED {number}\n", explanation) if self.name == "fit" else (1, "", f"REFUSED {number}\n{explanation}")
 
     def failure(self, sentence):
         return (2, "", f"{self.name}: {sentence}\n")
+
+
+def explained(name, numbers):
+    """What is said beside a refusal, on standard error."""
+    number = int(numbers.split()[0])
+    helps = {5: "; ./show tells which row", 13: "; ./show --fit lends more"}
+    kind = 5 if number in (5, 6, 7, 8, 16) else 13 if number in (11, 13, 14, 15) else 0
+    return f"{name}: refused: docs/USE.md, Refusals, says what the number means and what to do{helps.get(kind, '')}\n"
 
 
 def usage(name):
@@ -64,7 +72,7 @@ def check_samples(room):
     for file in sorted(SAMPLES.glob("*.fit")):
         answer = file.with_suffix(".txt").read_text()
         refused = answer.startswith("REFUSED")
-        wanted = (1, answer, EXPLANATION.format("fit")) if refused else (0, answer, "")
+        wanted = (1, answer, explained("fit", answer.split(" ", 1)[1])) if refused else (0, answer, "")
         room.run(f"fit {file.name}", f'./fit "samples/{file.name}"', *wanted)
         room.run(f"convert {file.name}", f'./convert "samples/{file.name}"', *refused_or_any(convert, file))
     for draft in sorted(SAMPLES.glob("*.draft")):
@@ -76,7 +84,8 @@ def refused_or_any(convert, file):
     written = converted(file.read_bytes())
     if written.startswith(b"REFUSED ") and written.count(b"\n") == 1 and written.endswith(b"\n"):
         return convert.refusal(written.decode().split()[1])
-    return (0, written, "")
+    other_rows = written != file.read_bytes() and b"\nRows:\n" in file.read_bytes()
+    return (0, written, ROWS.format(convert.name) if other_rows else "")
 
 
 def converted(draft):

@@ -96,10 +96,11 @@ static void say(words said, const char *without, int number) {
 /* Says what each part is. The rules are left out: they are true of every part. The file has passed all checks, so its numbers are in range. */
 static void say_parts(const uint8_t *file, size_t file_len, words text, const uint8_t *elements, uint32_t count) {
     const uint8_t *trailer = file + file_len - 8, *rows = file + text.len, *rules = rows + 4 * trailer[2];
-    words names[64] = {{NULL, 0}}, row_words[64] = {{NULL, 0}};
-    int is_rule[64] = {0};
-    read_list(text, "Names:", names, 64);
-    read_list(text, "Rows:", row_words, 64);
+    enum { MOST_ROWS = 8 * GUMBYRA_ELEMENT };
+    words names[GUMBYRA_MOST_NAMES] = {{NULL, 0}}, row_words[MOST_ROWS] = {{NULL, 0}};
+    int is_rule[MOST_ROWS] = {0};
+    read_list(text, "Names:", names, GUMBYRA_MOST_NAMES);
+    read_list(text, "Rows:", row_words, MOST_ROWS);
     for (int k = 0; k < trailer[3]; k++) is_rule[rules[k]] = 1;
     for (uint32_t part = 0; part < count; part++, elements += GUMBYRA_ELEMENT) {
         printf("part %u:\n", part);

@@ -71,7 +71,8 @@ def say_example(file, text, elements, links):
     rows, count = file[len(text):], file[-6]
     rules = rows[4 * count:4 * count + file[-5]]
     names, codes, words = (read_list(text, heading) for heading in (b"Names:", b"Role codes:", b"Rows:"))
-    for part, (holds,) in enumerate(struct.iter_unpack("<Q", elements)):
+    for part in range(len(elements) // RECORD[3]):
+        holds = int.from_bytes(elements[part * RECORD[3]:(part + 1) * RECORD[3]], "little")
         yield b"part %d:\n" % part
         for row in range(count):
             if holds >> row & 1 and row not in rules:

@@ -1,4 +1,5 @@
-//! The calls by the C convention, as in gumbyra.h. The only unsafe code.
+//! The calls by the C convention, as in gumbyra.h. The only unsafe code. The pointer of a slice is never null, also of
+//! an empty one.
 
 use crate::{Areas, WorkAreas};
 use std::ffi::{c_char, CStr};

@@ -217,7 +217,7 @@ impl Refusal {
     /// let file = [1, 0, 0, 0, 2, 0, 0, 0, 4, 0, 0, 2, 1, 0, b'F', b'I', b'T'];
     /// let refusal = Space::usual().fit(&file).unwrap_err();
     /// let fault = refusal.fault(&file).expect("8 is about a rule or the wanted row");
-    /// assert_eq!(fault.place, Place::Rule(0));
+    /// assert_eq!(fault.place(), Place::Rule(0));
     /// assert_eq!(
     ///     format!("{refusal} ({fault})"),
     ///     "REFUSED 8: A rule or the wanted row isn't below the number of rows. \
@@ -241,14 +241,14 @@ impl Refusal {
 
     /// What reading tells, if it is this refusal and about less than the whole file.
     fn fault_of(&self, read: Result<Table, Fault>) -> Option<Fault> {
-        read.err().filter(|fault| fault.number == self.number() && fault.place != Place::File)
+        read.err().filter(|fault| fault.number() == self.number() && fault.place() != Place::File)
     }
 }
 
 /// A fault has the number of the check that refuses the file.
 impl From<Fault> for Refusal {
     fn from(fault: Fault) -> Refusal {
-        Refusal::of_check(fault.number.into()).expect("a fault is found by a check")
+        Refusal::of_check(fault.number().into()).expect("a fault is found by a check")
     }
 }
 
@@ -345,7 +345,7 @@ mod tests {
     fn a_fault_is_told_of_the_refusal_that_it_is_for() {
         let file = |row: [u8; 4], rule: u8| [row.as_slice(), &[rule], &[0, 0, 1, 1, 0], b"FIT"].concat();
         let (rule, row) = (file([1, 0, 0, 0], 3), file([8, 0, 0, 0], 0));
-        let place = |fault: Option<Fault>| fault.map(|fault| fault.place);
+        let place = |fault: Option<Fault>| fault.map(|fault| fault.place());
         assert_eq!(place(Refusal::NoSuchRow.fault(&rule)), Some(Place::Rule(0)));
         assert_eq!(place(Refusal::Row.fault(&row)), Some(Place::Row(0)));
         assert_eq!(place(Refusal::Argument.fault_of_draft(&row)), Some(Place::Row(0)));

@@ -224,7 +224,7 @@ impl Space {
     }
 
     /// Decides a rule file, and enlarges what is short ([`Sizes::enlarged`]) until there is a verdict or no larger area
-    /// helps. The outcome is that in [`Sizes::MOST`]. The space stays as large as it got, for the runs that follow.
+    /// helps. The outcome is that in the largest areas. The space stays as large as it got, for the runs that follow.
     ///
     /// ```
     /// use gumbyra::{Refusal, Sizes, Space, Verdict};

@@ -114,7 +114,7 @@ impl Runs<'_> {
             return String::new();
         }
         let what = match open.len() {
-            0 => "Whether there can be one is".to_string(),
+            0 => "Whether there can be parts of some kinds is".to_string(),
             1 => "1 entry is".to_string(),
             many => format!("{many} entries are"),
         };

@@ -40,5 +40,5 @@ fn has_rows_of_draft(file: &[u8], fault: Fault) -> bool {
     let [.., low, high, rows, _, _, _, _, _] = *file else { return false };
     let place = usize::from(u16::from_le_bytes([low, high]));
     let bytes = file.get(place..place + 4 * usize::from(rows)).unwrap_or_default();
-    fault.number > 4 && bytes.chunks_exact(4).any(|row| matches!(row[0], 8 | 9))
+    fault.number() > 4 && bytes.chunks_exact(4).any(|row| matches!(row[0], 8 | 9))
 }

@@ -32,8 +32,16 @@ pub fn answer(file: &[u8], text: &[u8]) -> Ending {
     }
     let subjects = subjects(file);
     let subject = subjects.iter().flatten().find(|subject| subject.gives(&answer));
-    let stranger = || Ending::Failed("the answer does not belong to the file: the engine gives another".to_string());
-    subject.map_or_else(stranger, |subject| subject.ending(&answer))
+    subject.map_or_else(|| stranger(file), |subject| subject.ending(&answer))
+}
+
+/// The answer is of another file.
+fn stranger(file: &[u8]) -> Ending {
+    let why = match Subject::of(file) {
+        Ok(_) => "the engine gives another".to_string(),
+        Err((refusal, _)) => format!("the file gets refusal {}", refusal.number()),
+    };
+    Ending::Failed(format!("the answer does not belong to the file: {why}"))
 }
 
 /// Decides a rule file, or what a draft becomes, and shows the answer. Areas that are short are enlarged as far as that

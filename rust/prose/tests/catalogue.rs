@@ -45,8 +45,21 @@ fn the_last_line_tells_what_to_call() {
         none,
         "49 entries are not decided, for want of nodes (0 lent). More may decide them: ./catalogue FILE 1"
     );
-    let acid = page(&sample("acid.fit"), Sizes { alternatives: 0, ..Sizes::USUAL }).expect("a page");
-    assert!(!acid.contains("not decided") || acid.contains("alternatives (0 lent)"), "{acid}");
+    let alternatives = page(&needs_alternatives(), Sizes { alternatives: 0, ..Sizes::USUAL }).expect("a page");
+    let expected = "for want of alternatives (0 lent). More may decide them: ./catalogue FILE 1024 4096 1\n";
+    assert!(alternatives.ends_with(expected), "{alternatives}");
+}
+
+/// A file of which a run needs an alternative: what has name 0 is fitted to something to which only name 1 is fitted.
+fn needs_alternatives() -> Vec<u8> {
+    let mut table = Table::default();
+    let [named, not_named, other, _] = [table.name(0), table.not_name(0), table.name(1), table.not_name(1)];
+    let only_other = table.all(1, other);
+    let fitted = table.some(0, only_other);
+    let rule = table.either(not_named, fitted);
+    table.rule(rule);
+    table.wanted = named;
+    table.encode().expect("a rule file")
 }
 
 /// Without a list of names a name has the words of its row.

@@ -103,7 +103,7 @@ fn what_is_told_of_an_answer_is_true() {
         let mut table = Table::read(&bytes).expect("a rule file");
         table.text = text(table.rows.len(), "Rows:");
         let bytes = table.encode().expect("a rule file");
-        assert!(shown(file(&bytes)).ends_with("\nThe words of the rows are those of the text.\n"));
+        assert!(shown(file(&bytes)).ends_with("\nThe words of the rows are those of the text, and not proved.\n"));
         let text = fit(&bytes, SIZES);
         match (Answer::read(text.as_bytes()).expect("an answer"), answer(&bytes, text.as_bytes())) {
             (Answer::Can { assembly, .. }, Ending::Shown(page)) => {
@@ -217,7 +217,7 @@ fn any_text_does() {
         let mut damaged = random_file(&mut prng, shape);
         damage(&mut prng, &mut damaged);
         for bytes in [damaged, random_bytes(&mut prng)] {
-            let number = Table::read(&bytes).err().map(|fault| fault.number);
+            let number = Table::read(&bytes).err().map(|fault| fault.number());
             let text = fit(&bytes, SIZES);
             assert_eq!(number.is_some_and(|number| text == format!("REFUSED {number}\n")), number.is_some(), "{text}");
             assert!(!matches!(answer(&bytes, text.as_bytes()), Ending::Failed(_)), "{bytes:?} {text}");

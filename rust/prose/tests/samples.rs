@@ -43,14 +43,21 @@ fn rows_shown(page: &str) -> Vec<[String; 4]> {
 #[test]
 fn every_file_has_the_rows_of_its_page() {
     let mut files = 0;
-    for (ending, heading) in [(".fit", "| says |\n"), (".draft", "| says |\n")] {
+    for ending in [".fit", ".draft"] {
         for stem in stems(ending) {
             if ending == ".fit" && stems(".draft").contains(&stem) {
                 continue;
             }
             let Ending::Shown(page) = file(&sample(&format!("{stem}{ending}"))) else { continue };
-            assert_eq!(rows_shown(&page), rows_of_page(&sample_text(&format!("{stem}.md")), heading), "{stem}{ending}");
-            assert!(page.ends_with("\nThe words of the rows are those of the text.\n"), "{stem}{ending}");
+            assert_eq!(
+                rows_shown(&page),
+                rows_of_page(&sample_text(&format!("{stem}.md")), "| says |\n"),
+                "{stem}{ending}"
+            );
+            assert!(
+                page.ends_with("\nThe words of the rows are those of the text, and not proved.\n"),
+                "{stem}{ending}"
+            );
             files += 1;
         }
     }
@@ -196,22 +203,27 @@ fn strangers_are_told() {
         ("CANNOT\nUSED 1 2\n".to_string(), "line 2"),
         ("REFUSED 9\n".to_string(), "there is no refusal \"REFUSED 9\""),
         ("REFUSED 13\n".to_string(), "there is no refusal \"REFUSED 13\""),
-        ("REFUSED 6\n".to_string(), "no check refuses the file"),
+        ("REFUSED 6\n".to_string(), "the engine gives another"),
+        ("REFUSED 12\n".to_string(), "the engine gives another"),
+        ("REFUSED 13 588\n".to_string(), "the engine gives another"),
+        ("REFUSED 11 5 7\n".to_string(), "the engine gives another"),
+        (sample_text("acid.txt"), "the engine gives another"),
+        (text.replace("USED 588", "USED 589"), "the engine gives another"),
         (text.replace("CAN 5 6", "CAN 5 7"), "has 11 lines"),
         (text.replace("CAN 5 6", "CAN 4 7"), "line 7 is not L"),
         (text.replace("CAN 5 6", "CAN -5 6"), "\"-5\" is no number"),
         (text.replace("CAN 5 6", "CAN 18446744073709551615 6"), "has 11 lines"),
         (text.replace("E 3 0", "E 2 0"), "line 6 is not E 3"),
         (text.replace("E 3 00", "E 3 0"), "line 6 is not E 3"),
-        (text.replace("E 3 0000000000", "E 3 0000000002"), "element 3 lists a row above 21"),
-        (text.replace("L 3 2 1", "L 3 2 5"), "link 3 2 5 names an element"),
-        (text.replace("L 3 2 1", "L 3 32 1"), "link 3 32 1 names an element"),
+        (text.replace("E 3 0000000000", "E 3 0000000002"), "the engine gives another"),
+        (text.replace("L 3 2 1", "L 3 2 5"), "the engine gives another"),
+        (text.replace("L 3 2 1", "L 3 32 1"), "the engine gives another"),
         (text.replace("L 3 2 1", "L 3 2222 1"), "line 13 is not L"),
         (text.replace("L 3 2 1", "L 3 2 1 "), "\"\" is no number"),
-        (text.replace("L 1 6 4", "L 1 6 3"), "row 9 is not true of element 1"),
-        (text.replace("L 1 6 4", "L 1 0 3"), "row 9 is not true of element 1"),
-        (text.replace("00000000003fe061", "00000000003fe041"), "row 5 is true of element 0"),
-        (sample_text("hose.txt"), "element 0"),
+        (text.replace("L 1 6 4", "L 1 6 3"), "the engine gives another"),
+        (text.replace("L 1 6 4", "L 1 0 3"), "the engine gives another"),
+        (text.replace("00000000003fe061", "00000000003fe041"), "the engine gives another"),
+        (sample_text("hose.txt"), "the engine gives another"),
     ];
     for (text, why) in strangers {
         let sentence = failed(answer(&pump, text.as_bytes()));
@@ -219,6 +231,27 @@ fn strangers_are_told() {
     }
     assert!(failed(answer(&pump, b"\xff")).contains("it is no text"));
     assert!(failed(answer(&sample("hose.fit"), text.as_bytes())).contains("does not belong"));
+}
+
+/// A draft may do without "not" and "if". Its answer is told of the rows that it is about: those of the draft as it
+/// stands, or those of what it becomes.
+#[test]
+fn a_draft_without_not_and_if_has_two_answers() {
+    let text = "Rows of the draft:\n0 holds water\n1 leaks\n2 leaks or holds water\nWanted in the draft:\n2 it\n";
+    let mut draft = Table { text: text.into(), ..Table::default() };
+    let [holds, leaks] = [draft.name(0), draft.name(1)];
+    draft.wanted = draft.either(leaks, holds);
+    let draft = draft.encode().expect("a draft");
+    let mut area = [0; LONGEST_FILE];
+    let converted = convert(&draft, &mut area).expect("a rule file").to_vec();
+    let answers = [&draft, &converted].map(|file| fit(file, Sizes::USUAL));
+    assert_ne!(answers[0], answers[1]);
+    for (answer_to, source) in answers.iter().zip(["The words", "The answer is that of the rule file which"]) {
+        let page = shown(answer(&draft, answer_to.as_bytes()));
+        assert!(page.contains("part 0: leaks\n\n") && page.contains(source), "{page}");
+    }
+    assert!(shown(file(&draft)).ends_with("those of the text, and not proved.\n"));
+    assert!(failed(answer(&converted, answers[0].as_bytes())).contains("the engine gives another"));
 }
 
 /// A list `Rows:` that was written for a draft is not used for what the draft becomes; the draft has its words.
@@ -232,7 +265,7 @@ fn words_of_a_draft_are_not_told_of_other_rows() {
         }
         assert_ne!(draft.text, text.into_bytes());
         let bytes = draft.encode().expect("a draft");
-        assert!(shown(file(&bytes)).ends_with("those of the text.\n"), "{stem}");
+        assert!(shown(file(&bytes)).ends_with("those of the text, and not proved.\n"), "{stem}");
         let mut area = [0; LONGEST_FILE];
         let converted = convert(&bytes, &mut area).expect("a rule file");
         let page = shown(file(converted));

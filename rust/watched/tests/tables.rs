@@ -76,7 +76,7 @@ impl Counts {
 fn check(file: &[u8], read_as: As, counts: &mut Counts) {
     let (refusal, table) = (refused(file, read_as), read(file, read_as));
     let expected = refusal.map(|refusal| refusal.number());
-    assert_eq!(table.as_ref().err().map(|fault| fault.number), expected, "{file:02x?}");
+    assert_eq!(table.as_ref().err().map(|fault| fault.number()), expected, "{file:02x?}");
     counts.checks.add(cases_of_checks(|number| expected == Some(number)));
     match table {
         Ok(table) => assert_eq!(table.encode().as_deref(), Ok(file)),
@@ -84,14 +84,15 @@ fn check(file: &[u8], read_as: As, counts: &mut Counts) {
             let is_right = is_right_place(fault, file, read_as);
             assert!(is_right, "{fault}: {file:02x?}");
             let of_refusal = refusal.and_then(|refusal| told(refusal, file, read_as));
-            assert_eq!(of_refusal, (fault.number > 4).then_some(fault), "{file:02x?}");
+            assert_eq!(of_refusal, (fault.number() > 4).then_some(fault), "{file:02x?}");
             counts.places.add(cases_of_places(fault));
         }
     }
 }
 
 /// Which place of which refusal.
-fn cases_of_places(Fault { number, place, .. }: Fault) -> Vec<(&'static str, bool)> {
+fn cases_of_places(fault: Fault) -> Vec<(&'static str, bool)> {
+    let (number, place) = (fault.number(), fault.place());
     vec![
         ("1 to 4, the file", number <= 4 && place == Place::File),
         ("5, a row", number == 5 && matches!(place, Place::Row(_))),
@@ -107,7 +108,8 @@ fn cases_of_places(Fault { number, place, .. }: Fault) -> Vec<(&'static str, boo
 
 /// Is the place told the first that is wrong? With it the engine gives the number to a file that ends there, and to one
 /// that ends before it doesn't.
-fn is_right_place(Fault { number, place, .. }: Fault, file: &[u8], read_as: As) -> bool {
+fn is_right_place(fault: Fault, file: &[u8], read_as: As) -> bool {
+    let (number, place) = (fault.number(), fault.place());
     if number <= 4 {
         return place == Place::File;
     }
@@ -205,11 +207,11 @@ fn lists_of_wanted_rows_are_refused_alike() {
         let (file, list) = random_wanted(&mut prng, SHAPE);
         let (refusal, fault) = (refused_wanting(&file, &list), Table::read_wanted(&file, &list).err());
         let expected = refusal.map(|refusal| refusal.number());
-        assert_eq!(fault.map(|fault| fault.number), expected, "{file:02x?} wanting {list:?}");
+        assert_eq!(fault.map(|fault| fault.number()), expected, "{file:02x?} wanting {list:?}");
         checks.add(cases_of_checks(|number| expected == Some(number)));
         let told = refusal.and_then(|refusal| refusal.fault_wanted(&file, &list));
-        assert_eq!(told, fault.filter(|fault| fault.number > 4), "{file:02x?} wanting {list:?}");
-        let is_of_list = fault.is_some_and(|fault| fault.place == Place::Wanted);
+        assert_eq!(told, fault.filter(|fault| fault.number() > 4), "{file:02x?} wanting {list:?}");
+        let is_of_list = fault.is_some_and(|fault| fault.place() == Place::Wanted);
         let by_one = refusal.is_some() && list.iter().any(|&row| refused_wanting(&file, &[row]) == refusal);
         assert_eq!(is_of_list, by_one && refused_wanting(&file, &[]) != refusal, "{file:02x?} wanting {list:?}");
         let is_own_wrong = refusal.is_none() && Table::read(&file).is_err();
@@ -272,7 +274,7 @@ fn what_is_written_is_accepted() {
         let bytes = encode(&table.text, &rows, &table.rules, table.wanted);
         let read_as = if table.is_draft() { As::Draft } else { As::File };
         let encoded = table.encode();
-        let number = encoded.as_ref().map_or_else(|fault| fault.number, |_| 0);
+        let number = encoded.as_ref().map_or_else(|fault| fault.number(), |_| 0);
         assert_eq!(number, refusal(&bytes, read_as), "{table:?}");
         let (is_written, is_draft) = (encoded.is_ok(), table.is_draft());
         if let Ok(encoded) = encoded {

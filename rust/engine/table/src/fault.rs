@@ -13,17 +13,11 @@ use std::fmt;
 /// // Rows: some along role 0: row 1; is a pump. Row 0 names a row that is not lower.
 /// let file = [6, 0, 1, 0, 1, 0, 0, 0, 0, 0, 2, 0, 0, b'F', b'I', b'T'];
 /// let fault = Table::read(&file).unwrap_err();
-/// assert_eq!((fault.number, fault.place), (6, Place::Row(0)));
+/// assert_eq!((fault.number(), fault.place()), (6, Place::Row(0)));
 /// assert_eq!(fault.to_string(), "row 0 names row 1, which is not lower than itself");
 /// ```
 #[derive(Clone, Copy, Debug, PartialEq, Eq, Hash)]
-pub struct Fault {
-    /// The refusal: 1 to 8 or 16.
-    pub number: u8,
-    /// Where the file is wrong.
-    pub place: Place,
-    why: Why,
-}
+pub struct Fault(Why);
 
 /// Where a file is wrong. Rows and rules count from 0.
 #[derive(Clone, Copy, Debug, PartialEq, Eq, Hash)]
@@ -60,7 +54,23 @@ pub(crate) enum Why {
 
 impl From<Why> for Fault {
     fn from(why: Why) -> Fault {
-        let (number, place) = match why {
+        Fault(why)
+    }
+}
+
+impl Fault {
+    /// The refusal: 1 to 8 or 16.
+    pub fn number(&self) -> u8 {
+        self.entry().0
+    }
+
+    /// Where the file is wrong.
+    pub fn place(&self) -> Place {
+        self.entry().1
+    }
+
+    fn entry(&self) -> (u8, Place) {
+        match self.0 {
             Why::Length(_) => (1, Place::File),
             Why::Mark(_) => (2, Place::File),
             Why::Counts { .. } => (3, Place::File),
@@ -73,8 +83,7 @@ impl From<Why> for Fault {
             Why::Argument { row, .. } => (16, Place::Row(row)),
             Why::Rule { at, .. } => (16, Place::Rule(at)),
             Why::Wanted { .. } => (16, Place::Wanted),
-        };
-        Fault { number, place, why }
+        }
     }
 }
 
@@ -92,7 +101,7 @@ impl fmt::Display for Bytes {
 impl fmt::Display for Fault {
     fn fmt(&self, f: &mut fmt::Formatter) -> fmt::Result {
         const OF_ROLES: &str = "which is of kind 7 and speaks of roles";
-        match self.why {
+        match self.0 {
             Why::Length(length) => {
                 write!(f, "the file has {length} bytes, and has to have {TRAILER} to {LONGEST_FILE}")
             }
@@ -186,7 +195,7 @@ mod tests {
     fn each_fault_has_its_number_its_place_and_its_line() {
         for (why, number, place, line) in FAULTS {
             let fault = Fault::from(why);
-            assert_eq!((fault.number, fault.place, fault.to_string()), (number, place, line.to_string()));
+            assert_eq!((fault.number(), fault.place(), fault.to_string()), (number, place, line.to_string()));
         }
     }
 }

@@ -33,7 +33,7 @@ const MARK: [u8; 3] = *b"FIT";
 /// assert!(draft.is_draft() && draft.is_rule(3));
 /// assert_eq!(draft.row_of_name(1), Some(1));
 /// assert_eq!(Table::read_draft(&draft.encode()?)?, draft);
-/// assert_eq!(Table::read(&draft.encode()?).unwrap_err().number, 5, "a draft is no rule file");
+/// assert_eq!(Table::read(&draft.encode()?).unwrap_err().number(), 5, "a draft is no rule file");
 /// # Ok::<(), gumbyra_table::Fault>(())
 /// ```
 #[derive(Clone, Debug, Default, PartialEq, Eq, Hash)]
@@ -75,7 +75,7 @@ impl Table {
     /// let file = [1, 0, 0, 0, 0, 0, 1, 0, 9, b'F', b'I', b'T'];
     /// assert_eq!(Table::read(&file).unwrap_err().to_string(), "row 9 is wanted, and there are 1 rows");
     /// assert_eq!(Table::read_wanted(&file, &[0])?.wanted, 9);
-    /// assert_eq!(Table::read_wanted(&file, &[0, 5]).unwrap_err().place, Place::Wanted);
+    /// assert_eq!(Table::read_wanted(&file, &[0, 5]).unwrap_err().place(), Place::Wanted);
     /// # Ok::<(), gumbyra_table::Fault>(())
     /// ```
     pub fn read_wanted(file: &[u8], wanted: &[u8]) -> Result<Table, Fault> {
@@ -288,7 +288,7 @@ impl Table {
 
     /// The row that the text has these words for, the lowest if there are several. In a rule file the list `Rows:`
     /// counts; in a draft `Rows of the draft:`, or else `Rows:`. A rule file that was converted has the list of its
-    /// draft, but other numbers.
+    /// draft, but other numbers: if that is headed `Rows:`, a wrong row is found.
     pub fn row_called(&self, words: &str) -> Option<u8> {
         let of_text = self.words();
         let called = |row: u8| match self.is_draft() {

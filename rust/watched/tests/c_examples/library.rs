@@ -2,7 +2,7 @@
 
 use crate::order::{check_order, on};
 use crate::tools::{
-    compiled, example, is_there, library, printed, repository, run, scratch, written, INTERFACE, STRICT,
+    compiled, example, interface, is_there, library, printed, repository, run, scratch, written, STRICT,
 };
 use std::collections::BTreeSet;
 use std::fs;
@@ -81,7 +81,7 @@ fn the_order_program_goes_with_the_shared_library() {
     let mut compiler = compiler_by_package(&layout);
     compiler.arg("-std=c11").args(STRICT).arg(example("order.c")).arg(run_path);
     printed(compiler.arg("-o").arg(&program));
-    let name = format!("libgumbyra.so.{INTERFACE}");
+    let name = format!("libgumbyra.so.{}", interface());
     assert!(dynamic("NEEDED", &program).contains(&name), "{program:?}");
     assert_eq!(dynamic("SONAME", &layout.join("lib/libgumbyra.so")), [name]);
     check_order("shared", on(program));

@@ -1,6 +1,6 @@
 //! The order program, in C and in Python: the same files, the same answers.
 
-use crate::tools::{built, compiled, example, library, printed, repository, run, scratch, written, INTERFACE};
+use crate::tools::{built, compiled, example, interface, library, printed, repository, run, scratch, written};
 use compare::long_orders::branches;
 use std::fs;
 use std::path::{Path, PathBuf};
@@ -147,8 +147,10 @@ fn the_order_programs_enlarge_from_nothing() {
 /// The third number of a version has no say.
 #[test]
 fn the_order_programs_want_a_library_of_their_version() {
-    for (version, status) in [(207, 0), (300, 2), (10200, 2)] {
-        let program = of_header(&format!("order_{version}"), |line| match line.split_once("GUMBYRA_VERSION 200") {
+    let own = gumbyra::library_version();
+    let define = format!("GUMBYRA_VERSION {own}");
+    for (version, status) in [(own + 7, 0), (own + 100, 2), (own + 10_000, 2)] {
+        let program = of_header(&format!("order_{version}"), |line| match line.split_once(define.as_str()) {
             Some((define, _)) => format!("{define}GUMBYRA_VERSION {version}"),
             None => line.to_string(),
         });
@@ -163,7 +165,7 @@ fn the_order_programs_want_a_library_of_their_version() {
 #[test]
 fn the_library_of_the_order_program_in_python_is_named() {
     let (named, file) =
-        (library().join(format!("lib/libgumbyra.so.{INTERFACE}")), repository().join("samples/acid.fit"));
+        (library().join(format!("lib/libgumbyra.so.{}", interface())), repository().join("samples/acid.fit"));
     let said = "The kit cannot exist.\n";
     let (word, nowhere) = (printed(python(&["order.py"]).arg(&file).arg(&named)), scratch("no such.so"));
     let variable = printed(python(&["order.py"]).arg(&file).env("GUMBYRA_LIBRARY", &named));

@@ -6,7 +6,9 @@ use std::path::{Path, PathBuf};
 use std::process::{Command, Output};
 
 /// A program that was linked with a library goes with every one of this major and minor version.
-pub const INTERFACE: &str = "0.2";
+pub fn interface() -> &'static str {
+    gumbyra::VERSION.rsplit_once('.').expect("three numbers").0
+}
 
 pub const STRICT: [&str; 4] = ["-Wall", "-Wextra", "-Wpedantic", "-Werror"];
 

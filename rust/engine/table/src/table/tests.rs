@@ -17,7 +17,7 @@ fn pumps() -> Table {
 /// What is wrong with the table, by its number and place.
 fn fault(table: &Table) -> (u8, Place) {
     let fault = table.encode().expect_err("a fault");
-    (fault.number, fault.place)
+    (fault.number(), fault.place())
 }
 
 #[test]
@@ -32,7 +32,8 @@ fn bytes_are_text_rows_rules_trailer() {
 #[test]
 fn the_file_as_a_whole() {
     let file = pumps().encode().expect("a file");
-    let refused = |file: &[u8]| Table::read(file).map_err(|fault| (fault.number, fault.place)).expect_err("a fault");
+    let refused =
+        |file: &[u8]| Table::read(file).map_err(|fault| (fault.number(), fault.place())).expect_err("a fault");
     assert_eq!(refused(&file[..7]), (1, Place::File));
     assert_eq!(refused(&[file.as_slice(), &[0]].concat()), (2, Place::File));
     assert_eq!(refused(&[&file[..file.len() - 6], &[0, 2, 3], b"FIT"].concat()), (3, Place::File));
@@ -95,7 +96,7 @@ fn a_draft_is_no_rule_file() {
     let bytes = draft.encode().expect("a draft");
     assert_eq!(Table::read_draft(&bytes), Ok(draft));
     let fault = Table::read(&bytes).expect_err("kind 8");
-    assert_eq!((fault.number, fault.place), (5, Place::Row(5)));
+    assert_eq!((fault.number(), fault.place()), (5, Place::Row(5)));
     assert!(fault.to_string().starts_with("row 5 is of kind 8: that is for drafts"));
 }
 
@@ -134,7 +135,7 @@ fn a_list_takes_the_place_of_the_wanted_row() {
     let mut file = pumps().encode().expect("a file");
     let own = file.len() - 4;
     file[own] = 99;
-    let refused = |wanted: &[u8]| Table::read_wanted(&file, wanted).map_err(|fault| (fault.number, fault.place));
+    let refused = |wanted: &[u8]| Table::read_wanted(&file, wanted).map_err(|fault| (fault.number(), fault.place()));
     assert_eq!(refused(&[]), Ok(Table { wanted: 99, ..pumps() }));
     assert_eq!(refused(&[0, 1, 0]), Ok(Table { wanted: 99, ..pumps() }));
     assert_eq!(refused(&[0, 2]), Err((16, Place::Wanted)));
