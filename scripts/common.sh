@@ -54,7 +54,8 @@ explain_refusal() {
   local number help=''
   read -r _ number _ <"$work/output"
   case $number in
-    5 | 6 | 7 | 8 | 16) help='; ./show tells which row' ;;
+    5) help='; ./show tells which row, or that it is a draft: ./convert makes a rule file of one' ;;
+    6 | 7 | 8 | 16) help='; ./show tells which row' ;;
     11 | 13 | 14 | 15) help='; ./show --fit lends more' ;;
   esac
   say "refused: docs/USE.md, Refusals, says what the number means and what to do$help"
@@ -62,12 +63,13 @@ explain_refusal() {
 
 # ---- the words of a call
 
-# `--help` prints the usage; any other option is an error; `--` ends the options, and `-` is a name.
+# `--help` prints the usage, `--version` the version; any other option is an error; `--` ends the options, and `-` is a name.
 take_words() {
   words=()
   while [ "$#" -gt 0 ]; do
     case $1 in
-      --help) print_usage; exit 0 ;;
+      --help) print_line "$usage"; exit 0 ;;
+      --version) print_version; exit 0 ;;
       --) shift; words+=("$@"); break ;;
       -?*) fail "there is no option $1"$'\n'"$usage" ;;
       *) words+=("$1"); shift ;;
@@ -75,8 +77,20 @@ take_words() {
   done
 }
 
-print_usage() {
-  { printf '%s\n' "$usage"; } 2>/dev/null || fail "standard output can't be written"
+print_line() {
+  { printf '%s\n' "$1"; } 2>/dev/null || fail "standard output can't be written"
+}
+
+# Its home is the header: 200 is version 0.2.0.
+version_of_header() {
+  local number
+  number=$(sed -n 's/^#define GUMBYRA_VERSION \([0-9]*\).*/\1/p' "$root/c/include/gumbyra.h") && [ -n "$number" ] || return 1
+  version=$((number / 10000)).$((number / 100 % 100)).$((number % 100))
+}
+
+print_version() {
+  version_of_header || fail "c/include/gumbyra.h has no version"
+  print_line "gumbyra $version"
 }
 
 # The one file that the call names.
@@ -166,7 +180,7 @@ lock() {
   command -v flock >/dev/null || fail "flock is not installed: Debian's package util-linux has it"
   exec 9<"$root/crates.txt" || fail "crates.txt can't be read"
   flock -n 9 && return
-  say "another command is building here; waiting for it"
+  say "another command is building here; waiting for it (5 to 15 minutes, if it began just now)"
   flock 9 || fail "there is no lock to be had on crates.txt"
 }
 
@@ -185,7 +199,7 @@ prove() {
     [ -n "${announced-}" ] || say "proving, 5 to 15 minutes, once (less if it was done before and little has changed since)"
     announced=yes
     mkdir -p -- "$root/target/built" && touch -- "$stamp.begun" || fail "target/ can't be written"
-    (cd -- "$root" && rt "$@") </dev/null >&2 && [ -e "$result" ] || fail "rt $* failed: its last lines say why"
+    (cd -- "$root" && TMPDIR=$work rt "$@") </dev/null >&2 && [ -e "$result" ] || fail "rt $* failed: its last lines say why"
     mv -- "$stamp.begun" "$stamp" || fail "target/ can't be written"
   fi
   unlock
@@ -193,25 +207,42 @@ prove() {
 
 # ---- programs in Rust
 
-# Builds a program of rust/ over the library and runs it on the words that follow: 0, 1 and 2 are its own, anything else is a failure.
-# A program in Rust takes a closed stream for /dev/null, so that is looked for here; a folder in place of standard input can't be read.
-# cargo and rustup go by the settings of the folder they are called in.
+need_cargo() {
+  command -v cargo >/dev/null || fail "cargo is not installed: Rust 1.88 or later is needed, for instance from https://rustup.rs"
+}
+
+# Builds a program of rust/ over the library, unless that is done. cargo and rustup go by the settings of the folder they are called in.
+build_rust() {
+  local program=$1 stamp=$root/target/built/$1
+  is_built "$stamp" "$root/rust/target/release/$program" "$root/target/library" "$root"/rust/{Cargo.toml,Cargo.lock,engine,prose} && return
+  need_cargo
+  touch -- "$stamp.begun" || fail "target/ can't be written"
+  (cd -- "$root/rust" && env -u CARGO_BUILD_TARGET cargo build --release --offline --quiet --target-dir "$root/rust/target" \
+    -p prose --bin "$program") </dev/null >&2 || fail "cargo could not build the program; Rust 1.88 or later is needed"
+  mv -- "$stamp.begun" "$stamp" || fail "target/ can't be written"
+}
+
+# Runs a program of rust/ on the words that follow: 0, 1 and 2 are its own, anything else is a failure. A program in Rust takes a closed stream
+# for /dev/null, so that is looked for here.
 run_rust() {
   local program=$1 status word
   shift
+  [ "$#" -gt 0 ] || fail "a file is to be named"$'\n'"$usage"
   for word in "$@"; do
     case $word in
       --) break ;;
-      --help) print_usage; exit 0 ;;
+      --help) print_line "$usage"; exit 0 ;;
+      --version) print_version; exit 0 ;;
     esac
   done
-  [ "$#" -gt 0 ] || fail "a file is to be named"$'\n'"$usage"
+  for word in "$@"; do
+    [ "$word" != - ] || { true 3<&0; } 2>/dev/null || fail "standard input can't be read"
+  done
   { true 3>&1; } 2>/dev/null || fail "standard output can't be written"
-  { true 3<&0; } 2>/dev/null || exec <"$root"
-  command -v cargo >/dev/null || fail "cargo is not installed: Rust 1.88 or later is needed, for instance from https://rustup.rs"
+  # What is missing is better told before the library is proved.
+  [ -e "$root/rust/target/release/$program" ] || need_cargo
   "$root/library" </dev/null >&2 || exit 2
-  (cd -- "$root/rust" && cargo build --release --offline --quiet --target-dir "$root/rust/target" -p prose --bin "$program") \
-    </dev/null >&2 || fail "cargo could not build the program"
+  build_rust "$program"
   "$root/rust/target/release/$program" "$@"
   status=$?
   [ "$status" -le 2 ] || fail "the program ended with status $status"

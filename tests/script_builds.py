@@ -5,7 +5,7 @@ import signal
 import time
 
 from checking import ROOT, Last
-from script_runs import usage
+from script_runs import usage, version
 from stand_ins import CAN, RULES, Copy
 
 PROVING = "{}: proving, 5 to 15 minutes, once (less if it was done before and little has changed since)\n"
@@ -27,6 +27,7 @@ def check_once(room, copy):
         room.variables["C"] = name
         copy.run(f"{name}: --help builds nothing", '"$R/$C" --help', 0, usage(name), "", [])
         copy.run(f"{name}: --help behind a file", '"$R/$C" "$F" --help', 0, usage(name), "", [])
+        copy.run(f"{name}: --version builds nothing", '"$R/$C" --version', 0, version(), "", [])
         copy.run(f"{name}: a wrong call builds nothing", '"$R/$C"', 2, "", None, [])
         copy.run(f"{name}: a missing file builds nothing", '"$R/$C" "$T/none"', 2, "", None, [])
         copy.run(f"{name}: first run", '"$R/$C" "$F"', 0, answer, PROVING.format(name) + SAID, [f"rt check {name}"])
@@ -152,7 +153,7 @@ def holding(room, copy, name):
 
 def check_two(room, copy):
     """Two at once: the second waits, and builds nothing more than it needs."""
-    waits = "{}: another command is building here; waiting for it\n"
+    waits = "{}: another command is building here; waiting for it (5 to 15 minutes, if it began just now)\n"
     for second, answer, calls in (("fit", CAN, ["rt check fit"]), ("convert", RULES, ["rt check fit", "rt check convert"])):
         copy.clean()
         first = holding(room, copy, "fit")
@@ -271,6 +272,7 @@ def check_rust(room, copy):
         wrong = f"{name}: a file is to be named\n{usage(name)}"
         copy.run(f"{name}: --help builds nothing", '"$R/$C" --help', 0, usage(name), "", [])
         copy.run(f"{name}: --help behind a file", '"$R/$C" "$F" --help', 0, usage(name), "", [])
+        copy.run(f"{name}: --version builds nothing", '"$R/$C" --version', 0, version(), "", [])
         copy.run(f"{name}: no word builds nothing", '"$R/$C"', 2, "", wrong, [])
         copy.run(f"{name}: --help to /dev/full", '"$R/$C" --help >/dev/full', 2, "", f"{name}: standard output can't be written\n", [])
         copy.run(f"{name}: standard output closed", '"$R/$C" x >&-', 2, "", f"{name}: standard output can't be written\n", [])
@@ -284,27 +286,42 @@ def check_rust(room, copy):
             ("-- --help", "<--><--help>"),
             ("'*' $'\\n'", "<*><\n>"),
         ):
-            copy.run(f"{name}: the words {words}", f'cd "$T" && "$R/$C" {words}', 0, seen + there, "told\n", build)
+            copy.run(f"{name}: the words {words}", f'cd "$T" && "$R/$C" {words}', 0, seen + there, "told\n", [])
         for status, wanted in (("0", 0), ("1", 1), ("2", 2), ("3", 2), ("101", 2), ("255", 2)):
             err = "told\n" + (f"{name}: the program ended with status {status}\n" if int(status) > 2 else "")
-            copy.run(f"{name}: status {status}", f'STATUS={status} "$R/$C" x', wanted, None, err, build)
-            copy.run(f"{name}: status {status}, errexit", f'env SHELLOPTS=errexit STATUS={status} "$R/$C" x', wanted, None, err, build)
-        check_rust_program(room, copy, name, build)
+            copy.run(f"{name}: status {status}", f'STATUS={status} "$R/$C" x', wanted, None, err, [])
+            copy.run(f"{name}: status {status}, errexit", f'env SHELLOPTS=errexit STATUS={status} "$R/$C" x', wanted, None, err, [])
+        check_rust_program(room, copy, name)
+        check_rust_builds(room, copy, name, build)
 
 
-def check_rust_program(room, copy, name, build):
-    """The program's streams and signals, and a build that fails."""
+def check_rust_program(room, copy, name):
+    """The program's streams and signals."""
     # As a program in Rust, it takes a closed standard input for an empty one.
     room.write(name, "{ true 3<&0; } 2>/dev/null || exit 0; cat\n")
-    copy.run(f"{name}: standard input", 'echo in | "$R/$C" -', 0, "in\n", "", build)
-    copy.run(f"{name}: standard input closed can't be read", '"$R/$C" - <&-', 1, "", None, build)
-    copy.run(f"{name}: standard error closed", 'echo in | "$R/$C" - 2>&-', 0, "in\n", "", build)
+    copy.run(f"{name}: standard input", 'echo in | "$R/$C" -', 0, "in\n", "", [])
+    copy.run(f"{name}: standard input closed", '"$R/$C" - <&-', 2, "", f"{name}: standard input can't be read\n", [])
+    copy.run(f"{name}: a file, standard input closed", '"$R/$C" x <&-', 0, "", "", [])
+    copy.run(f"{name}: standard error closed", 'echo in | "$R/$C" - 2>&-', 0, "in\n", "", [])
     for how, status in (("KILL", 137), ("SEGV", 139), ("ABRT", 134), ("PIPE", 141)):
         room.write(name, f"kill -{how} $$\n")
-        copy.run(f"{name}: the program gets SIG{how}", '"$R/$C" x', 2, "", Last(f"{name}: the program ended with status {status}\n"), build)
+        copy.run(f"{name}: the program gets SIG{how}", '"$R/$C" x', 2, "", Last(f"{name}: the program ended with status {status}\n"), [])
+
+
+def check_rust_builds(room, copy, name, build):
+    """It is built anew when its sources or the library change, and a build that fails is tried again; else cargo need not be there."""
+    room.write(name, "echo done\n")
+    for changed in ("rust/prose/src/lib.rs", "rust/engine/src", "rust/Cargo.lock", "target/library/lib/libgumbyra.a"):
+        os.utime(copy.root / changed)
+        copy.run(f"{name}: {changed} is newer", '"$R/$C" x', 0, "done\n", "", build)
+        copy.run(f"{name}: {changed} is not", '"$R/$C" x', 0, "done\n", "", [])
+    os.utime(copy.root / "rust" / "Cargo.toml")
     room.write("cargo fails", "")
-    copy.run(f"{name}: cargo fails", '"$R/$C" x', 2, "", f"{name}: cargo could not build the program\n", build)
+    failed = f"{name}: cargo could not build the program; Rust 1.88 or later is needed\n"
+    for time_of in ("first", "second"):
+        copy.run(f"{name}: cargo fails, the {time_of} time", '"$R/$C" x', 2, "", failed, build)
     (room.folder / "cargo fails").unlink()
+    copy.run(f"{name}: cargo fails no more", '"$R/$C" x', 0, "done\n", "", build)
     os.utime(copy.root / "crates.txt")
     room.write("rt fails", "1")
     copy.run(f"{name}: rt fails", '"$R/$C" x', 2, "", Last("library: rt staticlib gumbyra failed: its last lines say why\n"), ARCHIVES[:1])

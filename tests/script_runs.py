@@ -1,6 +1,7 @@
 """Checks of the real ./fit and ./convert of this tree: what they answer, and what they do with every kind of file, name, stream and folder."""
 import os
 import pathlib
+import re
 import signal
 import stat
 import subprocess
@@ -38,9 +39,15 @@ class Command:
 def explained(name, numbers):
     """What is said beside a refusal, on standard error."""
     number = int(numbers.split()[0])
-    helps = {5: "; ./show tells which row", 13: "; ./show --fit lends more"}
-    kind = 5 if number in (5, 6, 7, 8, 16) else 13 if number in (11, 13, 14, 15) else 0
-    return f"{name}: refused: docs/USE.md, Refusals, says what the number means and what to do{helps.get(kind, '')}\n"
+    row, more = "; ./show tells which row", "; ./show --fit lends more"
+    helps = {5: f"{row}, or that it is a draft: ./convert makes a rule file of one", 11: more, 13: more, 14: more, 15: more}
+    helps.update({6: row, 7: row, 8: row, 16: row})
+    return f"{name}: refused: docs/USE.md, Refusals, says what the number means and what to do{helps.get(number, '')}\n"
+
+
+def version():
+    """The version of the wrapper, which is that of the header."""
+    return re.search('^version = "(.*)"$', (ROOT / "rust/engine/Cargo.toml").read_text(), re.MULTILINE).expand("gumbyra \\1\n")
 
 
 def usage(name):

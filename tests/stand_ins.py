@@ -57,7 +57,8 @@ class Copy:
         room.write("a copy, with spaces/crates.txt", "fit:\nconvert:\n")
         room.write("a copy, with spaces/crates/fit/src/main.rt", "fn main() {}\n")
         room.write("a copy, with spaces/crates/convert/src/main.rt", "fn main() {}\n")
-        (self.root / "rust").mkdir()
+        for name in ("Cargo.toml", "Cargo.lock", "engine/src/lib.rs", "prose/src/lib.rs"):
+            room.write(f"a copy, with spaces/rust/{name}", "")
         self.program("bin/rt", STAND_IN_RT)
         self.program("bin/cargo", STAND_IN_CARGO)
         self.program("program", PROGRAM)
