@@ -60,6 +60,7 @@ static words take_line(words *text) {
     words line = {text->bytes, end == NULL ? text->len : (size_t)(end - text->bytes)};
     text->bytes += line.len + (end != NULL);
     text->len -= line.len + (end != NULL);
+    if (line.len > 0 && line.bytes[line.len - 1] == '\r') line.len--;
     return line;
 }
 
@@ -87,10 +88,29 @@ static void read_list(words text, const char *heading, words *list, int most) {
     }
 }
 
-/* A control byte might steer a terminal, so a mark stands for it. */
+/* A control character might steer a terminal, so a mark stands for it; in UTF-8 some have two bytes. */
 static void say(words said, const char *without, int number) {
     if (said.len == 0) printf("%s %d", without, number);
-    for (size_t at = 0; at < said.len; at++) putchar(said.bytes[at] < ' ' || said.bytes[at] == 127 ? '?' : said.bytes[at]);
+    for (size_t at = 0; at < said.len; at++) {
+        int two = said.bytes[at] == 0xc2 && at + 1 < said.len && said.bytes[at + 1] >= 0x80 && said.bytes[at + 1] < 0xa0;
+        putchar(two || said.bytes[at] < ' ' || said.bytes[at] == 127 ? '?' : said.bytes[at]);
+        at += two;
+    }
+}
+
+/* After ./convert a list that was written for a draft would give its words to other rows. So it is used only if it has just the file's rows,
+   the list of the wanted row agrees, and what denies a name says "no" or "not". */
+static int is_of_file(const uint8_t *rows, int count, int wanted, words text, const words *listed, int most) {
+    words wanted_list[256] = {{NULL, 0}};
+    read_list(text, "Wanted:", wanted_list, 256);
+    if (wanted_list[wanted].bytes == NULL) return 0;
+    for (int row = 0; row < most; row++) {
+        int denies = 0;
+        if ((listed[row].len > 0) != (row < count)) return 0;
+        for (size_t at = 0; at + 3 <= listed[row].len; at++) denies |= memcmp(listed[row].bytes + at, " no", 3) == 0;
+        if (row < count && rows[4 * row] == 2 && !denies) return 0;
+    }
+    return 1;
 }
 
 /* Says what each part is. The rules are left out: they are true of every part. The file has passed all checks, so its numbers are in range. */
@@ -101,6 +121,7 @@ static void say_parts(const uint8_t *file, size_t file_len, words text, const ui
     int is_rule[MOST_ROWS] = {0};
     read_list(text, "Names:", names, GUMBYRA_MOST_NAMES);
     read_list(text, "Rows:", row_words, MOST_ROWS);
+    if (!is_of_file(rows, trailer[2], trailer[4], text, row_words, MOST_ROWS)) memset(row_words, 0, sizeof row_words);
     for (int k = 0; k < trailer[3]; k++) is_rule[rules[k]] = 1;
     for (uint32_t part = 0; part < count; part++, elements += GUMBYRA_ELEMENT) {
         printf("part %u:\n", part);

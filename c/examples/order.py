@@ -30,6 +30,8 @@ def load(path):
         library = ctypes.CDLL(path)
     except OSError as error:
         fail("libgumbyra", str(error))
+    if not hasattr(library, "gumbyra_version"):
+        fail("libgumbyra", "it has no version: it is older than this program")
     file, area = [ctypes.c_char_p, ctypes.c_size_t], [ctypes.POINTER(ctypes.c_uint8), ctypes.c_size_t]
     library.gumbyra_version.argtypes, library.gumbyra_version.restype = [], ctypes.c_uint32
     library.gumbyra_sentence.argtypes, library.gumbyra_sentence.restype = [ctypes.c_uint32], ctypes.c_char_p
@@ -57,12 +59,12 @@ def decide(library, file):
 
 def read_list(text, heading):
     """The words by their numbers in the list below the first line that is just this heading; of two with one number the first counts."""
-    lines, words = text.split(b"\n"), {}
+    lines, words = [line[:-1] if line.endswith(b"\r") else line for line in text.split(b"\n")], {}
     for line in lines[lines.index(heading) + 1:] if heading in lines else []:
         number, space, rest = line.partition(b" ")
         if not (space and re.fullmatch(b"[0-9]+", number) and int(number) <= 255):
             break
-        words.setdefault(int(number), re.sub(rb"[\x00-\x1f\x7f]", b"?", rest))  # a control byte might steer a terminal
+        words.setdefault(int(number), re.sub(rb"[\x00-\x1f\x7f]|\xc2[\x80-\x9f]", b"?", rest))  # these might steer a terminal
     return words
 
 
@@ -70,7 +72,11 @@ def say_example(file, text, elements, links):
     """What each part is, then the links. The rules are left out: they are true of every part."""
     rows, count = file[len(text):], file[-6]
     rules = rows[4 * count:4 * count + file[-5]]
-    names, codes, words = (read_list(text, heading) for heading in (b"Names:", b"Role codes:", b"Rows:"))
+    names, codes, words, wanted = (read_list(text, heading) for heading in (b"Names:", b"Role codes:", b"Rows:", b"Wanted:"))
+    # After ./convert a list that was written for a draft would give its words to other rows.
+    denied = [words.get(row, b"") for row in range(count) if rows[4 * row] == 2]
+    is_of_file = {row for row in words if words[row]} == set(range(count)) and file[-4] in wanted and all(b" no" in said for said in denied)
+    words = words if is_of_file else {}
     for part in range(len(elements) // RECORD[3]):
         holds = int.from_bytes(elements[part * RECORD[3]:(part + 1) * RECORD[3]], "little")
         yield b"part %d:\n" % part

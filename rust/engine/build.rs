@@ -35,9 +35,12 @@ fn check(lib_dir: &Path) -> Result<(), String> {
         return Err("there is no libgumbyra.a in it".to_string());
     }
     let package = std::fs::read_to_string(package).map_err(|error| format!("pkgconfig/gumbyra.pc: {error}"))?;
-    let version = variable("CARGO_PKG_VERSION");
-    let is_same = package.lines().any(|line| line.strip_prefix("Version: ") == Some(&version));
-    is_same.then_some(()).ok_or(format!("it is of another version than this crate, {version}"))
+    let of_library = package.lines().find_map(|line| line.strip_prefix("Version: ")).unwrap_or("unknown");
+    let own = variable("CARGO_PKG_VERSION");
+    // A program goes with every library of its first two numbers.
+    let is_same =
+        own.rsplit_once('.').map(|(first_two, _)| first_two) == of_library.rsplit_once('.').map(|(two, _)| two);
+    is_same.then_some(()).ok_or(format!("it is of version {of_library}, and this crate of {own}"))
 }
 
 /// What cargo says in a variable.

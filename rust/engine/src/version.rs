@@ -2,14 +2,14 @@
 
 use crate::convention;
 
-/// The version of this crate. It links only with a library of the same version.
+/// The version of this crate. It links only with a library of the same first two numbers.
 pub const VERSION: &str = env!("CARGO_PKG_VERSION");
 
 /// The version of the library, as C programs get it: 10000 * major + 100 * minor + patch, so 200 is 0.2.0.
 ///
 /// ```
-/// let (minor, patch) = (gumbyra::library_version() / 100 % 100, gumbyra::library_version() % 100);
-/// assert_eq!(gumbyra::VERSION, format!("{}.{minor}.{patch}", gumbyra::library_version() / 10_000));
+/// let (major, minor) = (gumbyra::library_version() / 10_000, gumbyra::library_version() / 100 % 100);
+/// assert!(gumbyra::VERSION.starts_with(&format!("{major}.{minor}.")));
 /// ```
 pub fn library_version() -> u32 {
     convention::version()

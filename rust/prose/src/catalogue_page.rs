@@ -3,7 +3,7 @@
 use crate::kinds::Known;
 use crate::phrases::{enumerated, Said};
 use crate::wording::Wording;
-use gumbyra::{Catalogue, IsA, Refusal, Sizes, Space, Table, Verdict, LARGEST_TABLE};
+use gumbyra::{Catalogue, IsA, Refusal, Sizes, Space, Table, Verdict, LARGEST_TABLE, NAMES};
 
 /// The page of a rule file, each run in areas of these sizes.
 pub fn page(file: &[u8], sizes: Sizes) -> Result<String, Refusal> {
@@ -17,11 +17,21 @@ pub fn page(file: &[u8], sizes: Sizes) -> Result<String, Refusal> {
         return Ok("No name has both a row of kind 1 and one of kind 2, so there is nothing to tell.\n".to_string());
     }
     let mut runs = Runs { space, file, table: &table, sizes, short: Vec::new() };
-    let mut page = printed_table(&catalogue, &kinds);
-    for kind in &kinds {
-        page += &known(&catalogue, &kinds, kind, &mut runs).sentence();
+    let sentence = |kind: &Kind| known(&catalogue, &kinds, kind, &mut runs).sentence();
+    let sentences: String = kinds.iter().map(sentence).collect();
+    let open = runs.undecided_line(&catalogue);
+    let blocks = [printed_table(&catalogue, &kinds), sentences, open, not_listed(&table, &wording)];
+    Ok(blocks.into_iter().filter(|block| !block.is_empty()).collect::<Vec<_>>().join("\n"))
+}
+
+/// The names that have one of the two rows only.
+fn not_listed(table: &Table, wording: &Wording) -> String {
+    let has_one = |&name: &u8| table.row_of_name(name).is_some() != table.row_of_not_name(name).is_some();
+    let names: Vec<String> = (0..NAMES).filter(has_one).map(|name| wording.name(name).label()).collect();
+    match names.as_slice() {
+        [] => String::new(),
+        _ => format!("Not listed, without a row of kind 1 or one of kind 2: {}.\n", names.join(", ")),
     }
-    Ok(page + &runs.undecided_line(&catalogue))
 }
 
 /// A name that is listed, and how it is said.
@@ -43,7 +53,7 @@ fn printed_table(catalogue: &Catalogue, kinds: &[Kind]) -> String {
         let entries = kinds.iter().map(|b| printed(entry(catalogue, a, b)).to_string()).collect();
         table += &line(&a.name.to_string(), &a.said.label(), entries);
     }
-    table + "\n"
+    table
 }
 
 /// Is every part of the one kind one of the other?
@@ -118,7 +128,7 @@ impl Runs<'_> {
             1 => "1 entry is".to_string(),
             many => format!("{many} entries are"),
         };
-        format!("\n{what} not decided, for want of {}. {}\n", self.short_areas(), self.call())
+        format!("{what} not decided, for want of {}. {}\n", self.short_areas(), self.call())
     }
 
     /// "nodes (60 lent)".

@@ -38,7 +38,11 @@ fn roles(table: &Table, wording: &Wording) -> String {
     let mut codes: Vec<u8> = table.rows.iter().flat_map(|&row| codes(row)).collect();
     codes.sort_unstable();
     codes.dedup();
-    let told: Vec<String> = codes.iter().filter_map(|&code| Some(format!("{code} {}", wording.role(code)?))).collect();
+    let told = |code: u8| {
+        let backwards = if code % 2 == 1 { format!(" ({} backwards)", code - 1) } else { String::new() };
+        Some(format!("{code}{backwards} {}", wording.role(code)?))
+    };
+    let told: Vec<String> = codes.into_iter().filter_map(told).collect();
     match told.as_slice() {
         [] => String::new(),
         told => format!("Role codes: {}.\n", told.join(", ")),

@@ -87,7 +87,15 @@ pub fn opposites(words: &str) -> Vec<String> {
     if let Some(rest) = words.strip_prefix("is ") {
         return vec![format!("is not {rest}")];
     }
-    if let Some(rest) = words.strip_prefix("has ") {
+    if let Some(noun) = words.strip_prefix("has a ").or_else(|| words.strip_prefix("has an ")) {
+        return vec![format!("has no {noun}")];
+    }
+    // "has only rubber seals" has no such opposite.
+    let is_plain = |rest: &&str| {
+        let first = rest.split(' ').next().unwrap_or_default();
+        !["no", "only", "some", "at", "all", "every", "exactly", "just"].contains(&first)
+    };
+    if let Some(rest) = words.strip_prefix("has ").filter(is_plain) {
         return vec![format!("has no {rest}")];
     }
     vec![words.strip_prefix("not: ").map_or_else(|| format!("not: {words}"), str::to_string)]

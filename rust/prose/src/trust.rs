@@ -26,6 +26,13 @@ impl Lists {
         (0..=u8::MAX).any(|row| self.row(words, row).is_some())
     }
 
+    fn heading(self) -> &'static str {
+        match self {
+            Lists::OfFile => "Rows:",
+            Lists::OfDraft => "Rows of the draft:",
+        }
+    }
+
     fn rules(self, words: &Words) -> Option<&[u8]> {
         match self {
             Lists::OfFile => words.rules(),
@@ -45,7 +52,7 @@ impl Lists {
 /// can be seen.
 pub fn doubt(table: &Table, words: &Words, lists: Lists) -> Option<String> {
     if !lists.has_rows(words) {
-        return Some("the text has no list of rows".to_string());
+        return Some(format!("the text has no list \"{}\"", lists.heading()));
     }
     let rows = table.rows.len();
     if (0..=u8::MAX).any(|row| lists.row(words, row).is_some() != (usize::from(row) < rows)) {
@@ -63,8 +70,17 @@ pub fn doubt(table: &Table, words: &Words, lists: Lists) -> Option<String> {
         }
         _ => {}
     }
-    let other_name = other_name(table, words, lists).or_else(|| other_sign(table, words, lists));
-    other_name.or_else(|| false_opposite(table, words, lists))
+    let checks = [same_words, other_name, other_sign, no_denial, false_opposite];
+    checks.iter().find_map(|check| check(table, words, lists))
+}
+
+/// Two rows with the same words.
+fn same_words(table: &Table, words: &Words, lists: Lists) -> Option<String> {
+    table.numbered().find_map(|(row, _)| {
+        let said = lists.row(words, row)?;
+        let first = (0..row).find(|&lower| lists.row(words, lower) == Some(said))?;
+        Some(format!("in the text's list of rows {first} and {row} have the same words"))
+    })
 }
 
 /// Is the file one that `./convert` writes? Then it would write the same again.
@@ -72,14 +88,34 @@ pub fn may_be_converted(table: &Table) -> bool {
     !table.is_draft() && table.encode().is_ok_and(|file| origins(&file, &file).is_some())
 }
 
-/// A row of kind 1 that the list gives the words of another name.
+/// A row of kind 1 or 2 that the list gives the words of another name.
 fn other_name(table: &Table, words: &Words, lists: Lists) -> Option<String> {
     table.numbered().find_map(|(row, made_of)| {
-        let Row::Name(name) = made_of else { return None };
+        let (name, says): (u8, fn(&str, &str) -> bool) = match made_of {
+            Row::Name(name) => (name, says_name),
+            Row::NotName(name) => (name, denies_name),
+            _ => return None,
+        };
         let said = lists.row(words, row)?;
-        let other = (0..=u8::MAX).find(|&other| words.name(other).is_some_and(|words| says_name(said, words)))?;
-        let is_other = !words.name(name).is_some_and(|words| says_name(said, words));
-        is_other.then(|| format!("row {row} has name {name}, and in the text's list of rows the words of name {other}"))
+        let other = (0..=u8::MAX).find(|&other| words.name(other).is_some_and(|words| says(said, words)))?;
+        let is_other = !words.name(name).is_some_and(|words| says(said, words));
+        is_other.then(|| {
+            format!("row {row} is of name {name}, and in the text's list of rows has the words of name {other}")
+        })
+    })
+}
+
+/// In a file that may be a converted draft, "not" a name whose words deny nothing: there a name may have stood.
+fn no_denial(table: &Table, words: &Words, lists: Lists) -> Option<String> {
+    const DENIALS: [&str; 8] = ["no", "not", "isn't", "hasn't", "never", "none", "nothing", "without"];
+    if lists == Lists::OfDraft || !may_be_converted(table) {
+        return None;
+    }
+    table.numbered().find_map(|(row, made_of)| {
+        let Row::NotName(name) = made_of else { return None };
+        let denies = lists.row(words, row)?.split([' ', ':', ',']).any(|word| DENIALS.contains(&word));
+        (!denies)
+            .then(|| format!("row {row} denies name {name}, and its words in the text's list of rows don't seem to"))
     })
 }
 
@@ -103,6 +139,13 @@ fn other_sign(table: &Table, words: &Words, lists: Lists) -> Option<String> {
 /// Do the words of a row say just that a part has the name?
 pub fn says_name(row: &str, name: &str) -> bool {
     ["is a ", "is an ", "is ", "has "].iter().any(|before| row.strip_prefix(before) == Some(name))
+}
+
+/// Do they say just that it hasn't?
+fn denies_name(row: &str, name: &str) -> bool {
+    ["is no ", "is not a ", "is not an ", "is not ", "has no "]
+        .iter()
+        .any(|before| row.strip_prefix(before) == Some(name))
 }
 
 /// A row that says the opposite of a name, or of "not" a name, and is not its opposite.
@@ -161,8 +204,11 @@ mod tests {
     #[test]
     fn a_list_that_does_not_is_not() {
         let doubts = [
-            ("".to_string(), "no list of rows"),
-            ("Rows of the draft:\n0 is a box\n".to_string(), "no list of rows"),
+            ("".to_string(), "no list \"Rows:\""),
+            ("Rows of the draft:\n0 is a box\n".to_string(), "no list \"Rows:\""),
+            (ROWS.replace("1 is red", "1 is a box"), "rows 0 and 1 have the same words"),
+            (format!("{ROWS}Names:\n2 box\n0 chest\n"), "row 0 is of name 0, and"),
+            (format!("{}Names:\n0 box\n1 chest\n", ROWS.replace("is no box", "is no chest")), "row 2 is of name 0"),
             (ROWS.replace("3 a box is red\n", ""), "just the numbers 0 to 3"),
             (format!("{ROWS}4 is blue\n"), "just the numbers 0 to 3"),
             (ROWS.replace("3 a", "4 a"), "just the numbers 0 to 3"),
@@ -172,7 +218,7 @@ mod tests {
             (format!("{ROWS}Wanted:\n1 is red\n"), "another row is wanted"),
             (
                 format!("{ROWS}Names:\n0 chest\n1 box\n"),
-                "row 0 has name 0, and in the text's list of rows the words of name 1",
+                "row 0 is of name 0, and in the text's list of rows has the words of name 1",
             ),
             (format!("{ROWS}Names:\n5 box\n"), "the words of name 5"),
             (ROWS.replace("1 is red", "1 is not blue"), "row 1 says name 1, and"),
@@ -184,6 +230,19 @@ mod tests {
             let doubt = doubt_of(&text).unwrap_or_else(|| panic!("no doubt of {text}"));
             assert!(doubt.contains(reason), "{doubt} of {text}");
         }
+    }
+
+    /// The draft: name 0; name 1; if 0 then 1, the rule; some along 0: 1, wanted. What it becomes has as many rows, the
+    /// same rule and the same wanted row; but its row 0 denies name 0.
+    #[test]
+    fn a_converted_draft_is_not_told_as_its_opposite() {
+        let text =
+            "Rows:\n0 is acid-proof\n1 has steel seals\n2 if it is acid-proof, it has steel seals\n3 is fitted\n";
+        let text = format!("{text}Rules, each true of every part:\n2 so\nWanted:\n3 is fitted\n");
+        let rows = vec![Row::NotName(0), Row::Name(1), Row::Either(0, 1), Row::Some { role: 0, row: 1 }];
+        let table = Table { text: text.into(), rows, rules: vec![2], wanted: 3 };
+        let doubt = doubt(&table, &table.words(), Lists::OfFile).expect("a doubt");
+        assert!(doubt.starts_with("row 0 denies name 0"), "{doubt}");
     }
 
     /// A draft of rows name 0, name 1, 1 and 0: what it becomes begins with name 1, and has as many rows.

@@ -6,6 +6,9 @@ use crate::phrases::Said;
 use crate::trust::{doubt, may_be_converted, says_name, Lists};
 use gumbyra::{Origin, Row, Table, Words, NAMES, ROLE_CODES};
 
+/// Of a file that `./convert` could have written.
+const IF_CONVERTED: &str = " If it was a draft, ask with the draft: the text may be about its rows.";
+
 /// Words for one table.
 #[derive(Clone, Debug)]
 pub struct Wording {
@@ -99,7 +102,12 @@ fn lists_of(table: &Table, words: &Words) -> (Lists, Option<String>) {
 }
 
 fn source(table: &Table, words: &Words, doubt: Option<String>) -> String {
-    let Some(doubt) = doubt else { return "The words of the rows are those of the text, and not proved.".to_string() };
+    let Some(doubt) = doubt else {
+        let of_text = "The words of the rows are those of the text, and not proved.";
+        // In a file that begins as its text says only the draft itself is sure.
+        let draft = if !table.is_draft() && may_be_converted(table) { IF_CONVERTED } else { "" };
+        return format!("{of_text}{draft}");
+    };
     if !table.is_draft() && Lists::OfDraft.has_rows(words) && !Lists::OfFile.has_rows(words) {
         let why = "those of the text are for the rows of a draft, and ./show of the draft has them";
         return format!("The words of the rows are composed: {why}.");

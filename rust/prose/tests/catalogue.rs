@@ -65,7 +65,8 @@ fn needs_alternatives() -> Vec<u8> {
 /// Without a list of names a name has the words of its row.
 #[test]
 fn words_of_rows_do_too() {
-    let pump = "   every          1    2\n 1 dosing pump  yes    -\n 2 flush valve    -  yes\n\n";
+    let pump = "   every          1    2\n 1 dosing pump  yes    -\n 2 flush valve    -  yes\n\n\
+        Not listed, without a row of kind 1 or one of kind 2: box, controller, canister.\n";
     assert_eq!(page(&sample("pump.fit"), Sizes::USUAL).as_deref(), Ok(pump));
     let acid = page(&sample("acid.fit"), Sizes::USUAL).expect("a page");
     let lines = [
@@ -74,7 +75,8 @@ fn words_of_rows_do_too() {
         " 2 acid-proof          -  yes    -",
         " 3 has rubber seals    -    -  yes",
     ];
-    assert_eq!(acid, lines.join("\n") + "\n\n");
+    let not_listed = "Not listed, without a row of kind 1 or one of kind 2: flush valve.\n";
+    assert_eq!(acid, format!("{}\n\n{not_listed}", lines.join("\n")));
 }
 
 /// Phrases and numbers in sentences; the words that are told by number are those of no list.

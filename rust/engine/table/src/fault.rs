@@ -8,15 +8,17 @@ use std::fmt;
 /// told here alone, outside the proved call.
 ///
 /// ```
-/// use gumbyra_table::{Place, Table};
+/// # use gumbyra_table as gumbyra;
+/// use gumbyra::{Place, Table};
 ///
 /// // Rows: some along role 0: row 1; is a pump. Row 0 names a row that is not lower.
 /// let file = [6, 0, 1, 0, 1, 0, 0, 0, 0, 0, 2, 0, 0, b'F', b'I', b'T'];
 /// let fault = Table::read(&file).unwrap_err();
 /// assert_eq!((fault.number(), fault.place()), (6, Place::Row(0)));
 /// assert_eq!(fault.to_string(), "row 0 names row 1, which is not lower than itself");
+/// assert_eq!(format!("{fault:?}"), "REFUSED 6: row 0 names row 1, which is not lower than itself");
 /// ```
-#[derive(Clone, Copy, Debug, PartialEq, Eq, Hash)]
+#[derive(Clone, Copy, PartialEq, Eq, Hash)]
 pub struct Fault(Why);
 
 /// Where a file is wrong. Rows and rules count from 0.
@@ -131,6 +133,13 @@ impl fmt::Display for Fault {
             Why::Rule { at, row } => write!(f, "rule {at} of the list is row {row}, {OF_ROLES}"),
             Why::Wanted { row } => write!(f, "row {row} is wanted, {OF_ROLES}"),
         }
+    }
+}
+
+/// The number too: a `main` that gives an error prints it by this.
+impl fmt::Debug for Fault {
+    fn fmt(&self, f: &mut fmt::Formatter) -> fmt::Result {
+        write!(f, "REFUSED {}: {self}", self.number())
     }
 }
 

@@ -5,7 +5,8 @@
 //! of these. Tests hold this crate against the engine.
 //!
 //! ```
-//! use gumbyra_table::Table;
+//! # use gumbyra_table as gumbyra;
+//! use gumbyra::Table;
 //!
 //! // A peristaltic pump (name 1) is a dosing pump (name 0). Wanted: a peristaltic pump that isn't one.
 //! let mut table = Table::default();
@@ -17,7 +18,7 @@
 //!
 //! let file = table.encode()?;
 //! assert_eq!(Table::read(&file), Ok(table));
-//! # Ok::<(), gumbyra_table::Fault>(())
+//! # Ok::<(), gumbyra::Fault>(())
 //! ```
 //!
 //! In order: what a row says ([`Row`]), the table ([`Table`]), what is wrong and where ([`Fault`]), the words of a text

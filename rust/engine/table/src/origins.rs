@@ -19,7 +19,8 @@ pub struct Origin {
 /// byte. So what is told belongs to the bytes, whoever wrote them.
 ///
 /// ```
-/// use gumbyra_table::{origins, Origin, Row, Table};
+/// # use gumbyra_table as gumbyra;
+/// use gumbyra::{origins, Origin, Row, Table};
 ///
 /// // Rule: if it is a dosing pump, it is a pump. Wanted: it isn't a pump.
 /// let mut draft = Table::default();
@@ -40,7 +41,7 @@ pub struct Origin {
 ///
 /// file.wanted = 1;
 /// assert_eq!(origins(&draft.encode()?, &file.encode()?), None);
-/// # Ok::<(), gumbyra_table::Fault>(())
+/// # Ok::<(), gumbyra::Fault>(())
 /// ```
 pub fn origins(draft: &[u8], file: &[u8]) -> Option<Vec<Vec<Origin>>> {
     let draft = Table::read_draft(draft).ok()?;

@@ -8,7 +8,8 @@ pub const ROLE_CODES: u8 = 32;
 /// What a row says. Arguments are numbers of lower rows; a role is a code: 2k is role k, 2k + 1 its inverse.
 ///
 /// ```
-/// use gumbyra_table::Row;
+/// # use gumbyra_table as gumbyra;
+/// use gumbyra::Row;
 ///
 /// // Has some pump fitted to it, if row 0 says "is a pump" and code 1 is "has fitted to it".
 /// let row = Row::Some { role: 1, row: 0 };

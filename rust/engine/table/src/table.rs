@@ -15,10 +15,12 @@ pub(crate) const TRAILER: usize = 8;
 const MARK: [u8; 3] = *b"FIT";
 
 /// A rule file or a draft, taken apart. It can hold what no file may; [`encode`](Table::encode) and the engine refuse
-/// that.
+/// that. Each call that adds a row borrows the table, so a row stands in a line of its own; and the wanted row is row 0
+/// unless it is set.
 ///
 /// ```
-/// use gumbyra_table::{Row, Table};
+/// # use gumbyra_table as gumbyra;
+/// use gumbyra::{Row, Table};
 ///
 /// // Codes: 0 is fitted to, 1 has fitted to it. Rule: a dosing pump has some flush valve fitted to it. Wanted: a
 /// // dosing pump.
@@ -34,7 +36,7 @@ const MARK: [u8; 3] = *b"FIT";
 /// assert_eq!(draft.row_of_name(1), Some(1));
 /// assert_eq!(Table::read_draft(&draft.encode()?)?, draft);
 /// assert_eq!(Table::read(&draft.encode()?).unwrap_err().number(), 5, "a draft is no rule file");
-/// # Ok::<(), gumbyra_table::Fault>(())
+/// # Ok::<(), gumbyra::Fault>(())
 /// ```
 #[derive(Clone, Debug, Default, PartialEq, Eq, Hash)]
 pub struct Table {
@@ -69,14 +71,15 @@ impl Table {
     /// at.
     ///
     /// ```
-    /// use gumbyra_table::{Place, Table};
+    /// # use gumbyra_table as gumbyra;
+    /// use gumbyra::{Place, Table};
     ///
     /// // One row, "is a pump". The file's own wanted row is 9, which is no row.
     /// let file = [1, 0, 0, 0, 0, 0, 1, 0, 9, b'F', b'I', b'T'];
     /// assert_eq!(Table::read(&file).unwrap_err().to_string(), "row 9 is wanted, and there are 1 rows");
     /// assert_eq!(Table::read_wanted(&file, &[0])?.wanted, 9);
     /// assert_eq!(Table::read_wanted(&file, &[0, 5]).unwrap_err().place(), Place::Wanted);
-    /// # Ok::<(), gumbyra_table::Fault>(())
+    /// # Ok::<(), gumbyra::Fault>(())
     /// ```
     pub fn read_wanted(file: &[u8], wanted: &[u8]) -> Result<Table, Fault> {
         let table = Table::read_rows(file, false)?;

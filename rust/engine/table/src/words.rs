@@ -10,7 +10,8 @@ use std::collections::BTreeMap;
 /// are not looked at.
 ///
 /// ```
-/// use gumbyra_table::Words;
+/// # use gumbyra_table as gumbyra;
+/// use gumbyra::Words;
 ///
 /// let text = b"Pumps\nNames:\n0 dosing pump\n1 hose\nRole codes:\n0 is fitted to\n1 has fitted to it\n";
 /// let words = Words::of_text(text);
