@@ -48,7 +48,7 @@ impl Wording {
     pub fn of_converted(draft: &Table, file: &Table, origins: &[Vec<Origin>]) -> Wording {
         let of_draft = Wording::of(draft);
         let rows = file.rows.iter().zip(origins).map(|(&row, stands_for)| of_draft.origin(draft, row, stands_for));
-        let source = format!("The answer is that of the rule file which the draft becomes. {}", of_draft.source());
+        let source = format!("The answer is that of the rule file which the draft becomes.\n{}", of_draft.source());
         Wording { rows: rows.collect(), source, ..of_draft.clone() }
     }
 

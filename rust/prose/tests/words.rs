@@ -67,7 +67,7 @@ fn converted(draft: &Table) -> Vec<(Row, String)> {
     let file = convert(&bytes, &mut area).expect("a rule file");
     let table = Table::read(file).expect("a rule file");
     let wording = Wording::of_converted(draft, &table, &origins(&bytes, file).expect("what the draft becomes"));
-    assert!(wording.source().starts_with("The answer is that of the rule file which the draft becomes. "));
+    assert!(wording.source().starts_with("The answer is that of the rule file which the draft becomes.\n"));
     table.rows.iter().zip(0..).map(|(&said, row)| (said, wording.row(row).to_string())).collect()
 }
 

@@ -224,6 +224,28 @@ fn lists_of_wanted_rows_are_refused_alike() {
 // ---- what is written
 
 /// A row of any bytes that it can hold, in a file or not.
+/// The texts of the samples are what their words tell, but for words put before one when it was finished.
+#[test]
+fn samples_are_told_in_their_words() {
+    let folder = concat!(env!("CARGO_MANIFEST_DIR"), "/../../samples");
+    let mut told = 0;
+    for entry in std::fs::read_dir(folder).expect("samples") {
+        let path = entry.expect("a sample").path();
+        let file = std::fs::read(&path).expect("a sample");
+        let is_converted = path.with_extension("draft").exists() && path.extension().is_some_and(|end| end == "fit");
+        if is_converted || !file.ends_with(b"FIT") {
+            continue;
+        }
+        let Ok(table) = Table::read(&file).or(Table::read_draft(&file)) else { continue };
+        let mut other = Table { text: Vec::new(), ..table.clone() };
+        other.tell(&table.words());
+        assert_eq!(String::from_utf8(other.text), String::from_utf8(table.text), "{}", path.display());
+        told += 1;
+    }
+    println!("{told} samples told");
+    assert!(told >= 12);
+}
+
 fn random_row(prng: &mut Prng) -> Row {
     let bound = [4, 40, 256][prng.below(3)];
     let [kind, role, left, right] = [9, bound, bound, bound].map(|bound| prng.byte_below(bound));

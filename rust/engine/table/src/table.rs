@@ -269,6 +269,28 @@ impl Table {
     pub fn rule(&mut self, row: u8) {
         self.rules.push(row);
     }
+
+    /// Writes these words into the text, with the rules and the wanted row that there are by now, in the form that
+    /// programs read: under the headings of a draft if there is a row of kind 8 or 9.
+    ///
+    /// ```
+    /// # use gumbyra_table as gumbyra;
+    /// use gumbyra::{Table, Words};
+    ///
+    /// let mut draft = Table::default();
+    /// let (pump, valve) = (draft.name(0), draft.name(1));
+    /// let has_valve = draft.some(1, valve);
+    /// draft.wanted = draft.if_then(pump, has_valve);
+    /// let words = Words::titled("Pumps").with_name(0, "dosing pump").with_role(1, "has fitted to it");
+    /// draft.tell(&words.with_row(pump, "is a dosing pump").with_row(draft.wanted, "has its valve, if it is a pump"));
+    ///
+    /// assert!(draft.text.starts_with(b"Pumps\nNames:\n0 dosing pump\nRole codes:\n1 has fitted to it\nRows of the draft:\n"));
+    /// assert_eq!(draft.words().row_of_draft(pump), Some("is a dosing pump"));
+    /// assert_eq!(draft.words().wanted_in_draft(), Some([draft.wanted].as_slice()));
+    /// ```
+    pub fn tell(&mut self, words: &Words) {
+        self.text = words.text(self.is_draft(), &self.rules, self.wanted).into_bytes();
+    }
 }
 
 // ---- finding rows

@@ -32,6 +32,13 @@ pub struct Words {
     wanted_in_draft: Option<Vec<u8>>,
 }
 
+/// The headings: names, role codes; rows, rules and the wanted row of a rule file, and of a draft.
+const NAMES: &str = "Names:";
+const ROLES: &str = "Role codes:";
+const OF_FILE: [&str; 3] = ["Rows:", "Rules, each true of every part:", "Wanted:"];
+const OF_DRAFT: [&str; 3] =
+    ["Rows of the draft:", "Rules of the draft, each true of every part:", "Wanted in the draft:"];
+
 /// The words of each number that a list has.
 type List = BTreeMap<u8, String>;
 
@@ -42,15 +49,62 @@ impl Words {
         let title = text.lines().next().filter(|line| !line.ends_with(':')).unwrap_or_default();
         Words {
             title: title.to_string(),
-            names: list(&text, "Names:"),
-            roles: list(&text, "Role codes:"),
-            rows: list(&text, "Rows:"),
-            rows_of_draft: list(&text, "Rows of the draft:"),
-            rules: numbers(&text, "Rules, each true of every part:"),
-            rules_of_draft: numbers(&text, "Rules of the draft, each true of every part:"),
-            wanted: numbers(&text, "Wanted:"),
-            wanted_in_draft: numbers(&text, "Wanted in the draft:"),
+            names: list(&text, NAMES),
+            roles: list(&text, ROLES),
+            rows: list(&text, OF_FILE[0]),
+            rows_of_draft: list(&text, OF_DRAFT[0]),
+            rules: numbers(&text, OF_FILE[1]),
+            rules_of_draft: numbers(&text, OF_DRAFT[1]),
+            wanted: numbers(&text, OF_FILE[2]),
+            wanted_in_draft: numbers(&text, OF_DRAFT[2]),
         }
+    }
+
+    /// Words with this title and no other yet, for [`Table::tell`](crate::Table::tell).
+    pub fn titled(title: &str) -> Words {
+        Words { title: one_line(title), ..Words::default() }
+    }
+
+    /// The same with these words for a name: a noun without an article.
+    pub fn with_name(mut self, name: u8, words: &str) -> Words {
+        self.names.insert(name, one_line(words));
+        self
+    }
+
+    /// The same with these words for a role code.
+    pub fn with_role(mut self, code: u8, words: &str) -> Words {
+        self.roles.insert(code, one_line(words));
+        self
+    }
+
+    /// The same with these words for a row of the table that they are for.
+    pub fn with_row(mut self, row: u8, words: &str) -> Words {
+        self.rows.insert(row, one_line(words));
+        self
+    }
+
+    /// The text that has these words for a table: rows, rules and the wanted row under the headings of a draft or of a
+    /// rule file.
+    pub(crate) fn text(&self, is_draft: bool, rules: &[u8], wanted: u8) -> String {
+        let listed = |row: u8| self.row_of_draft(row).filter(|_| is_draft).or(self.row(row)).unwrap_or_default();
+        let rows = if is_draft && !self.rows_of_draft.is_empty() { &self.rows_of_draft } else { &self.rows };
+        let lines = |list: &List| list.iter().map(|(number, words)| (*number, words.clone())).collect();
+        let of_rows = |rows: &[u8]| rows.iter().map(|&row| (row, listed(row).to_string())).collect();
+        let [of_rows_heading, of_rules, of_wanted] = if is_draft { OF_DRAFT } else { OF_FILE };
+        let lists: [(&str, Vec<(u8, String)>); 5] = [
+            (NAMES, lines(&self.names)),
+            (ROLES, lines(&self.roles)),
+            (of_rows_heading, lines(rows)),
+            (of_rules, of_rows(rules)),
+            (of_wanted, of_rows(&[wanted])),
+        ];
+        let optional = |(heading, list): &(&str, Vec<_>)| ![NAMES, ROLES].contains(heading) || !list.is_empty();
+        let mut text = format!("{}\n", self.title);
+        for (heading, list) in lists.into_iter().filter(optional) {
+            text += &format!("{heading}\n");
+            list.iter().for_each(|(number, words)| text += &format!("{number} {words}\n"));
+        }
+        text
     }
 
     /// The first line, unless it is a heading: that ends in a colon. Without a title it is empty.
@@ -98,6 +152,11 @@ impl Words {
     pub fn wanted_in_draft(&self) -> Option<&[u8]> {
         self.wanted_in_draft.as_deref()
     }
+}
+
+/// Words in one line: a list has a line for each number.
+fn one_line(words: &str) -> String {
+    words.chars().map(|letter| if letter.is_control() { ' ' } else { letter }).collect()
 }
 
 /// The list below a heading, by its numbers.
