@@ -49,12 +49,12 @@ fail() {
   exit 2
 }
 
-# What a refusal means is said once, in the list of them; a command that helps further is named.
+# What a refusal means is said once, in the list of them; a command that helps further is named. A caller may add something to that of 5.
 explain_refusal() {
   local number help=''
   read -r _ number _ <"$work/output"
   case $number in
-    5) help='; ./show tells which row, or that it is a draft: ./convert makes a rule file of one' ;;
+    5) help="; ./show tells which row${1-}" ;;
     6 | 7 | 8 | 16) help='; ./show tells which row' ;;
     11 | 13 | 14 | 15) help='; ./show --fit lends more' ;;
   esac

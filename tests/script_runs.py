@@ -40,7 +40,8 @@ def explained(name, numbers):
     """What is said beside a refusal, on standard error."""
     number = int(numbers.split()[0])
     row, more = "; ./show tells which row", "; ./show --fit lends more"
-    helps = {5: f"{row}, or that it is a draft: ./convert makes a rule file of one", 11: more, 13: more, 14: more, 15: more}
+    draft = ", or that it is a draft: ./convert makes a rule file of one" if name == "fit" else ""
+    helps = {5: row + draft, 11: more, 13: more, 14: more, 15: more}
     helps.update({6: row, 7: row, 8: row, 16: row})
     return f"{name}: refused: docs/USE.md, Refusals, says what the number means and what to do{helps.get(number, '')}\n"
 
