@@ -211,15 +211,23 @@ need_cargo() {
   command -v cargo >/dev/null || fail "cargo is not installed: Rust 1.88 or later is needed, for instance from https://rustup.rs"
 }
 
+is_rust_built() {
+  is_built "$root/target/built/$1" "$root/rust/target/release/$1" "$root/target/library" "$root"/rust/{Cargo.toml,Cargo.lock,engine,prose}
+}
+
 # Builds a program of rust/ over the library, unless that is done. cargo and rustup go by the settings of the folder they are called in.
 build_rust() {
   local program=$1 stamp=$root/target/built/$1
-  is_built "$stamp" "$root/rust/target/release/$program" "$root/target/library" "$root"/rust/{Cargo.toml,Cargo.lock,engine,prose} && return
+  is_rust_built "$program" && return
   need_cargo
-  touch -- "$stamp.begun" || fail "target/ can't be written"
-  (cd -- "$root/rust" && env -u CARGO_BUILD_TARGET cargo build --release --offline --quiet --target-dir "$root/rust/target" \
-    -p prose --bin "$program") </dev/null >&2 || fail "cargo could not build the program; Rust 1.88 or later is needed"
-  mv -- "$stamp.begun" "$stamp" || fail "target/ can't be written"
+  lock
+  if ! is_rust_built "$program"; then
+    touch -- "$stamp.begun" || fail "target/ can't be written"
+    (cd -- "$root/rust" && env -u CARGO_BUILD_TARGET cargo build --release --offline --quiet --target-dir "$root/rust/target" \
+      -p prose --bin "$program") </dev/null >&2 || fail "cargo could not build the program; Rust 1.88 or later is needed"
+    mv -- "$stamp.begun" "$stamp" || fail "target/ can't be written"
+  fi
+  unlock
 }
 
 # Runs a program of rust/ on the words that follow: 0, 1 and 2 are its own, anything else is a failure. A program in Rust takes a closed stream

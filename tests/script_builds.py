@@ -15,7 +15,7 @@ CANNOT = "CANNOT\nUSED 1 2 3\n"
 
 def check_builds(room):
     copy = Copy(room)
-    for part in (check_once, check_old, check_failing, check_missing, check_answers, check_two, check_interrupted, check_deaf, check_library,
+    for part in (check_once, check_old, check_failing, check_missing, check_answers, check_two, check_two_in_rust, check_interrupted, check_deaf, check_library,
                  check_rust):
         copy.clean()
         part(room, copy)
@@ -167,6 +167,26 @@ def check_two(room, copy):
         room.same(f"fit and {second} at once: the first says", (room.folder / "first said").read_text(), PROVING.format("fit") + SAID)
         room.same(f"fit and {second} at once: the calls", copy.calls(), calls)
     room.same("two at once: nothing is left", list(room.temporary.iterdir()), [])
+
+
+def check_two_in_rust(room, copy):
+    """./show beside another, while cargo builds; and beside ./catalogue, while the library is proved: each thing is built once."""
+    cargo = "cargo build --release --offline --quiet --target-dir {0}/rust/target -p prose --bin {1}/rust"
+    show, catalogue = (cargo.format(copy.root, name) for name in ("show", "catalogue"))
+    for name in ("show", "catalogue"):
+        room.write(name, "echo done\n")
+    for second, proved_first, calls in (("show", True, [show]), ("catalogue", False, ARCHIVES + [show, catalogue])):
+        copy.clean()
+        if proved_first:
+            copy.run("two in Rust: the library first", '"$R/library"', 0, "", None, ARCHIVES)
+        (room.folder / "calls").unlink(missing_ok=True)
+        first = holding(room, copy, "show")
+        other = room.start(f'exec "$R/{second}" "$F"')
+        room.wait_for(f"show and {second} at once: the second waits", lambda: "waiting" in (room.folder / "stderr").read_text())
+        (room.folder / "hold").unlink()
+        room.same(f"show and {second} at once: statuses", (room.ended(first), room.ended(other)), (0, 0))
+        room.same(f"show and {second} at once: answers", [(room.folder / name).read_text() for name in ("first", "stdout")], ["done\n"] * 2)
+        room.same(f"show and {second} at once: the calls", sorted(copy.calls()), sorted(calls))
 
 
 def answer_bytes(answer):

@@ -17,7 +17,7 @@ reader, writer = os.pipe()
 os.close(reader)
 os.dup2(writer, {0})
 os.execv(sys.argv[1], sys.argv[1:])' """
-ROWS = "{}: the text has a list \"Rows:\", and the rule file's rows have other numbers: in a draft its heading is \"Rows of the draft:\"\n"
+ROWS = "{}: the text has a list \"Rows:\", and the rule file's rows are others: in a draft its heading is \"Rows of the draft:\"\n"
 
 
 class Command:
@@ -108,6 +108,11 @@ def check_texts(room):
         file = text + draft[place:-8] + len(text).to_bytes(2, "little") + draft[-6:]
         room.write("text.draft", file)
         room.run(f"convert: the text {text[:20]!r}", './convert "$T/text.draft"', 0, converted(file), "")
+    rows = b"Rows:\r\n0 is a box\r\n"
+    headed = rows + draft[place:-8] + len(rows).to_bytes(2, "little") + draft[-6:]
+    room.write("rows.draft", headed)
+    room.run("convert: a list Rows:", './convert "$T/rows.draft"', 0, converted(headed), ROWS.format("convert"))
+    room.run("convert: a list Rows:, standard error full", './convert "$T/rows.draft" 2>/dev/full', 0, converted(headed), "")
     room.write("bad.draft", draft[:-1])
     bad = COMMANDS[1].refusal(2)
     room.run("convert: a refused draft, && stops", './convert "$T/bad.draft" >"$T/x.fit" && ./fit "$T/x.fit"', *bad)

@@ -29,6 +29,7 @@ esac
 STAND_IN_CARGO = """#!/bin/sh
 echo "cargo $* in $(pwd)" >>"$T/calls"
 cat >/dev/null
+while [ -e "$T/hold" ]; do sleep 0.02; done
 [ ! -e "$T/cargo fails" ] || exit 101
 while [ "$#" -gt 0 ]; do
   case $1 in

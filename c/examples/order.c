@@ -54,6 +54,9 @@ typedef struct {
     size_t len;
 } words;
 
+/* A list has words for numbers 0 to 255. */
+enum { LISTED = 256 };
+
 /* Takes the first line off a text. */
 static words take_line(words *text) {
     const uint8_t *end = memchr(text->bytes, '\n', text->len);
@@ -98,17 +101,23 @@ static void say(words said, const char *without, int number) {
     }
 }
 
+/* Is one of the words "no" or "not"? */
+static int denies(words said) {
+    static const char *const denials[] = {" no ", " not "};
+    for (size_t at = 0; at < said.len; at++)
+        for (int k = 0; k < 2; k++)
+            if (said.len - at >= strlen(denials[k]) && memcmp(said.bytes + at, denials[k], strlen(denials[k])) == 0) return 1;
+    return 0;
+}
+
 /* After ./convert a list that was written for a draft would give its words to other rows. So it is used only if it has just the file's rows,
-   the list of the wanted row agrees, and what denies a name says "no" or "not". */
-static int is_of_file(const uint8_t *rows, int count, int wanted, words text, const words *listed, int most) {
-    words wanted_list[256] = {{NULL, 0}};
-    read_list(text, "Wanted:", wanted_list, 256);
-    if (wanted_list[wanted].bytes == NULL) return 0;
-    for (int row = 0; row < most; row++) {
-        int denies = 0;
-        if ((listed[row].len > 0) != (row < count)) return 0;
-        for (size_t at = 0; at + 3 <= listed[row].len; at++) denies |= memcmp(listed[row].bytes + at, " no", 3) == 0;
-        if (row < count && rows[4 * row] == 2 && !denies) return 0;
+   the list of the wanted row agrees, and rows of kind 2 deny something and rows of kind 1 don't. That cannot find every such list. */
+static int is_of_file(const uint8_t *rows, int count, int wanted, words text, const words *listed) {
+    words wanted_list[LISTED] = {{NULL, 0}};
+    read_list(text, "Wanted:", wanted_list, LISTED);
+    for (int row = 0; row < LISTED; row++) {
+        if ((wanted_list[row].bytes != NULL) != (row == wanted) || (listed[row].len > 0) != (row < count)) return 0;
+        if (row < count && rows[4 * row] <= 2 && denies(listed[row]) != (rows[4 * row] == 2)) return 0;
     }
     return 1;
 }
@@ -116,12 +125,11 @@ static int is_of_file(const uint8_t *rows, int count, int wanted, words text, co
 /* Says what each part is. The rules are left out: they are true of every part. The file has passed all checks, so its numbers are in range. */
 static void say_parts(const uint8_t *file, size_t file_len, words text, const uint8_t *elements, uint32_t count) {
     const uint8_t *trailer = file + file_len - 8, *rows = file + text.len, *rules = rows + 4 * trailer[2];
-    enum { MOST_ROWS = 8 * GUMBYRA_ELEMENT };
-    words names[GUMBYRA_MOST_NAMES] = {{NULL, 0}}, row_words[MOST_ROWS] = {{NULL, 0}};
-    int is_rule[MOST_ROWS] = {0};
-    read_list(text, "Names:", names, GUMBYRA_MOST_NAMES);
-    read_list(text, "Rows:", row_words, MOST_ROWS);
-    if (!is_of_file(rows, trailer[2], trailer[4], text, row_words, MOST_ROWS)) memset(row_words, 0, sizeof row_words);
+    words names[LISTED] = {{NULL, 0}}, row_words[LISTED] = {{NULL, 0}};
+    int is_rule[LISTED] = {0};
+    read_list(text, "Names:", names, LISTED);
+    read_list(text, "Rows:", row_words, LISTED);
+    if (!is_of_file(rows, trailer[2], trailer[4], text, row_words)) memset(row_words, 0, sizeof row_words);
     for (int k = 0; k < trailer[3]; k++) is_rule[rules[k]] = 1;
     for (uint32_t part = 0; part < count; part++, elements += GUMBYRA_ELEMENT) {
         printf("part %u:\n", part);
@@ -135,8 +143,8 @@ static void say_parts(const uint8_t *file, size_t file_len, words text, const ui
 }
 
 static void say_links(words text, const uint8_t *links, uint32_t count) {
-    words codes[32] = {{NULL, 0}};
-    read_list(text, "Role codes:", codes, 32);
+    words codes[LISTED] = {{NULL, 0}};
+    read_list(text, "Role codes:", codes, LISTED);
     for (const uint8_t *link = links; link < links + (size_t)count * GUMBYRA_LINK; link += GUMBYRA_LINK) {
         printf("part %d ", link[0] + 256 * link[1]);
         say(codes[link[2]], "code", link[2]);

@@ -31,7 +31,7 @@ def load(path):
     except OSError as error:
         fail("libgumbyra", str(error))
     if not hasattr(library, "gumbyra_version"):
-        fail("libgumbyra", "it has no version: it is older than this program")
+        fail("libgumbyra", "it has no gumbyra_version: it is another library, or an older one")
     file, area = [ctypes.c_char_p, ctypes.c_size_t], [ctypes.POINTER(ctypes.c_uint8), ctypes.c_size_t]
     library.gumbyra_version.argtypes, library.gumbyra_version.restype = [], ctypes.c_uint32
     library.gumbyra_sentence.argtypes, library.gumbyra_sentence.restype = [ctypes.c_uint32], ctypes.c_char_p
@@ -73,10 +73,10 @@ def say_example(file, text, elements, links):
     rows, count = file[len(text):], file[-6]
     rules = rows[4 * count:4 * count + file[-5]]
     names, codes, words, wanted = (read_list(text, heading) for heading in (b"Names:", b"Role codes:", b"Rows:", b"Wanted:"))
-    # After ./convert a list that was written for a draft would give its words to other rows.
-    denied = [words.get(row, b"") for row in range(count) if rows[4 * row] == 2]
-    is_of_file = {row for row in words if words[row]} == set(range(count)) and file[-4] in wanted and all(b" no" in said for said in denied)
-    words = words if is_of_file else {}
+    # After ./convert a list that was written for a draft would give its words to other rows; order.c says what is looked at.
+    is_of_file = {row for row in words if words[row]} == set(range(count)) and list(wanted) == [file[-4]]
+    signs = all(bool(re.search(b" (no|not) ", words[row])) == (rows[4 * row] == 2) for row in words if is_of_file and rows[4 * row] <= 2)
+    words = words if is_of_file and signs else {}
     for part in range(len(elements) // RECORD[3]):
         holds = int.from_bytes(elements[part * RECORD[3]:(part + 1) * RECORD[3]], "little")
         yield b"part %d:\n" % part

@@ -26,7 +26,7 @@ fn lib_dir() -> PathBuf {
     env::var_os("GUMBYRA_LIB_DIR").map_or_else(of_repository, PathBuf::from)
 }
 
-/// The archive is there, and of this crate's version; an error tells what is wrong.
+/// The archive is there, and its version has this crate's first two numbers; an error tells what is wrong.
 fn check(lib_dir: &Path) -> Result<(), String> {
     let (archive, package) = (lib_dir.join("libgumbyra.a"), lib_dir.join("pkgconfig/gumbyra.pc"));
     println!("cargo::rerun-if-changed={}", archive.display());

@@ -4,9 +4,8 @@
 //! In order: how a name is said ([`phrases`]); words for each row, those of the text ([`trust`] says whether they may
 //! be used) or composed of names and roles ([`composed`], [`wording`]); what a file is, and why it is refused
 //! ([`judged`], [`refused`]); a file in words ([`file_page`]); an answer as it is printed ([`answer`]), the parts and
-//! links of its example ([`assembly`]), the answer in words ([`answer_page`]); the
-//! catalogue page ([`catalogue_page`], [`kinds`]); what the program `show` shows ([`showing`]); what it and `catalogue`
-//! share ([`command`]).
+//! links of its example ([`assembly`]), the answer in words ([`answer_page`]); the catalogue page ([`catalogue_page`],
+//! [`kinds`]); what the program `show` shows ([`showing`]); what it and `catalogue` share ([`command`]).
 
 pub mod answer;
 pub mod answer_page;

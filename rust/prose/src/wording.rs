@@ -104,7 +104,7 @@ fn lists_of(table: &Table, words: &Words) -> (Lists, Option<String>) {
 fn source(table: &Table, words: &Words, doubt: Option<String>) -> String {
     let Some(doubt) = doubt else {
         let of_text = "The words of the rows are those of the text, and not proved.";
-        // In a file that begins as its text says only the draft itself is sure.
+        // Nothing contradicts the list, and still it may be the draft's: only the draft is sure.
         let draft = if !table.is_draft() && may_be_converted(table) { IF_CONVERTED } else { "" };
         return format!("{of_text}{draft}");
     };

@@ -223,8 +223,7 @@ fn lists_of_wanted_rows_are_refused_alike() {
 
 // ---- what is written
 
-/// A row of any bytes that it can hold, in a file or not.
-/// The texts of the samples are what their words tell, but for words put before one when it was finished.
+/// The texts of the samples that are accepted, and not converted, are what `tell` writes of their words.
 #[test]
 fn samples_are_told_in_their_words() {
     let folder = concat!(env!("CARGO_MANIFEST_DIR"), "/../../samples");
@@ -246,6 +245,7 @@ fn samples_are_told_in_their_words() {
     assert!(told >= 12);
 }
 
+/// A row of any bytes that it can hold, in a file or not.
 fn random_row(prng: &mut Prng) -> Row {
     let bound = [4, 40, 256][prng.below(3)];
     let [kind, role, left, right] = [9, bound, bound, bound].map(|bound| prng.byte_below(bound));

@@ -271,7 +271,7 @@ impl Table {
     }
 
     /// Writes these words into the text, with the rules and the wanted row that there are by now, in the form that
-    /// programs read: under the headings of a draft if there is a row of kind 8 or 9.
+    /// programs read: under the headings of a draft if there is a row of kind 8 or 9, or they are a draft's words.
     ///
     /// ```
     /// # use gumbyra_table as gumbyra;

@@ -79,28 +79,34 @@ impl Words {
 
     /// The same with these words for a row of the table that they are for.
     pub fn with_row(mut self, row: u8, words: &str) -> Words {
-        self.rows.insert(row, one_line(words));
+        let rows = if self.is_of_draft() { &mut self.rows_of_draft } else { &mut self.rows };
+        rows.insert(row, one_line(words));
         self
     }
 
-    /// The text that has these words for a table: rows, rules and the wanted row under the headings of a draft or of a
-    /// rule file.
+    /// Has it words for rows of a draft, and none for those of a rule file?
+    fn is_of_draft(&self) -> bool {
+        self.rows.is_empty() && !self.rows_of_draft.is_empty()
+    }
+
+    /// The text that has these words for a table: rows, rules and the wanted row under the headings of a draft, if it
+    /// is one or they are the words of one, or else of a rule file.
     pub(crate) fn text(&self, is_draft: bool, rules: &[u8], wanted: u8) -> String {
-        let listed = |row: u8| self.row_of_draft(row).filter(|_| is_draft).or(self.row(row)).unwrap_or_default();
-        let rows = if is_draft && !self.rows_of_draft.is_empty() { &self.rows_of_draft } else { &self.rows };
+        let rows = if self.is_of_draft() { &self.rows_of_draft } else { &self.rows };
+        let [rows_heading, rules_heading, wanted_heading] =
+            if is_draft || self.is_of_draft() { OF_DRAFT } else { OF_FILE };
         let lines = |list: &List| list.iter().map(|(number, words)| (*number, words.clone())).collect();
-        let of_rows = |rows: &[u8]| rows.iter().map(|&row| (row, listed(row).to_string())).collect();
-        let [of_rows_heading, of_rules, of_wanted] = if is_draft { OF_DRAFT } else { OF_FILE };
+        let said = |row: &u8| (*row, rows.get(row).cloned().unwrap_or_default());
         let lists: [(&str, Vec<(u8, String)>); 5] = [
             (NAMES, lines(&self.names)),
             (ROLES, lines(&self.roles)),
-            (of_rows_heading, lines(rows)),
-            (of_rules, of_rows(rules)),
-            (of_wanted, of_rows(&[wanted])),
+            (rows_heading, lines(rows)),
+            (rules_heading, rules.iter().map(said).collect()),
+            (wanted_heading, vec![said(&wanted)]),
         ];
-        let optional = |(heading, list): &(&str, Vec<_>)| ![NAMES, ROLES].contains(heading) || !list.is_empty();
+        let is_written = |(heading, list): &(&str, Vec<_>)| ![NAMES, ROLES].contains(heading) || !list.is_empty();
         let mut text = format!("{}\n", self.title);
-        for (heading, list) in lists.into_iter().filter(optional) {
+        for (heading, list) in lists.into_iter().filter(is_written) {
             text += &format!("{heading}\n");
             list.iter().for_each(|(number, words)| text += &format!("{number} {words}\n"));
         }
@@ -225,6 +231,17 @@ mod tests {
             Words::of_text(b"Rules, each true of every part:\n3 a\n3 a\n1 b\nWanted:\n2 c\nWanted in the draft:");
         assert_eq!((words.rules(), words.wanted()), (Some([3, 3, 1].as_slice()), Some([2].as_slice())));
         assert_eq!((words.rules_of_draft(), words.wanted_in_draft()), (None, Some([].as_slice())));
+    }
+
+    #[test]
+    fn words_are_kept_when_some_are_added() {
+        let of_draft = Words::of_text(b"Pumps\nRows of the draft:\n0 is a pump\n1 leaks\n");
+        let text = of_draft.clone().with_row(1, "is\ntight").with_name(7, "pump").text(false, &[1], 0);
+        let rules = "Rules of the draft, each true of every part:\n1 is tight\nWanted in the draft:\n0 is a pump\n";
+        assert_eq!(text, format!("Pumps\nNames:\n7 pump\nRows of the draft:\n0 is a pump\n1 is tight\n{rules}"));
+        let of_file = Words::titled("Pumps").with_row(0, "is a pump");
+        assert_eq!(of_file.text(true, &[], 0).lines().nth(1), Some("Rows of the draft:"));
+        assert_eq!(of_file.text(false, &[], 3).lines().last(), Some("3 "));
     }
 
     #[test]

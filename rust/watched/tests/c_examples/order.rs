@@ -2,6 +2,7 @@
 
 use crate::tools::{built, compiled, example, interface, library, printed, repository, run, scratch, written};
 use compare::long_orders::branches;
+use gumbyra::{convert, Row, Table, LONGEST_FILE};
 use std::fs;
 use std::path::{Path, PathBuf};
 use std::process::Command;
@@ -92,6 +93,47 @@ pub fn check_order(by: &str, order: impl Fn(&Path) -> Command) {
     let (missing, folder) = (sample("no such.fit"), sample(""));
     check(missing.clone(), 2, "", &format!("order: {}: No such file or directory\n", missing.display()));
     check(folder.clone(), 2, "", &format!("order: {}: Is a directory\n", folder.display()));
+}
+
+/// Files whose list of rows was written for a draft, or denies the wrong thing: each with words that must not be said.
+/// Row 0 is a name or denies one, row 2 is "if 0 then 1", a rule, and row 3 "some along 0: 1", wanted: what such a draft
+/// becomes has as many rows, the same rule and the same wanted row, but row 0 is turned round.
+fn misled() -> Vec<(Vec<u8>, &'static str)> {
+    let draft = |first: Row, said: &str| {
+        let rows = vec![first, Row::Name(1), Row::If(0, 1), Row::Some { role: 0, row: 1 }];
+        let text = format!("Rows:\n0 {said}\n1 has steel seals\n2 so\n3 is fitted\nWanted:\n3 is fitted\n");
+        Table { text: text.into(), rows, rules: vec![2], wanted: 3 }.encode().expect("a draft")
+    };
+    let converted = |draft: Vec<u8>| {
+        let mut area = [0; LONGEST_FILE];
+        convert(&draft, &mut area).expect("a rule file").to_vec()
+    };
+    let nozzle = b"Rows:\n0 has a nozzle\nWanted:\n0 so\n".to_vec();
+    let nozzle = Table { text: nozzle, rows: vec![Row::NotName(0)], rules: vec![], wanted: 0 };
+    vec![
+        (converted(draft(Row::Name(0), "is acid-proof")), "acid-proof"),
+        (converted(draft(Row::NotName(0), "is not acid-proof")), "acid-proof"),
+        (nozzle.encode().expect("a rule file"), "nozzle"),
+    ]
+}
+
+/// No words of other rows are said of a row; lines may end in CR LF.
+fn check_words(by: &str, order: impl Fn(&Path) -> Command) {
+    for (at, (file, words)) in misled().into_iter().enumerate() {
+        let said = printed(&mut order(&written(&format!("{by} misled {at}.fit"), &file)));
+        assert!(said.contains("  row 0\n") && !said.contains(words), "{by}: {said}");
+    }
+    let mut pump =
+        Table::read(&fs::read(repository().join("samples/pump.fit")).expect("a sample")).expect("a rule file");
+    pump.text = String::from_utf8(pump.text).expect("a text").replace('\n', "\r\n").into();
+    let file = written(&format!("{by} lines.fit"), &pump.encode().expect("a rule file"));
+    assert_eq!(printed(&mut order(&file)), PUMP, "{by}");
+}
+
+#[test]
+fn the_order_programs_say_no_words_of_other_rows() {
+    check_words("order", on(built("order")));
+    check_words("order.py", |file| with(python(&["order.py"]), file));
 }
 
 /// The command that runs this program on a file.
