@@ -10,7 +10,7 @@ import time
 
 ROOT = pathlib.Path(__file__).resolve().parent.parent
 # A case that takes longer hangs.
-LONGEST = 20
+LONGEST = 60
 
 
 class Last(str):
