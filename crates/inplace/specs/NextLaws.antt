@@ -5,7 +5,7 @@ use mathlib.Core.List.{List}
 use Prim.Native.Nat.{ℕ, zero, suc, _+_, _-_, _*_, _/_, _%_, _^_, _≤_, _<_}
 use native.Mathlib.Decide.{ℕ-discrete}
 use native.Mathlib.Omega.{arith}
-use lib.Dec.{leb}
+use lib.Dec.{eqb, leb}
 use lib.ListN.{length, getD, set}
 use lib.Seq.{getD-set-same, getD-set-other}
 use lib.Bits.{bitAnd, and-le-l}
@@ -16,7 +16,7 @@ use Rattle.concepts.specs.RowSetLaws.{mem-empty}
 use Rattle.concepts.specs.Lowest.{Lowest, Above}
 use Rattle.inplace.specs.declared.Next.the-variants.{At, End}
 use Rattle.inplace.specs.Joined.{joined, Fit, place, wordAt, setAt, maskAt, IsNext}
-use Rattle.inplace.specs.JoinedLaws.{mem-high, mem-joined, joined-common, joined-insert, place-64}
+use Rattle.inplace.specs.JoinedLaws.{mem-high, mem-joined, joined-common, joined-insert, joined-true, joined-false, place-64}
 use Rattle.inplace.specs.ByteLaws.{Bytes, word-fits, set-words}
 
 -- every element is a word
@@ -35,6 +35,16 @@ mask-insert ws h at k n v l room e =
     joined-insert 64 (λ (m : ℕ). getD ws (at + m) 0) (λ (m : ℕ). getD (set ws (at + j) v) (at + m) 0) (λ m. h (at + m)) n j i (omega arith) (omega arith)
     (getD-set-same ws (at + j) v 0 room ∙ e) (λ m d. getD-set-other ws (at + j) (at + m) v 0 (λ z. d (omega arith)))
     ∙ ap (λ (x : ℕ). insert x (joined 64 (λ (m : ℕ). getD ws (at + m) 0) n)) q
+
+-- ---- a test of a mask that goes from word to word
+
+pub mask-none : (ws : List ℕ) (at n : ℕ) → ((j : ℕ) → j < n → getD ws (at + j) 0 ≡ 0) → eqb (maskAt ws at n) 0 ≡ true
+unfolding maskAt
+mask-none ws at n e = joined-true 64 (λ (j : ℕ). getD ws (at + j) 0) n e
+
+pub mask-some : (ws : List ℕ) → Words ws → (at n j : ℕ) → j < n → (getD ws (at + j) 0 ≡ 0 → ⊥) → eqb (maskAt ws at n) 0 ≡ false
+unfolding maskAt
+mask-some ws h at n j l d = joined-false 64 (λ (i : ℕ). getD ws (at + i) 0) (λ i. h (at + i)) n j l d
 
 -- ---- a set and a mask
 

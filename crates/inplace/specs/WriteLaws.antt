@@ -99,13 +99,25 @@ set-fits b h at n = leAt-lt b h at (8 * n)
 -- ---- two sets, word by word
 
 module _ (b c : List ℕ) (hb : Bytes b) (hc : Bytes c) (at there n : ℕ) where
+  both : ℕ → ℕ
+  both m = union (wordAt b at m) (wordAt c there m)
+
+  both-fits : Fit 64 both
+  unfolding both
+  both-fits m = union-lt 64 (wordAt b at m) (wordAt c there m) (word-fits b hb at m) (word-fits c hc there m)
+
+  both-all : joined 64 both n ≡ union (setAt b at n) (setAt c there n)
+  unfolding both
+  both-all =
+      joined-union 64 (wordAt b at) (wordAt c there) both (word-fits b hb at) (word-fits c hc there) both-fits (λ j. refl) n
+      ∙ ap₂ union (sym (set-words b n at)) (sym (set-words c n there))
+
   pub put-union : putWords b at (λ (m : ℕ). union (wordAt b at m) (wordAt c there m)) n ≡ putLe b at (8 * n) (union (setAt b at n) (setAt c there n))
-  put-union =
-      let f : ℕ → ℕ = λ (m : ℕ). union (wordAt b at m) (wordAt c there m) in
-      let h : Fit 64 f = λ m. union-lt 64 (wordAt b at m) (wordAt c there m) (word-fits b hb at m) (word-fits c hc there m) in
-      put-words n b at f h
-      ∙ ap (putLe b at (8 * n)) (joined-union 64 (wordAt b at) (wordAt c there) f (word-fits b hb at) (word-fits c hc there) h (λ j. refl) n
-      ∙ ap₂ union (sym (set-words b n at)) (sym (set-words c n there)))
+  unfolding both
+  put-union = put-words n b at both both-fits ∙ ap (putLe b at (8 * n)) both-all
+
+  pub set-union : at + 8 * n ≤ length b → setAt (putLe b at (8 * n) (union (setAt b at n) (setAt c there n))) at n ≡ union (setAt b at n) (setAt c there n)
+  set-union room = set-put b at n (union (setAt b at n) (setAt c there n)) room (rw (← both-all) (joined-lt n both both-fits))
 
   pub put-copy : putWords b at (wordAt c there) n ≡ putLe b at (8 * n) (setAt c there n)
   put-copy = put-words n b at (wordAt c there) (word-fits c hc there) ∙ ap (putLe b at (8 * n)) (sym (set-words c n there))

@@ -103,7 +103,8 @@ pub fn same(b: &[u8], at: usize, c: &[u8], there: usize, n: usize) -> bool
 // The rows of the other set join the set of n words.
 pub fn join(b: &mut [u8], at: usize, c: &[u8], there: usize, n: usize)
     requires { ⌜ (at + 8 * n ≤ length (now b)) × (there + 8 * n ≤ length (now c)) ⌝ }
-    ensures { λ _. ⌜ now (b .exit) ≡ putLe (now (b .entry)) at (8 * n) (Set.union (setAt (now (b .entry)) at n) (setAt (now (c .entry)) there n)) ⌝ }
+    ensures { λ _. ⌜ (now (b .exit) ≡ putLe (now (b .entry)) at (8 * n) (Set.union (setAt (now (b .entry)) at n) (setAt (now (c .entry)) there n)))
+        × (setAt (now (b .exit)) at n ≡ Set.union (setAt (now (b .entry)) at n) (setAt (now (c .entry)) there n)) ⌝ }
 {
     let mut j: usize = 0;
     while j < n {
@@ -162,6 +163,21 @@ pub fn within(b: &[u8], at: usize, c: &[u8], there: usize, n: usize) -> bool
     while j < n {
         let w = word(b, at, j);
         if w & word(c, there, j) != w {
+            return false;
+        }
+        j += 1;
+    }
+    true
+}
+
+// Whether the mask of n words has no rows.
+pub fn is_empty_mask(ws: &[u64], at: usize, n: usize) -> bool
+    requires { ⌜ at + n ≤ length (now ws) ⌝ }
+    ensures { λ r. ⌜ r ≡ eqb (maskAt (now (ws .entry)) at n) Set.empty ⌝ }
+{
+    let mut j: usize = 0;
+    while j < n {
+        if ws[at + j] != 0 {
             return false;
         }
         j += 1;

@@ -8,9 +8,9 @@ use lib.ListN.{length}
 use Rattle.concepts.specs.RowSet.{union}
 use Rattle.words.specs.Words.{putLe}
 use Rattle.words.specs.WordLaws.{length-putLe}
-use Rattle.inplace.specs.Joined.{wordAt, putWords}
+use Rattle.inplace.specs.Joined.{wordAt, setAt, putWords}
 use Rattle.inplace.specs.ByteLaws.{Bytes}
-use Rattle.inplace.specs.WriteLaws.{put-words-more, words-kept, put-union}
+use Rattle.inplace.specs.WriteLaws.{put-words-more, words-kept, put-union, set-union}
 use Rattle.inplace.proofs.join.Statement.{statement}
 use Rattle.inplace.proofs.join.Tie as tie
 
@@ -59,8 +59,10 @@ returns c =
     let a = known .before .before .args in
     let f : ℕ → ℕ = λ (m : ℕ). union (wordAt (a .b .now) (a .at) m) (wordAt (a .c .now) (a .there) m) in
     let e : l .j ≡ a .n = omega arith in
-    l .inv .2 ∙ ap (putWords (a .b .now) (a .at) f) e
-    ∙ put-union (a .b .now) (a .c .now) (λ i. omega (arith, known .before .slice-known .given i)) (λ i. omega (arith, known .shared-slice-known .given i)) (a .at) (a .there) (a .n)
+    let hb : Bytes (a .b .now) = λ i. omega (arith, known .before .slice-known .given i) in
+    let hc : Bytes (a .c .now) = λ i. omega (arith, known .shared-slice-known .given i) in
+    let put = l .inv .2 ∙ ap (putWords (a .b .now) (a .at) f) e ∙ put-union (a .b .now) (a .c .now) hb hc (a .at) (a .there) (a .n) in
+    (put, ap (λ (x : List ℕ). setAt x (a .at) (a .n)) put ∙ set-union (a .b .now) (a .c .now) hb hc (a .at) (a .there) (a .n) (omega arith))
 
 pub join-spec : {M : Type 1} → statement M
 join-spec =
