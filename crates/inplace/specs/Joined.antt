@@ -22,6 +22,11 @@ unfoldable pub place : ℕ → ℕ → ℕ → ℕ
 place p zero i = i
 place p (suc j) i = p + place p j i
 
+-- word j of a set whose rows are those of one word, the lowest
+abbrev pub lowWord : ℕ → ℕ → ℕ
+lowWord w zero = w
+lowWord w (suc j) = 0
+
 -- word j of the bytes from place at on
 abbrev pub wordAt : List ℕ → ℕ → ℕ → ℕ
 wordAt b at j = leAt b (at + 8 * j) 8

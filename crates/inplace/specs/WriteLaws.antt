@@ -15,8 +15,8 @@ use Rattle.concepts.specs.RowSet.{union, minus, single}
 use Rattle.concepts.specs.RowSetLaws.{union-lt}
 use Rattle.words.specs.Words.{leAt, putLe}
 use Rattle.words.specs.WordLaws.{length-putLe, leAt-putLe}
-use Rattle.inplace.specs.Joined.{joined, Fit, place, wordAt, setAt, putWords, maskAt}
-use Rattle.inplace.specs.JoinedLaws.{joined-union, joined-minus, joined-without, joined-true, joined-false, place-64}
+use Rattle.inplace.specs.Joined.{joined, Fit, place, lowWord, wordAt, setAt, putWords, maskAt}
+use Rattle.inplace.specs.JoinedLaws.{joined-union, joined-minus, joined-without, joined-none, joined-true, joined-false, place-64}
 use Rattle.inplace.specs.ByteLaws.{Bytes, leAt-lt, set-words, word-fits, word-written, word-kept}
 
 -- the low m bytes and the n above them
@@ -176,6 +176,19 @@ module _ (b ws : List ℕ) (hb : Bytes b) (hw : (i : ℕ) → getD ws i 0 < 2 ^ 
 
   pub set-mask : at + 8 * n ≤ length b → setAt (putLe b at (8 * n) (union (setAt b at n) (maskAt ws mask n))) at n ≡ union (setAt b at n) (maskAt ws mask n)
   set-mask room = set-put b at n (union (setAt b at n) (maskAt ws mask n)) room (rw (← with-mask-all) (joined-lt n with-mask with-mask-fits))
+
+-- ---- a set of which only the lowest word has rows
+
+low-fits : (w : ℕ) → w < 2 ^ 64 → Fit 64 (lowWord w)
+low-fits w h zero = h
+low-fits w h (suc j) = omega arith
+
+pub put-low : (b : List ℕ) (at w n : ℕ) → w < 2 ^ 64 → 0 < n → putWords b at (lowWord w) n ≡ putLe b at (8 * n) w
+unfolding joined
+put-low b at w zero h some = absurd (omega arith)
+put-low b at w (suc n) h some =
+    put-words (suc n) b at (lowWord w) (low-fits w h)
+    ∙ ap (putLe b at (8 * suc n)) (omega (arith, joined-none 64 (λ (j : ℕ). lowWord w (suc j)) n (λ j l. refl)))
 
 -- row k leaves the set by its word
 pub set-remove : (b : List ℕ) → Bytes b → (at k n v : ℕ) → k < 64 * n → at + 8 * (k / 64) + 8 ≤ length b → v ≡ minus (wordAt b at (k / 64)) (single (k % 64))

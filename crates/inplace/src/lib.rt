@@ -8,7 +8,7 @@ ghost use lib.Dec.{eqb};
 ghost use lib.ListN.{length, getD, set};
 ghost use Rattle.concepts.specs.RowSet as Set;
 ghost use Rattle.words.specs.Words.{putLe};
-ghost use Rattle.inplace.specs.Joined.{wordAt, setAt, maskAt, Tells, Inserted, Removed, Marked, IsNext};
+ghost use Rattle.inplace.specs.Joined.{lowWord, wordAt, setAt, maskAt, Tells, Inserted, Removed, Marked, IsNext};
 use words::get8;
 use words::put8;
 
@@ -150,6 +150,25 @@ pub fn copy(b: &mut [u8], at: usize, c: &[u8], there: usize, n: usize)
     let mut j: usize = 0;
     while j < n {
         put_word(b, at, j, word(c, there, j));
+        j += 1;
+    }
+}
+
+// Word j of a set whose rows are those of one word, the lowest.
+fn low(w: u64, j: usize) -> u64
+    ensures { λ r. ⌜ r ≡ lowWord w j ⌝ }
+{
+    if j == 0 { w } else { 0 }
+}
+
+// Writes the set of n words whose rows are those of one word, the lowest.
+pub fn put_low(b: &mut [u8], at: usize, w: u64, n: usize)
+    requires { ⌜ (0 < n) × (at + 8 * n ≤ length (now b)) ⌝ }
+    ensures { λ _. ⌜ now (b .exit) ≡ putLe (now (b .entry)) at (8 * n) w ⌝ }
+{
+    let mut j: usize = 0;
+    while j < n {
+        put_word(b, at, j, low(w, j));
         j += 1;
     }
 }
