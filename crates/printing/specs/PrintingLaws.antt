@@ -1,7 +1,6 @@
 -- Laws of Printing: the ways through the functions that print.
 --
 -- In order: pieces; the whole; a whole that has room; numbers; a loop over pieces; lines; the line of an element and of a link; the lines of an answer; which lines are printed.
--- Assumes nothing.
 use mathlib.Core.Path.{_≡_, refl, sym, ap, ap₂, subst, _∙_}
 use mathlib.Core.Bool.{Bool, true, false}
 use mathlib.Core.Logic.{_≢_}
@@ -14,14 +13,15 @@ use lib.ListN.{length, getD, set, take, drop, length-append, length-drop}
 use lib.Seq.{sets, length-sets, set-out, length-take-le, take-all, take-length, take-suc, take-at, drop-at}
 use borrow.Author.Tests.{eqb-true, eqb-false, eq-eqb, ne-eqb}
 use Rattle.rulefile.specs.Format.{Bytes}
-use Rattle.words.specs.Words.{overwrite}
+use Rattle.words.specs.Words.{leAt, overwrite}
+use Rattle.words.specs.Sizes.{setSize}
 use Rattle.evaluation.specs.Layout.{linkAt}
 use Rattle.run.specs.Run.{Lengths, Numbers}
 use Rattle.run.specs.RunLaws.{Room}
 use Rattle.run.specs.Printed.{ascii, digit, hexadecimal, decimal, spaced, line, elementLine, linkLine, elementLines, linkLines, usedLine, refusalCounts, refusedLine}
 use Rattle.run.specs.Printed.{canLines, cannotLines, printed}
-use Rattle.run.specs.PrintedLaws.{decimal-last, decimal-more, length-decimal-word, hexadecimal-more}
-use Rattle.printing.specs.Printing.{Wrote, Pieces, Prints}
+use Rattle.run.specs.PrintedLaws.{decimal-last, decimal-more, length-decimal-word, hexadecimal-byte, hexadecimal-bytes}
+use Rattle.printing.specs.Printing.{elementMost, Wrote, Pieces, Prints}
 
 -- ---- pieces
 
@@ -79,7 +79,7 @@ wrote-start {text = text} {out = out} {next = next} w h =
     ∙ take-at text (drop (length text) out) next (omega (arith, w .after))
 
 pub wrote-whole : {n : Numbers} {elements links text out out′ : Bytes} {most next : ℕ} → Wrote most text out 0 out′ next → text ≡ printed n elements links
-    → most ≤ 64 + 30 * n .elements + 35 * n .links → (n .verdict ≢ 1 → most ≤ 64) → Prints n elements links out out′ next
+    → most ≤ 64 + elementMost * n .elements + 35 * n .links → (n .verdict ≢ 1 → most ≤ 64) → Prints n elements links out out′ next
 wrote-whole {n} {elements} {links} {out = out} {most = most} w e h brief =
     let v = wrote-as w {most′ = most} e (omega arith) in
     record {
@@ -93,10 +93,10 @@ wrote-whole {n} {elements} {links} {out = out} {most = most} w e h brief =
 
 module _ {n : Numbers} {elements links out out′ : Bytes} {count : ℕ} (p : Prints n elements links out out′ count) where
   -- what is printed is bounded by the lengths of the areas, if with "can" they hold the example
-  pub prints-within : (l : Lengths) → (n .verdict ≡ 1 → Room l n) → count ≤ 64 + 30 * (l .elements / 8) + 35 * (l .links / 6)
+  pub prints-within : (l : Lengths) → (n .verdict ≡ 1 → Room l n) → count ≤ 64 + elementMost * (l .elements / setSize) + 35 * (l .links / 6)
   prints-within l room = go (eqb (n .verdict) 1) refl
     where
-      go : (b : Bool) → eqb (n .verdict) 1 ≡ b → count ≤ 64 + 30 * (l .elements / 8) + 35 * (l .links / 6)
+      go : (b : Bool) → eqb (n .verdict) 1 ≡ b → count ≤ 64 + elementMost * (l .elements / setSize) + 35 * (l .links / 6)
       go true e = let r = room (eqb-true (n .verdict) 1 e) in omega (arith, p .bounded, r .elements, r .links)
       go false e = omega (arith, p .brief (eqb-false (n .verdict) 1 e))
 
@@ -130,14 +130,20 @@ wrote-digits {n = n} h fits w e v =
     let t = wrote-as (wrote-then w v) {most′ = 11} (ap (λ (x : ℕ). decimal (n / 10) ++ x ∷ []) e ∙ sym (decimal-more n h)) (omega arith) in
     record { stored = t .stored; after = t .after; bounded = length-decimal-word n fits }
 
-pub wrote-no-digit : (out : Bytes) (at k v : ℕ) → k ≡ 0 → Wrote k (hexadecimal k v) out at out at
-unfolding hexadecimal
-wrote-no-digit out at k v e = rw e (wrote-nothing out at)
+pub wrote-byte : (x : ℕ) → x < 256 → {out out′ out″ : Bytes} {at middle next high low : ℕ} → high ≡ digit (x / 16) → Wrote 1 (high ∷ []) out at out′ middle
+    → low ≡ digit (x % 16) → Wrote 1 (low ∷ []) out′ middle out″ next → Wrote 2 (hexadecimal 2 x) out at out″ next
+wrote-byte x h eh w el v = wrote-as (wrote-then w v) (ap₂ (λ (p q : ℕ). p ∷ q ∷ []) eh el ∙ sym (hexadecimal-byte x h)) (omega arith)
 
-pub wrote-hexadecimal : (v : ℕ) {out out′ out″ : Bytes} {at middle next k b : ℕ} → 0 < k
-    → Wrote (k - 1) (hexadecimal (k - 1) (v / 16)) out at out′ middle → b ≡ digit (v % 16) → Wrote 1 (b ∷ []) out′ middle out″ next → Wrote k (hexadecimal k v) out at out″ next
-wrote-hexadecimal n {k = k} h w e v =
-    wrote-as (wrote-then w v) (ap (λ (x : ℕ). hexadecimal (k - 1) (n / 16) ++ x ∷ []) e ∙ sym (hexadecimal-more k n h)) (omega arith)
+-- the digits of the i highest of n bytes
+abbrev pub highest : Bytes → ℕ → ℕ → ℕ → Bytes
+highest area from n i = hexadecimal (2 * i) (leAt area (from + (n - i)) i)
+
+pub highest-more : (area : Bytes) (from n i : ℕ) → i < n → getD area (from + (n - (i + 1))) 0 < 256
+    → highest area from n (i + 1) ≡ highest area from n i ++ hexadecimal 2 (getD area (from + (n - (i + 1))) 0)
+highest-more area from n i h small =
+    let e : from + (n - (i + 1)) + 1 ≡ from + (n - i) = omega arith in
+    hexadecimal-bytes area (from + (n - (i + 1))) i small
+    ∙ ap (λ (p : ℕ). hexadecimal (2 * i) (leAt area p i) ++ hexadecimal 2 (getD area (from + (n - (i + 1))) 0)) e
 
 -- ---- a loop over pieces
 
@@ -198,16 +204,15 @@ module _ {w out out₁ : Bytes} {at p₁ : ℕ} (word : Wrote (length w) w out a
 
 -- ---- the line of an element and of a link
 
-element-joined : (d s : ℕ) → ascii "E" ++ (32 ∷ decimal d) ++ 32 ∷ [] ++ hexadecimal 16 s ++ 10 ∷ [] ≡ elementLine d s
+element-joined : (d s : ℕ) → ascii "E" ++ (32 ∷ decimal d) ++ 32 ∷ [] ++ hexadecimal (2 * setSize) s ++ 10 ∷ [] ≡ elementLine d s
 unfolding elementLine spaced
-element-joined d s = ap (λ (b : Bytes). ascii "E" ++ b ++ 32 ∷ [] ++ hexadecimal 16 s ++ 10 ∷ []) (sym (append-nil (32 ∷ decimal d)))
+element-joined d s = ap (λ (b : Bytes). ascii "E" ++ b ++ 32 ∷ [] ++ hexadecimal (2 * setSize) s ++ 10 ∷ []) (sym (append-nil (32 ∷ decimal d)))
 
-pub wrote-element : (d s : ℕ) {v : ℕ} {out out₁ out₂ out₃ out₄ out₅ : Bytes} {at p₁ p₂ p₃ p₄ p₅ : ℕ} → v ≡ s → Wrote 1 (ascii "E") out at out₁ p₁
-    → Wrote 11 (32 ∷ decimal d) out₁ p₁ out₂ p₂ → Wrote 1 (32 ∷ []) out₂ p₂ out₃ p₃ → Wrote 16 (hexadecimal 16 v) out₃ p₃ out₄ p₄
+pub wrote-element : (d s : ℕ) {out out₁ out₂ out₃ out₄ out₅ : Bytes} {at p₁ p₂ p₃ p₄ p₅ : ℕ} → Wrote 1 (ascii "E") out at out₁ p₁
+    → Wrote 11 (32 ∷ decimal d) out₁ p₁ out₂ p₂ → Wrote 1 (32 ∷ []) out₂ p₂ out₃ p₃ → Wrote (2 * setSize) (hexadecimal (2 * setSize) s) out₃ p₃ out₄ p₄
     → Wrote 1 (10 ∷ []) out₄ p₄ out₅ p₅
-    → Wrote 30 (elementLine d s) out at out₅ p₅
-wrote-element d s {v} e x number space set end =
-    wrote-as (wrote-then (wrote-then (wrote-then (wrote-then x number) space) set) end) (element-joined d v ∙ ap (elementLine d) e) (omega arith)
+    → Wrote elementMost (elementLine d s) out at out₅ p₅
+wrote-element d s x number space set end = wrote-as (wrote-then (wrote-then (wrote-then (wrote-then x number) space) set) end) (element-joined d s) (omega arith)
 
 pub wrote-link : (links : Bytes) (i : ℕ) {from role to : ℕ} {out out′ : Bytes} {at next : ℕ} → from ≡ linkAt links i .from → role ≡ linkAt links i .role
     → to ≡ linkAt links i .to → Wrote 35 (line (ascii "L") (from ∷ role ∷ to ∷ [])) out at out′ next → Wrote 35 (linkLine (linkAt links i)) out at out′ next
@@ -223,8 +228,8 @@ wrote-used n w = w
 
 pub wrote-can : (n : Numbers) (elements links : Bytes) {out out₁ out₂ out₃ out₄ : Bytes} {p₁ p₂ p₃ p₄ : ℕ}
     → Wrote 26 (line (ascii "CAN") (n .elements ∷ n .links ∷ [])) out 0 out₁ p₁ → Wrote 38 (usedLine n) out₁ p₁ out₂ p₂
-    → Wrote (30 * n .elements) (elementLines elements (n .elements)) out₂ p₂ out₃ p₃ → Wrote (35 * n .links) (linkLines links (n .links)) out₃ p₃ out₄ p₄
-    → Wrote (64 + 30 * n .elements + 35 * n .links) (canLines n elements links) out 0 out₄ p₄
+    → Wrote (elementMost * n .elements) (elementLines elements (n .elements)) out₂ p₂ out₃ p₃ → Wrote (35 * n .links) (linkLines links (n .links)) out₃ p₃ out₄ p₄
+    → Wrote (64 + elementMost * n .elements + 35 * n .links) (canLines n elements links) out 0 out₄ p₄
 unfolding canLines
 wrote-can n elements links head used es ls = wrote-then (wrote-then (wrote-then head used) es) ls
 

@@ -11,17 +11,16 @@ ghost use Rattle.words.specs.Words.{leAt};
 ghost use Rattle.evaluation.specs.Layout.{elementAt, linkAt};
 ghost use Rattle.run.specs.Printed as Printed;
 ghost use Rattle.answers.specs.Numbers.{numbersOf};
-ghost use Rattle.printing.specs.Printing.{Countable, Wrote, Prints};
+ghost use Rattle.printing.specs.Printing.{Countable, elementMost, Wrote, Prints};
 use answers::Answer;
 use answers::CAN;
 use answers::CANNOT;
 use answers::NO_ALTERNATIVE;
 use answers::NO_NODE;
 use answers::TOO_LONG;
+use inplace::SET_BYTES;
 
-// The bytes of an element and of a link.
-const ELEMENT: usize = 8;
-
+// The bytes of a link. An element is a set.
 const LINK: usize = 6;
 
 // Writes one byte.
@@ -56,16 +55,13 @@ fn decimal(out: &mut [u8], at: usize, n: u32) -> usize
     put(out, next, digit((n % 10) as u8))
 }
 
-// Writes the k lowest hexadecimal digits of a number, "highest first".
-fn hexadecimal(out: &mut [u8], at: usize, k: u32, v: u64) -> usize
-    requires { ⌜ Countable at k ⌝ }
-    ensures { λ r. ⌜ Wrote k (Printed.hexadecimal k v) (now (out .entry)) at (now (out .exit)) r ⌝ }
+// Writes the two hexadecimal digits of a byte.
+fn byte_digits(out: &mut [u8], at: usize, x: u8) -> usize
+    requires { ⌜ Countable at 2 ⌝ }
+    ensures { λ r. ⌜ Wrote 2 (Printed.hexadecimal 2 x) (now (out .entry)) at (now (out .exit)) r ⌝ }
 {
-    if k == 0 {
-        return at;
-    }
-    let next = hexadecimal(out, at, k - 1, v / 16);
-    put(out, next, digit((v % 16) as u8))
+    let next = put(out, at, digit(x / 16));
+    put(out, next, digit(x % 16))
 }
 
 // Writes a word.
@@ -146,34 +142,29 @@ fn half_of(area: &[u8], at: usize) -> u16
     wide(byte_of(area, at)) + wide(byte_of(area, at + 1)) * 256
 }
 
-// A number of 2 bytes as one of 8.
-fn whole(x: u16) -> u64
-    ensures { λ r. ⌜ (r ≡ x) × (r < 65536) ⌝ }
+// Writes the hexadecimal digits of the number in the n bytes from a place on, low byte first: two for each byte, "highest first".
+fn hexadecimal(out: &mut [u8], at: usize, area: &[u8], from: usize, n: usize) -> usize
+    requires { ⌜ Countable at (2 * n) × Countable from n ⌝ }
+    ensures { λ r. ⌜ Wrote (2 * n) (Printed.hexadecimal (2 * n) (leAt (now (area .entry)) from n)) (now (out .entry)) at (now (out .exit)) r ⌝ }
 {
-    x as u64
-}
-
-// The number in the 8 bytes from place `at` on, low byte first.
-fn word_of(area: &[u8], at: usize) -> u64
-    requires { ⌜ Countable at 8 ⌝ }
-    ensures { λ r. ⌜ r ≡ leAt (now (area .entry)) at 8 ⌝ }
-{
-    whole(half_of(area, at))
-        + whole(half_of(area, at + 2)) * 0x1_0000
-        + whole(half_of(area, at + 4)) * 0x1_0000_0000
-        + whole(half_of(area, at + 6)) * 0x1_0000_0000_0000
+    let mut next = at;
+    let mut i: usize = 0;
+    while i < n {
+        next = byte_digits(out, next, byte_of(area, from + (n - (i + 1))));
+        i += 1;
+    }
+    next
 }
 
 // Writes the line of element d: "E: element, set in 16 lower-case hexadecimal digits, highest first".
 fn element_line(out: &mut [u8], at: usize, elements: &[u8], d: u32) -> usize
-    requires { ⌜ Countable at 30 ⌝ }
-    ensures { λ r. ⌜ Wrote 30 (Printed.elementLine d (elementAt (now (elements .entry)) d)) (now (out .entry)) at (now (out .exit)) r ⌝ }
+    requires { ⌜ Countable at elementMost ⌝ }
+    ensures { λ r. ⌜ Wrote elementMost (Printed.elementLine d (elementAt (now (elements .entry)) d)) (now (out .entry)) at (now (out .exit)) r ⌝ }
 {
-    let set = word_of(elements, ELEMENT * (d as usize));
     let first = put(out, at, b'E');
     let second = number(out, first, d);
     let third = put(out, second, b' ');
-    let end = hexadecimal(out, third, 16, set);
+    let end = hexadecimal(out, third, elements, SET_BYTES * (d as usize), SET_BYTES);
     put(out, end, b'\n')
 }
 
@@ -191,8 +182,8 @@ fn link_line(out: &mut [u8], at: usize, links: &[u8], i: u32) -> usize
 
 // Writes the lines of the first `count` elements.
 fn element_lines(out: &mut [u8], at: usize, elements: &[u8], count: u32) -> usize
-    requires { ⌜ Countable at (30 * count) ⌝ }
-    ensures { λ r. ⌜ Wrote (30 * count) (Printed.elementLines (now (elements .entry)) count) (now (out .entry)) at (now (out .exit)) r ⌝ }
+    requires { ⌜ Countable at (elementMost * count) ⌝ }
+    ensures { λ r. ⌜ Wrote (elementMost * count) (Printed.elementLines (now (elements .entry)) count) (now (out .entry)) at (now (out .exit)) r ⌝ }
 {
     let mut next = at;
     let mut d = 0;
@@ -234,7 +225,7 @@ fn used_line(out: &mut [u8], at: usize, answer: Answer) -> usize
 
 // Writes what is printed with "can".
 fn can(answer: Answer, elements: &[u8], links: &[u8], out: &mut [u8]) -> usize
-    ensures { λ r. ⌜ Wrote (64 + 30 * answer .elements + 35 * answer .links)
+    ensures { λ r. ⌜ Wrote (64 + elementMost * answer .elements + 35 * answer .links)
         (Printed.canLines (numbersOf answer) (now (elements .entry)) (now (links .entry)))
         (now (out .entry)) 0 (now (out .exit)) r ⌝ }
 {

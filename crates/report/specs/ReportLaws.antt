@@ -1,7 +1,6 @@
 -- Laws of Report: from what the engine promises and what is printed to the report.
 --
 -- In order: the text; the room of an example; the report.
--- Assumes nothing.
 use mathlib.Core.Path.{_≡_, sym, ap, ap₂, subst, _∙_}
 use Prim.Native.Nat.{ℕ, _+_, _*_, _≤_}
 use native.Mathlib.Omega.{arith}
@@ -13,7 +12,8 @@ use Rattle.run.specs.Promise.{Promise}
 use Rattle.run.specs.Printed.{printed}
 use Rattle.run.specs.Program.{programAreas, programText}
 use Rattle.run.specs.ProgramLaws.{lengths-programAreas}
-use Rattle.printing.specs.Printing.{Prints}
+use Rattle.words.specs.Sizes.{setSize, linkSize}
+use Rattle.printing.specs.Printing.{elementMost, Prints}
 use Rattle.printing.specs.PrintingLaws.{prints-within, prints-size, prints-text, prints-rest}
 use Rattle.report.specs.Report.{Reports}
 
@@ -32,12 +32,12 @@ module _ {file : Bytes} {k : Numbers} {after : Areas} (P : Promise file programA
   -- ---- the report
 
   pub reported : {text text′ : Bytes} {count : ℕ} → Prints k (after .elements) (after .links) text text′ count
-      → 64 + 30 * 1024 + 35 * 8192 ≤ length text → Reports file text text′ count
+      → 64 + elementMost * 1024 + 35 * 8192 ≤ length text → Reports file text text′ count
   reported {text} {text′} {count} p room =
       record { within = omega (arith, has-room, prints-size p); printed = prints-text p has-room ∙ printed-programText; rest = prints-rest p has-room }
     where
       has-room : count ≤ length text
       has-room =
-          let elements : length (programAreas .elements) ≡ 8192 = ap (λ (l : Lengths). l .elements) lengths-programAreas in
-          let links : length (programAreas .links) ≡ 49152 = ap (λ (l : Lengths). l .links) lengths-programAreas in
+          let elements : length (programAreas .elements) ≡ 1024 * setSize = ap (λ (l : Lengths). l .elements) lengths-programAreas in
+          let links : length (programAreas .links) ≡ 8192 * linkSize = ap (λ (l : Lengths). l .links) lengths-programAreas in
           omega (arith, prints-within p (lengths programAreas) verdict-room)

@@ -2,21 +2,25 @@
 //
 // In order: the areas that are lent; the text area; the report.
 ghost use Rattle.report.specs.Report.{Reports};
+use evaluation::LINK_BYTES;
+use inplace::SET_BYTES;
+use records::ALTERNATIVE_BYTES;
+use records::EDGE_BYTES;
+use records::NODE_BYTES;
 
-// 1,024 nodes of 64 bytes, 4,096 edges of 16, 4,096 alternatives of 16.
-const NODES: usize = 65536;
+// How many records are lent of each area.
+const NODES: usize = 1024 * NODE_BYTES;
 
-const EDGES: usize = 65536;
+const EDGES: usize = 4096 * EDGE_BYTES;
 
-const ALTERNATIVES: usize = 65536;
+const ALTERNATIVES: usize = 4096 * ALTERNATIVE_BYTES;
 
-// 1,024 elements of 8 bytes, 8,192 links of 6.
-const ELEMENTS: usize = 8192;
+const ELEMENTS: usize = 1024 * SET_BYTES;
 
-const LINKS: usize = 49152;
+const LINKS: usize = 8192 * LINK_BYTES;
 
-// What the longest text needs: 64 bytes, 30 for each of 1,024 elements and 35 for each of 8,192 links, which makes 317,504.
-pub const TEXT: usize = 64 + 30 * 1024 + 35 * 8192;
+// What the longest text needs: 64 bytes, so many for each of 1,024 elements, two digits for each byte of a set among them, and 35 for each of 8,192 links.
+pub const TEXT: usize = 64 + (14 + 2 * SET_BYTES) * 1024 + 35 * 8192;
 
 // Lends the areas, has the engine answer the file, and writes what is printed into `text`: answers how many bytes that is. It always has room.
 pub fn report(file: &[u8], text: &mut [u8; TEXT]) -> usize
