@@ -1,5 +1,4 @@
 -- `records::clear` meets its contract: the invariant is that the first `i` bytes are zero and the others as they were.
--- Assumes nothing.
 use mathlib.Core.Path.{_≡_, refl, ap, _∙_}
 use mathlib.Core.List.{List, _++_, append-nil}
 use Prim.Native.Nat.{ℕ, _-_, _≤_}
