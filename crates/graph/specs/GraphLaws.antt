@@ -2,7 +2,6 @@
 --
 -- In order: counts and lengths (`Grown`, `Sized`); areas that hold a graph; looking at the graph; storing a node.
 -- Not here: a step that adds a record, which is in AddLaws; searches, and the records of a node, which are in SearchLaws.
--- Assumes nothing.
 use mathlib.Core.Path.{_≡_, refl, sym, ap, _∙_}
 use mathlib.Core.List.{List}
 use Prim.Native.Nat.{ℕ, _≤_, _<_}
@@ -10,10 +9,11 @@ use native.Mathlib.Omega.{arith}
 use lib.ListN.{length}
 use Rattle.procedure.specs.Graph as G
 use Rattle.words.specs.Sizes.{nodeSize, edgeSize, alternativeSize, mostRecords}
-use Rattle.records.specs.Areas.{Bytes, roomOf, Fits, recordsIn, Stored, Beside, Written}
+use Rattle.records.specs.Areas.{Bytes, roomOf, Fits, recordsIn, Stored, Beside}
 use Rattle.records.specs.AreaLaws.{length-records, getD-records, records-set, within-beside}
-use Rattle.records.specs.Records.{nodeIn, nodeExtent, edgeIn, edgeExtent, alternativeIn}
-use Rattle.graph.specs.Chains.{nodeChains, edgeChains, noRecords}
+use Rattle.records.specs.Layout.{nodeChains, edgeExtent, edgeChains}
+use Rattle.records.specs.Records.{nodeIn, NodeWritten, edgeIn, alternativeIn}
+use Rattle.graph.specs.Chains.{noRecords}
 use Rattle.graph.specs.ChainsLaws.{chained-none, chained-nodes, chained-edges}
 use Rattle.graph.specs.Graphs.{Work, work, graphOf, capacityOf, Held, Grown, Sized, ChangesNodes}
 use Rattle.graph.specs.declared.Counts.{Counts}
@@ -88,7 +88,7 @@ module _ {n n′ : Bytes} {x : ℕ} where
       (records-set nodeIn s (c .nodes) h)
 
   -- a node changed by what it was
-  pub graph-change : (f : G.Node → G.Node) → Written nodeIn nodeSize nodeExtent n n′ x (f (nodeIn n x)) → (c : Counts) → x < c .nodes
+  pub graph-change : (f : G.Node → G.Node) → NodeWritten n n′ x (f (nodeIn n x)) → (c : Counts) → x < c .nodes
       → ChangesNodes n n′ c (λ g. G.replaceNode x (f (G.nodeAt g x)) g)
   graph-change f s c l e a h =
       record {

@@ -1,5 +1,5 @@
--- Laws of Records: a record is made of the bytes of its extent, is kept where others are written, and storing its fields stores it.
-use mathlib.Core.Path.{_≡_, ap, _∙_}
+-- Laws of Records: the set of a record, a record is made of the bytes of its extent, is kept where others are written, and storing its fields stores it.
+use mathlib.Core.Path.{_≡_, refl, ap, _∙_}
 use mathlib.Core.Logic.{_⊎_, inl, inr}
 use mathlib.Core.List.{List, [], _∷_}
 use Prim.Native.Nat.{ℕ, _+_, _*_, _^_, _≤_, _<_}
@@ -24,9 +24,19 @@ use Rattle.records.specs.declared.Link.{Link}
 use Rattle.records.specs.declared.Node.{Node}
 use Rattle.records.specs.declared.Edge.{Edge}
 
+-- ---- the set of a record
+
+pub node-rows : (b : Bytes) (x : ℕ) → nodeIn b x .rows ≡ setOf b (nodeSize * x)
+unfolding nodeIn
+node-rows b x = refl
+
+pub alternative-rows : (b : Bytes) (i : ℕ) → alternativeIn b i .rows ≡ setOf b (alternativeSize * i)
+unfolding alternativeIn
+alternative-rows b i = refl
+
 -- ---- a record is made of the bytes of its extent
 
--- the set before all
+-- the set is before all
 set-first : (size : ℕ) (b : Bytes) (x : ℕ) → setOf b (size * x) ≡ field size b x 0 setSize
 set-first size b x = ap (λ (k : ℕ). leAt b k setSize) (omega arith)
 
