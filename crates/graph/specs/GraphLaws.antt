@@ -24,7 +24,11 @@ pub grown-refl : {c : Counts} → Grown c c
 grown-refl = record { nodes = omega arith; edges = omega arith; alternatives = omega arith }
 
 pub grown-trans : {c d b : Counts} → Grown c d → Grown d b → Grown c b
-grown-trans p q = record { nodes = omega (arith, p .nodes, q .nodes); edges = omega (arith, p .edges, q .edges); alternatives = omega (arith, p .alternatives, q .alternatives) }
+grown-trans p q = record {
+  nodes = omega (arith, p .nodes, q .nodes);
+  edges = omega (arith, p .edges, q .edges);
+  alternatives = omega (arith, p .alternatives, q .alternatives);
+}
 
 pub sized-refl : {w : Work} → Sized w w
 sized-refl = record { nodes = refl; edges = refl; alternatives = refl }
@@ -46,15 +50,22 @@ module _ {w : Work} {c : Counts} (h : Held w c) where
   pub held-most : (c .nodes ≤ mostRecords) × (c .edges ≤ mostRecords) × (c .alternatives ≤ mostRecords)
   held-most = (omega (arith, h .nodes), omega (arith, h .edges), omega (arith, h .alternatives))
 
-  pub held-room : (c .nodes ≤ roomOf nodeSize (w .nodes)) × (c .edges ≤ roomOf edgeSize (w .edges)) × (c .alternatives ≤ roomOf alternativeSize (w .alternatives))
+  pub held-room : (c .nodes ≤ roomOf nodeSize (w .nodes)) × (c .edges ≤ roomOf edgeSize (w .edges))
+      × (c .alternatives ≤ roomOf alternativeSize (w .alternatives))
   held-room = (h .nodes, h .edges, h .alternatives)
 
   -- what is written beside the chains keeps all: in nodes, and in edges
   pub held-nodes : {n′ : Bytes} {lo hi : ℕ} → Beside nodeSize lo hi (w .nodes) n′ → hi ≤ nodeChains → Held (work n′ (w .edges) (w .alternatives)) c
   held-nodes B s = record { nodes = omega (arith, h .nodes, B .long); edges = h .edges; alternatives = h .alternatives; chains = chained-nodes (h .chains) B s }
 
-  pub held-edges : {e′ : Bytes} {lo hi : ℕ} → Beside edgeSize lo hi (w .edges) e′ → edgeExtent ≤ lo → hi ≤ edgeChains → Held (work (w .nodes) e′ (w .alternatives)) c
-  held-edges B s t = record { nodes = h .nodes; edges = omega (arith, h .edges, B .long); alternatives = h .alternatives; chains = chained-edges (h .chains) B s t }
+  pub held-edges : {e′ : Bytes} {lo hi : ℕ} → Beside edgeSize lo hi (w .edges) e′ → edgeExtent ≤ lo → hi ≤ edgeChains
+      → Held (work (w .nodes) e′ (w .alternatives)) c
+  held-edges B s t = record {
+    nodes = h .nodes;
+    edges = omega (arith, h .edges, B .long);
+    alternatives = h .alternatives;
+    chains = chained-edges (h .chains) B s t;
+  }
 
   pub held-node : {x : ℕ} → x < c .nodes → Fits nodeSize (w .nodes) x
   held-node l = (omega (arith, h .nodes), omega (arith, h .nodes))
@@ -81,7 +92,8 @@ module _ (w : Work) (c : Counts) where
 -- ---- storing a node
 
 module _ {n n′ : Bytes} {x : ℕ} where
-  graph-store : {v : G.Node} → Stored nodeIn n n′ x v → (e a : Bytes) (c : Counts) → x < c .nodes → graphOf (work n′ e a) c ≡ G.replaceNode x v (graphOf (work n e a) c)
+  graph-store : {v : G.Node} → Stored nodeIn n n′ x v → (e a : Bytes) (c : Counts) → x < c .nodes
+      → graphOf (work n′ e a) c ≡ G.replaceNode x v (graphOf (work n e a) c)
   unfolding graphOf
   graph-store s e a c h =
       ap (λ (ns : List G.Node). record { nodes = ns; edges = recordsIn edgeIn e (c .edges); alternatives = recordsIn alternativeIn a (c .alternatives) })

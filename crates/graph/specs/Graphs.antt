@@ -49,7 +49,11 @@ graphOf w c =
     }
 
 abbrev pub capacityOf : Work → G.Capacity
-capacityOf w = record { nodeRoom = roomOf nodeSize (w .nodes); edgeRoom = roomOf edgeSize (w .edges); alternativeRoom = roomOf alternativeSize (w .alternatives) }
+capacityOf w = record {
+  nodeRoom = roomOf nodeSize (w .nodes);
+  edgeRoom = roomOf edgeSize (w .edges);
+  alternativeRoom = roomOf alternativeSize (w .alternatives);
+}
 
 -- the areas have the records that the counts count, and their chains
 pub record Held (w : Work) (c : Counts) : Type 0 where

@@ -26,7 +26,8 @@ use Rattle.chains.specs.Places.{keyIn, nextIn, firstIn, ChainIn}
 use Rattle.chains.specs.declared.Places.{Places}
 use Rattle.graph.specs.Chains.{childPlaces, parentPlaces, alternativePlaces}
 use Rattle.graph.specs.Graphs.{Work, work, graphOf, Held, Grown, isStateWith, childrenFrom, parentsFrom, alternativesFrom}
-use Rattle.graph.specs.Graphs.{noEdge, noAlternative, startOf, endOf, ownerOf, AmongChildren, AmongParents, AmongAlternatives, Walks, IsNext, IsNextAlternative, WithAlternatives, Owns}
+use Rattle.graph.specs.Graphs.{noEdge, noAlternative, AmongChildren, AmongParents, AmongAlternatives, Walks, IsNext, IsNextAlternative}
+use Rattle.graph.specs.Graphs.{WithAlternatives, Owns}
 use Rattle.graph.specs.GraphLaws.{grown-refl, count-nodes, count-edges, count-alternatives, graph-node}
 use Rattle.graph.specs.AddLaws.{picks-first, picks-second}
 use Rattle.graph.specs.declared.Counts.{Counts}
@@ -118,10 +119,12 @@ module _ (w w′ : Work) {c d : Counts} (grown : Grown c d) where
   unfolding graphOf
   edges-kept more q = records-kept edgeIn (w′ .edges) (c .edges) (d .edges) (graphOf w c .edges) more (count-edges w c) (grown .edges) q
 
-  pub alternatives-kept : (more : List G.Alternative) → graphOf w′ d .alternatives ≡ graphOf w c .alternatives ++ more → graphOf w′ c .alternatives ≡ graphOf w c .alternatives
+  pub alternatives-kept : (more : List G.Alternative) → graphOf w′ d .alternatives ≡ graphOf w c .alternatives ++ more
+      → graphOf w′ c .alternatives ≡ graphOf w c .alternatives
   unfolding graphOf
   alternatives-kept more q =
-      records-kept alternativeIn (w′ .alternatives) (c .alternatives) (d .alternatives) (graphOf w c .alternatives) more (count-alternatives w c) (grown .alternatives) q
+      records-kept alternativeIn (w′ .alternatives) (c .alternatives) (d .alternatives) (graphOf w c .alternatives) more
+      (count-alternatives w c) (grown .alternatives) q
 
 -- the parents of a node are by the edges alone, and the alternatives of a state by the alternatives
 module _ (g h : G.Graph) (x i : ℕ) where
@@ -141,7 +144,8 @@ module _ (g h : G.Graph) (x i : ℕ) where
 
 -- so what a step along a chain gives now, it gives of the graph of then
 module _ (g h : G.Graph) (x i count : ℕ) where
-  pub next-parent-same : h .edges ≡ g .edges → (v : Next) → IsNext v i count (parentsFrom h x) (AmongParents h x) → IsNext v i count (parentsFrom g x) (AmongParents g x)
+  pub next-parent-same : h .edges ≡ g .edges → (v : Next) → IsNext v i count (parentsFrom h x) (AmongParents h x)
+      → IsNext v i count (parentsFrom g x) (AmongParents g x)
   next-parent-same e (Node.At j y) (l, m, q, o) = (
     l,
     m,
@@ -151,7 +155,8 @@ module _ (g h : G.Graph) (x i count : ℕ) where
   next-parent-same e Node.End q = sym (parents-same g h x i e) ∙ q
 
   pub next-alternative-same : (a : Bytes) → h .alternatives ≡ g .alternatives → (v : NextAlternative)
-      → IsNextAlternative a v i count (alternativesFrom h x) (AmongAlternatives h x) → IsNextAlternative a v i count (alternativesFrom g x) (AmongAlternatives g x)
+      → IsNextAlternative a v i count (alternativesFrom h x) (AmongAlternatives h x)
+      → IsNextAlternative a v i count (alternativesFrom g x) (AmongAlternatives g x)
   next-alternative-same a e (Set.At j) (l, m, q, o) = (
     l,
     m,
@@ -163,7 +168,8 @@ module _ (g h : G.Graph) (x i count : ℕ) where
 -- ---- a step along a chain is what a search finds
 
 -- for any kind of record: they are read by `read`, belong to a node by `keyOf`, which stands at the key's place, and are worth `worth`
-module _ {A B : Type 0} (p : Places) (read : Bytes → ℕ → A) (keyOf : A → ℕ) (worth : A → B) (missing : A) (keyed : (b : Bytes) (j : ℕ) → keyOf (read b j) ≡ keyIn p b j) where
+module _ {A B : Type 0} (p : Places) (read : Bytes → ℕ → A) (keyOf : A → ℕ) (worth : A → B) (missing : A)
+    (keyed : (b : Bytes) (j : ℕ) → keyOf (read b j) ≡ keyIn p b j) where
   -- the key of record j, and what the records of x are worth, among the first `count` records
   abbrev keyAt : Bytes → ℕ → ℕ → ℕ
   keyAt b count j = keyOf (getD (recordsIn read b count) j missing)
@@ -183,7 +189,8 @@ module _ {A B : Type 0} (p : Places) (read : Bytes → ℕ → A) (keyOf : A →
     tests : (j : ℕ) → eqb (keyIn p b j) x ≡ eqb (keyOf (read b j)) x
     tests j = ap (λ (v : ℕ). eqb v x) (sym (keyed b j))
 
-    along-next : i < count → (from ≤ i) × (i < count) × (restFrom b count x from ≡ worth (read b i) ∷ restFrom b count x (i + 1)) × Behind (keyAt b count) x (i + 1)
+    along-next : i < count → (from ≤ i) × (i < count) × (restFrom b count x from ≡ worth (read b i) ∷ restFrom b count x (i + 1))
+        × Behind (keyAt b count) x (i + 1)
     along-next q =
         let f = first-found along (C .few) count few q in
         let e : suc i ≡ i + 1 = omega arith in (
@@ -210,21 +217,27 @@ module _ {n e a : Bytes} {c d : Counts} (H : Held (work n e a) d) (grown : Grown
       pub child-next : (y : ℕ) → y ≡ edgeIn e i .to → i < c .edges → IsNext (Node.At i y) from (c .edges) (childrenFrom g x) (AmongChildren g x)
       unfolding childrenFrom graphOf edgeIn
       child-next y q h =
-          rw q (along-next childPlaces edgeIn (λ (d : G.Edge). d .from) (λ (d : G.Edge). d .to) noEdge (λ b j. refl) n e (H .chains .children) there (grown .edges) (walks .place) o s h)
+          rw q (along-next childPlaces edgeIn (λ (d : G.Edge). d .from) (λ (d : G.Edge). d .to) noEdge (λ b j. refl) n e
+          (H .chains .children) there (grown .edges) (walks .place) o s h)
 
       pub child-end : c .edges ≤ i → IsNext Node.End from (c .edges) (childrenFrom g x) (AmongChildren g x)
       unfolding childrenFrom graphOf edgeIn
-      child-end h = along-end childPlaces edgeIn (λ (d : G.Edge). d .from) (λ (d : G.Edge). d .to) noEdge (λ b j. refl) n e (H .chains .children) there (grown .edges) (walks .place) o s h
+      child-end h =
+          along-end childPlaces edgeIn (λ (d : G.Edge). d .from) (λ (d : G.Edge). d .to) noEdge (λ b j. refl) n e
+          (H .chains .children) there (grown .edges) (walks .place) o s h
 
     module _ {i : ℕ} (o : AmongParents g x from) (s : i ≡ following (nextIn parentPlaces e) (firstIn parentPlaces n) x from) where
       pub parent-next : (y : ℕ) → y ≡ edgeIn e i .from → i < c .edges → IsNext (Node.At i y) from (c .edges) (parentsFrom g x) (AmongParents g x)
       unfolding parentsFrom graphOf edgeIn
       parent-next y q h =
-          rw q (along-next parentPlaces edgeIn (λ (d : G.Edge). d .to) (λ (d : G.Edge). d .from) noEdge (λ b j. refl) n e (H .chains .parents) there (grown .edges) (walks .place) o s h)
+          rw q (along-next parentPlaces edgeIn (λ (d : G.Edge). d .to) (λ (d : G.Edge). d .from) noEdge (λ b j. refl) n e
+          (H .chains .parents) there (grown .edges) (walks .place) o s h)
 
       pub parent-end : c .edges ≤ i → IsNext Node.End from (c .edges) (parentsFrom g x) (AmongParents g x)
       unfolding parentsFrom graphOf edgeIn
-      parent-end h = along-end parentPlaces edgeIn (λ (d : G.Edge). d .to) (λ (d : G.Edge). d .from) noEdge (λ b j. refl) n e (H .chains .parents) there (grown .edges) (walks .place) o s h
+      parent-end h =
+          along-end parentPlaces edgeIn (λ (d : G.Edge). d .to) (λ (d : G.Edge). d .from) noEdge (λ b j. refl) n e
+          (H .chains .parents) there (grown .edges) (walks .place) o s h
 
   module _ {x from i : ℕ} (walks : Walks alternativeSize n a (c .nodes) (c .alternatives) x from) (o : AmongAlternatives g x from)
       (s : i ≡ following (nextIn alternativePlaces a) (firstIn alternativePlaces n) x from) where
@@ -245,7 +258,8 @@ module _ {n e a : Bytes} {c d : Counts} (H : Held (work n e a) d) (grown : Grown
 
 -- ---- a search through the alternatives of a state
 
-any-chosen : {A B : Type 0} (pass : A → Bool) (worth : A → B) (test : B → Bool) (xs : List A) → any (λ d. pass d && test (worth d)) xs ≡ any test (chosenFrom pass worth xs 0)
+any-chosen : {A B : Type 0} (pass : A → Bool) (worth : A → B) (test : B → Bool) (xs : List A)
+    → any (λ d. pass d && test (worth d)) xs ≡ any test (chosenFrom pass worth xs 0)
 unfolding any chosenFrom select
 any-chosen pass worth test [] = refl
 any-chosen pass worth test (d ∷ xs) = by (pass d) refl (any-chosen pass worth test xs)
@@ -280,7 +294,8 @@ module _ {n a : Bytes} {c : Counts} {x : ℕ} {s : RowSet} {i : ℕ} (O : Owns n
   sought-walks = record { node = O .node; nodes = O .held .nodes; place = S .place; records = O .held .alternatives }
 
   module _ {r : NextAlternative}
-      (N : WithAlternatives n a c (λ g. AmongAlternatives g x i → IsNextAlternative a r i (c .alternatives) (alternativesFrom g x) (AmongAlternatives g x))) where
+      (N : WithAlternatives n a c (λ g. AmongAlternatives g x i
+      → IsNextAlternative a r i (c .alternatives) (alternativesFrom g x) (AmongAlternatives g x))) where
     -- the answer, whatever the edges
     answered : (v : NextAlternative) → r ≡ v → (e : Bytes)
         → let g = graphOf (work n e a) c in IsNextAlternative a v i (c .alternatives) (alternativesFrom g x) (AmongAlternatives g x)
@@ -305,4 +320,9 @@ module _ {n a : Bytes} {c : Counts} {x : ℕ} {s : RowSet} {i : ℕ} (O : Owns n
     pub sought-at : {j : ℕ} → r ≡ Set.At j → SoughtAt n a c x s i j
     sought-at {j} q =
         let (from, below, _, among) = answered (Set.At j) q [] in
-        record { from = from; below = below; here = by-first q true; more = λ t. record { place = omega (arith, below); among = among; left = by-first q false t } }
+        record {
+          from = from;
+          below = below;
+          here = by-first q true;
+          more = λ t. record { place = omega (arith, below); among = among; left = by-first q false t };
+        }

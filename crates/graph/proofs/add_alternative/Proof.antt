@@ -30,7 +30,8 @@ returns-3 c =
     let new : tie.Else1 = search in
     let s : tie.Start = search in
     let had = new .before .has-alternative .ensures in
-    add-alternative-full _ (s .args .owner) (setOf (s .args .s .now) 0) (λ e. sym (had e) ∙ new .if1 .left) (omega (arith, c .if2 .left, c .before .room .ensures))
+    add-alternative-full _ (s .args .owner) (setOf (s .args .s .now) 0) (λ e. sym (had e) ∙ new .if1 .left)
+    (omega (arith, c .if2 .left, c .before .room .ensures))
 
 append-requires : tie.Need-append-requires
 append-requires c κs =

@@ -1,5 +1,5 @@
 -- `graph::is_state_with` meets its contract: the flag and the set are those of the record.
-use mathlib.Core.Path.{_≡_, ap, _∙_}
+use mathlib.Core.Path.{ap, _∙_}
 use Prim.Native.Nat.{ℕ}
 use borrow.Author.Needs.{needs}
 use lib.Dec.{eqb}

@@ -32,7 +32,8 @@ returns c =
     let l = c .before .loop in
     let b : List ℕ = s .args .area .now in
     let e : l .i ≡ length b = omega (arith, c .loop-test .left, l .inv .0, l .inv .1) in
-    l .inv .2 ∙ ap (λ (k : ℕ). replicate k 0 ++ drop k b) e ∙ ap (λ (r : List ℕ). replicate (length b) 0 ++ r) (drop-length b) ∙ append-nil (replicate (length b) 0)
+    l .inv .2 ∙ ap (λ (k : ℕ). replicate k 0 ++ drop k b) e ∙ ap (λ (r : List ℕ). replicate (length b) 0 ++ r) (drop-length b)
+    ∙ append-nil (replicate (length b) 0)
 
 pub clear-spec : {M : Type 1} → statement M
 clear-spec =
