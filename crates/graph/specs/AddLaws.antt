@@ -1,7 +1,6 @@
 -- Laws of Graphs: a step that adds a record, with its place in the chains.
 --
 -- In order: a choice by a test; a node more; an edge more; an alternative more. Each has a law for a record that finds its place, and one for none.
--- Assumes nothing.
 use mathlib.Core.Path.{_≡_, refl, sym, ap, _∙_}
 use mathlib.Core.Bool.{Bool, true, false}
 use mathlib.Core.List.{List, [], _∷_}
@@ -15,12 +14,13 @@ use Rattle.concepts.specs.RowSet.{RowSet}
 use Rattle.concepts.specs.Tests.{impossible, by-test, from-true, from-false}
 use Rattle.procedure.specs.Graph as G
 use Rattle.words.specs.Sizes.{nodeSize, edgeSize, alternativeSize}
-use Rattle.records.specs.Areas.{Bytes, roomOf, recordsIn, Stored, Within, Written}
+use Rattle.records.specs.Areas.{Bytes, roomOf, recordsIn, Stored}
 use Rattle.records.specs.AreaLaws.{records-append, records-same, stored-then, within-beside, within-wider, within-then, beside-wider, beside-then}
-use Rattle.records.specs.Records.{nodeIn, nodeExtent, edgeIn, edgeExtent, alternativeIn, alternativeExtent}
+use Rattle.records.specs.Layout.{nodeChains, alternativesAt, nodeFree, edgeChains, edgeFree}
+use Rattle.records.specs.Records.{nodeIn, NodeWritten, edgeIn, EdgeWritten, alternativeOf, alternativeIn, AlternativeWritten}
 use Rattle.records.specs.RecordLaws.{node-beside, edge-beside, alternative-beside}
 use Rattle.chains.specs.Places.{Appended, Begun}
-use Rattle.graph.specs.Chains.{nodeChains, edgeChains, childPlaces, parentPlaces, alternativePlaces, moreNodes, moreEdges, moreAlternatives}
+use Rattle.graph.specs.Chains.{childPlaces, parentPlaces, alternativePlaces, moreNodes, moreEdges, moreAlternatives}
 use Rattle.graph.specs.ChainsLaws.{chained-node, chained-edge, chained-alternative}
 use Rattle.graph.specs.Graphs.{Work, work, graphOf, capacityOf, AddsNode, AddsEdge, AddsAlternative}
 use Rattle.graph.specs.GraphLaws.{grown-refl, sized-refl, count-nodes, count-edges, count-alternatives}
@@ -56,7 +56,8 @@ module _ (k : G.Capacity) (v : G.Node) (g : G.Graph) where
   ]
 
 -- where a node found its place, there is one more
-pub added-count : (w : Work) (c : Counts) (v : G.Node) (k : G.Capacity) (w′ : Work) (d : Counts) → G.reached (graphOf w′ d) ≡ G.addNode k v (graphOf w c) → d .nodes ≡ c .nodes + 1
+pub added-count : (w : Work) (c : Counts) (v : G.Node) (k : G.Capacity) (w′ : Work) (d : Counts)
+    → G.reached (graphOf w′ d) ≡ G.addNode k v (graphOf w c) → d .nodes ≡ c .nodes + 1
 added-count w c v k w′ d p =
     let q : G.nodeCount (graphOf w′ d) ≡ length (graphOf w c .nodes) + 1 =
     ap G.nodeCount (added-node k v (graphOf w c) (graphOf w′ d) p) ∙ length-append (graphOf w c .nodes) (v ∷ []) in
@@ -66,18 +67,21 @@ graph-append-node : {n n′ : Bytes} (c : Counts) (v : G.Node) → Stored nodeIn
     → graphOf (work n′ e a) (moreNodes c) ≡ G.appendNode v (graphOf (work n e a) c)
 unfolding graphOf
 graph-append-node c v s e a =
-    ap (λ (ns : List G.Node). record { nodes = ns; edges = recordsIn edgeIn e (c .edges); alternatives = recordsIn alternativeIn a (c .alternatives) }) (records-append nodeIn s)
+    ap (λ (ns : List G.Node). record { nodes = ns; edges = recordsIn edgeIn e (c .edges); alternatives = recordsIn alternativeIn a (c .alternatives) })
+    (records-append nodeIn s)
 
 module _ {n n′ : Bytes} (c : Counts) (v : G.Node) where
-  pub add-node-done : {n₂ n₃ n₄ : Bytes} → Written nodeIn nodeSize nodeExtent n n′ (c .nodes) v
+  pub add-node-done : {n₂ n₃ n₄ : Bytes} → NodeWritten n n′ (c .nodes) v
       → Begun childPlaces n′ n₂ (c .nodes) → Begun parentPlaces n₂ n₃ (c .nodes) → Begun alternativePlaces n₃ n₄ (c .nodes)
       → c .nodes < roomOf nodeSize n → AddsNode n n₄ c (Done (moreNodes c)) (λ k g. G.addNode k v g)
   add-node-done W X Y Z l e a h =
-      let B = within-beside (within-then (within-wider nodeChains 32 (omega arith) (omega arith) (X .within))
-      (within-then (within-wider nodeChains 32 (omega arith) (omega arith) (Y .within)) (within-wider nodeChains 32 (omega arith) (omega arith) (Z .within)))) in
+      let B = within-beside (within-then (within-wider nodeChains nodeFree (omega arith) (omega arith) (X .within))
+      (within-then (within-wider nodeChains nodeFree (omega arith) (omega arith) (Y .within))
+      (within-wider nodeChains nodeFree (omega arith) (omega arith) (Z .within)))) in
       let t = stored-then nodeIn (W .stored) (B .long) (node-beside (omega arith) B) in
       record {
-        meets = ap G.reached (graph-append-node c v t e a) ∙ sym (node-room (capacityOf (work n e a)) v (graphOf (work n e a) c) (omega (arith, count-nodes (work n e a) c)));
+        meets = ap G.reached (graph-append-node c v t e a)
+            ∙ sym (node-room (capacityOf (work n e a)) v (graphOf (work n e a) c) (omega (arith, count-nodes (work n e a) c)));
         held = (
           record { nodes = omega (arith, t .size); edges = h .edges; alternatives = h .alternatives; chains = chained-node (h .chains) (W .within) X Y Z },
           record { nodes = omega arith; edges = omega arith; alternatives = omega arith },
@@ -111,14 +115,16 @@ unfolding graphOf
 graph-append-edge n n′ c x y same s a = cc (records-same nodeIn same (c .nodes), records-append edgeIn s)
 
 module _ {n n₁ n₂ e e₁ e₂ e₃ : Bytes} (c : Counts) (x y : ℕ) where
-  pub add-edge-done : x < c .nodes → y < c .nodes → Written edgeIn edgeSize edgeExtent e e₁ (c .edges) (record { from = x; to = y })
+  pub add-edge-done : x < c .nodes → y < c .nodes → EdgeWritten e e₁ (c .edges) (record { from = x; to = y })
       → Appended childPlaces n n₁ e₁ e₂ (c .edges) x → Appended parentPlaces n₁ n₂ e₂ e₃ (c .edges) y
       → c .edges < roomOf edgeSize e → AddsEdge n n₂ e e₃ c (Done (moreEdges c)) (λ k g. G.addEdge k x y g)
   unfolding edgeIn
   add-edge-done hx hy W J K l a h =
-      let B = beside-then (beside-wider edgeChains 14 (omega arith) (omega arith) (J .area)) (beside-wider edgeChains 14 (omega arith) (omega arith) (K .area)) in
+      let B = beside-then (beside-wider edgeChains edgeFree (omega arith) (omega arith) (J .area))
+      (beside-wider edgeChains edgeFree (omega arith) (omega arith) (K .area)) in
       let t = stored-then edgeIn (W .stored) (B .long) (edge-beside (omega arith) B) in
-      let N = beside-then (beside-wider nodeChains 28 (omega arith) (omega arith) (within-beside (J .nodes))) (beside-wider nodeChains 28 (omega arith) (omega arith) (within-beside (K .nodes))) in
+      let N = beside-then (beside-wider nodeChains alternativesAt (omega arith) (omega arith) (within-beside (J .nodes)))
+      (beside-wider nodeChains alternativesAt (omega arith) (omega arith) (within-beside (K .nodes))) in
       record {
         meets = ap G.reached (graph-append-edge n n₂ c x y (node-beside (omega arith) N) t a)
             ∙ sym (edge-room (capacityOf (work n e a)) x y (graphOf (work n e a) c) (omega (arith, count-edges (work n e a) c)));
@@ -127,7 +133,8 @@ module _ {n n₁ n₂ e e₁ e₂ e₃ : Bytes} (c : Counts) (x y : ℕ) where
             nodes = omega (arith, h .nodes, N .long);
             edges = omega (arith, t .size);
             alternatives = h .alternatives;
-            chains = chained-edge (h .chains) hx hy (omega arith) (W .within) (ap (λ (d : G.Edge). d .from) (W .stored .here)) (ap (λ (d : G.Edge). d .to) (W .stored .here)) J K;
+            chains = chained-edge (h .chains) hx hy (omega arith) (W .within) (ap (λ (d : G.Edge). d .from) (W .stored .here))
+                (ap (λ (d : G.Edge). d .to) (W .stored .here)) J K;
           },
           record { nodes = omega arith; edges = omega arith; alternatives = omega arith },
         );
@@ -145,13 +152,17 @@ add-edge-full {n} {e} c x y l a h = record {
 
 module _ (k : G.Capacity) (x : ℕ) (s : RowSet) (g : G.Graph) where
   abbrev whereRoom : G.Result
-  whereRoom = elim (ltb (length (g .alternatives)) (k .alternativeRoom)) as (λ _. G.Result) [ true ↦ G.reached (G.appendAlternative x s g) | false ↦ G.noPlace G.alternativeArea ]
+  whereRoom = elim (ltb (length (g .alternatives)) (k .alternativeRoom)) as (λ _. G.Result) [
+    | true ↦ G.reached (G.appendAlternative x s g)
+    | false ↦ G.noPlace G.alternativeArea
+  ]
 
   alternative-known : G.hasAlternative x s g ≡ true → G.addAlternative k x s g ≡ G.reached g
   unfolding G.addAlternative
   alternative-known e = picks-first (G.reached g) whereRoom (G.hasAlternative x s g) e
 
-  alternative-room : G.hasAlternative x s g ≡ false → length (g .alternatives) < k .alternativeRoom → G.addAlternative k x s g ≡ G.reached (G.appendAlternative x s g)
+  alternative-room : G.hasAlternative x s g ≡ false → length (g .alternatives) < k .alternativeRoom
+      → G.addAlternative k x s g ≡ G.reached (G.appendAlternative x s g)
   unfolding G.addAlternative
   alternative-room e h =
       picks-second (G.reached g) whereRoom (G.hasAlternative x s g) e
@@ -164,14 +175,14 @@ module _ (k : G.Capacity) (x : ℕ) (s : RowSet) (g : G.Graph) where
       ∙ picks-second (G.reached (G.appendAlternative x s g)) (G.noPlace G.alternativeArea) (ltb (length (g .alternatives)) (k .alternativeRoom)) (le-ltb _ _ h)
 
 graph-append-alternative : (n n′ : Bytes) {a a′ : Bytes} (c : Counts) (x : ℕ) (s : RowSet) → ((z : ℕ) → nodeIn n′ z ≡ nodeIn n z)
-    → Stored alternativeIn a a′ (c .alternatives) (record { owner = x; rows = s }) → (e : Bytes)
+    → Stored alternativeIn a a′ (c .alternatives) (alternativeOf s x) → (e : Bytes)
     → graphOf (work n′ e a′) (moreAlternatives c) ≡ G.appendAlternative x s (graphOf (work n e a) c)
 unfolding graphOf
 graph-append-alternative n n′ c x s same t e = cc (records-same nodeIn same (c .nodes), records-append alternativeIn t)
 
 module _ {n n₁ a a₁ a₂ : Bytes} (c : Counts) (x : ℕ) (s : RowSet) where
   pub add-alternative-done : x < c .nodes → ((e : Bytes) → G.hasAlternative x s (graphOf (work n e a) c) ≡ false)
-      → Written alternativeIn alternativeSize alternativeExtent a a₁ (c .alternatives) (record { owner = x; rows = s })
+      → AlternativeWritten a a₁ (c .alternatives) (alternativeOf s x)
       → Appended alternativePlaces n n₁ a₁ a₂ (c .alternatives) x
       → c .alternatives < roomOf alternativeSize a → AddsAlternative n n₁ a a₂ c (Done (moreAlternatives c)) (λ k g. G.addAlternative k x s g)
   unfolding alternativeIn
@@ -194,7 +205,8 @@ module _ {n n₁ a a₁ a₂ : Bytes} (c : Counts) (x : ℕ) (s : RowSet) where
       }
 
 module _ {n a : Bytes} (c : Counts) (x : ℕ) (s : RowSet) where
-  pub add-alternative-known : ((e : Bytes) → G.hasAlternative x s (graphOf (work n e a) c) ≡ true) → AddsAlternative n n a a c (Done c) (λ k g. G.addAlternative k x s g)
+  pub add-alternative-known : ((e : Bytes) → G.hasAlternative x s (graphOf (work n e a) c) ≡ true)
+      → AddsAlternative n n a a c (Done c) (λ k g. G.addAlternative k x s g)
   add-alternative-known had e h =
       record {
         meets = sym (alternative-known (capacityOf (work n e a)) x s (graphOf (work n e a) c) (had e));

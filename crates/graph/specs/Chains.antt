@@ -1,27 +1,20 @@
 -- The three chains of the work areas: the edges from a node (its children), the edges to it (its parents), the alternatives of a state. Laws are in ChainsLaws.
--- Assumes nothing.
-use Prim.Native.Nat.{ℕ, _+_}
+use Prim.Native.Nat.{_+_}
 use Rattle.words.specs.Sizes.{edgeSize, alternativeSize}
 use Rattle.records.specs.Areas.{Bytes}
+use Rattle.records.specs.Layout.{childrenAt, parentsAt, alternativesAt, fromAt, toAt, nextChildAt, nextParentAt, ownerAt, nextAlternativeAt}
 use Rattle.chains.specs.Places.{ChainIn}
 use Rattle.chains.specs.declared.Places.{Places}
 use Rattle.graph.specs.declared.Counts.{Counts}
 
--- the first byte of a node's record, and of an edge's, that a chain uses
-abbrev pub nodeChains : ℕ
-nodeChains = 20
-
-abbrev pub edgeChains : ℕ
-edgeChains = 10
-
 abbrev pub childPlaces : Places
-childPlaces = record { size = edgeSize; key = 0; next = 10; first = 20 }
+childPlaces = record { size = edgeSize; key = fromAt; next = nextChildAt; first = childrenAt }
 
 abbrev pub parentPlaces : Places
-parentPlaces = record { size = edgeSize; key = 2; next = 12; first = 24 }
+parentPlaces = record { size = edgeSize; key = toAt; next = nextParentAt; first = parentsAt }
 
 abbrev pub alternativePlaces : Places
-alternativePlaces = record { size = alternativeSize; key = 8; next = 10; first = 28 }
+alternativePlaces = record { size = alternativeSize; key = ownerAt; next = nextAlternativeAt; first = alternativesAt }
 
 -- the areas n, e and a have the chains of their records
 pub record Chained (n e a : Bytes) (c : Counts) : Type 0 where

@@ -2,7 +2,6 @@
 --
 -- In order: counts and lengths (`Grown`, `Sized`); areas that hold a graph; looking at the graph; storing a node.
 -- Not here: a step that adds a record, which is in AddLaws; searches, and the records of a node, which are in SearchLaws.
--- Assumes nothing.
 use mathlib.Core.Path.{_≡_, refl, sym, ap, _∙_}
 use mathlib.Core.List.{List}
 use Prim.Native.Nat.{ℕ, _≤_, _<_}
@@ -10,10 +9,11 @@ use native.Mathlib.Omega.{arith}
 use lib.ListN.{length}
 use Rattle.procedure.specs.Graph as G
 use Rattle.words.specs.Sizes.{nodeSize, edgeSize, alternativeSize, mostRecords}
-use Rattle.records.specs.Areas.{Bytes, roomOf, Fits, recordsIn, Stored, Beside, Written}
+use Rattle.records.specs.Areas.{Bytes, roomOf, Fits, recordsIn, Stored, Beside}
 use Rattle.records.specs.AreaLaws.{length-records, getD-records, records-set, within-beside}
-use Rattle.records.specs.Records.{nodeIn, nodeExtent, edgeIn, edgeExtent, alternativeIn}
-use Rattle.graph.specs.Chains.{nodeChains, edgeChains, noRecords}
+use Rattle.records.specs.Layout.{nodeChains, edgeExtent, edgeChains}
+use Rattle.records.specs.Records.{nodeIn, NodeWritten, edgeIn, alternativeIn}
+use Rattle.graph.specs.Chains.{noRecords}
 use Rattle.graph.specs.ChainsLaws.{chained-none, chained-nodes, chained-edges}
 use Rattle.graph.specs.Graphs.{Work, work, graphOf, capacityOf, Held, Grown, Sized, ChangesNodes}
 use Rattle.graph.specs.declared.Counts.{Counts}
@@ -24,7 +24,11 @@ pub grown-refl : {c : Counts} → Grown c c
 grown-refl = record { nodes = omega arith; edges = omega arith; alternatives = omega arith }
 
 pub grown-trans : {c d b : Counts} → Grown c d → Grown d b → Grown c b
-grown-trans p q = record { nodes = omega (arith, p .nodes, q .nodes); edges = omega (arith, p .edges, q .edges); alternatives = omega (arith, p .alternatives, q .alternatives) }
+grown-trans p q = record {
+  nodes = omega (arith, p .nodes, q .nodes);
+  edges = omega (arith, p .edges, q .edges);
+  alternatives = omega (arith, p .alternatives, q .alternatives);
+}
 
 pub sized-refl : {w : Work} → Sized w w
 sized-refl = record { nodes = refl; edges = refl; alternatives = refl }
@@ -46,15 +50,22 @@ module _ {w : Work} {c : Counts} (h : Held w c) where
   pub held-most : (c .nodes ≤ mostRecords) × (c .edges ≤ mostRecords) × (c .alternatives ≤ mostRecords)
   held-most = (omega (arith, h .nodes), omega (arith, h .edges), omega (arith, h .alternatives))
 
-  pub held-room : (c .nodes ≤ roomOf nodeSize (w .nodes)) × (c .edges ≤ roomOf edgeSize (w .edges)) × (c .alternatives ≤ roomOf alternativeSize (w .alternatives))
+  pub held-room : (c .nodes ≤ roomOf nodeSize (w .nodes)) × (c .edges ≤ roomOf edgeSize (w .edges))
+      × (c .alternatives ≤ roomOf alternativeSize (w .alternatives))
   held-room = (h .nodes, h .edges, h .alternatives)
 
   -- what is written beside the chains keeps all: in nodes, and in edges
   pub held-nodes : {n′ : Bytes} {lo hi : ℕ} → Beside nodeSize lo hi (w .nodes) n′ → hi ≤ nodeChains → Held (work n′ (w .edges) (w .alternatives)) c
   held-nodes B s = record { nodes = omega (arith, h .nodes, B .long); edges = h .edges; alternatives = h .alternatives; chains = chained-nodes (h .chains) B s }
 
-  pub held-edges : {e′ : Bytes} {lo hi : ℕ} → Beside edgeSize lo hi (w .edges) e′ → edgeExtent ≤ lo → hi ≤ edgeChains → Held (work (w .nodes) e′ (w .alternatives)) c
-  held-edges B s t = record { nodes = h .nodes; edges = omega (arith, h .edges, B .long); alternatives = h .alternatives; chains = chained-edges (h .chains) B s t }
+  pub held-edges : {e′ : Bytes} {lo hi : ℕ} → Beside edgeSize lo hi (w .edges) e′ → edgeExtent ≤ lo → hi ≤ edgeChains
+      → Held (work (w .nodes) e′ (w .alternatives)) c
+  held-edges B s t = record {
+    nodes = h .nodes;
+    edges = omega (arith, h .edges, B .long);
+    alternatives = h .alternatives;
+    chains = chained-edges (h .chains) B s t;
+  }
 
   pub held-node : {x : ℕ} → x < c .nodes → Fits nodeSize (w .nodes) x
   held-node l = (omega (arith, h .nodes), omega (arith, h .nodes))
@@ -81,14 +92,15 @@ module _ (w : Work) (c : Counts) where
 -- ---- storing a node
 
 module _ {n n′ : Bytes} {x : ℕ} where
-  graph-store : {v : G.Node} → Stored nodeIn n n′ x v → (e a : Bytes) (c : Counts) → x < c .nodes → graphOf (work n′ e a) c ≡ G.replaceNode x v (graphOf (work n e a) c)
+  graph-store : {v : G.Node} → Stored nodeIn n n′ x v → (e a : Bytes) (c : Counts) → x < c .nodes
+      → graphOf (work n′ e a) c ≡ G.replaceNode x v (graphOf (work n e a) c)
   unfolding graphOf
   graph-store s e a c h =
       ap (λ (ns : List G.Node). record { nodes = ns; edges = recordsIn edgeIn e (c .edges); alternatives = recordsIn alternativeIn a (c .alternatives) })
       (records-set nodeIn s (c .nodes) h)
 
   -- a node changed by what it was
-  pub graph-change : (f : G.Node → G.Node) → Written nodeIn nodeSize nodeExtent n n′ x (f (nodeIn n x)) → (c : Counts) → x < c .nodes
+  pub graph-change : (f : G.Node → G.Node) → NodeWritten n n′ x (f (nodeIn n x)) → (c : Counts) → x < c .nodes
       → ChangesNodes n n′ c (λ g. G.replaceNode x (f (G.nodeAt g x)) g)
   graph-change f s c l e a h =
       record {

@@ -1,19 +1,18 @@
 -- The graph that the work areas hold, and how code on the areas refines a definition on the graph. Laws are in GraphLaws, AddLaws, SearchLaws and RefineLaws.
 --
 -- In order: the work areas; refinement (`Refines`, `Changes`); some areas, whatever the others hold; searches; the records of a node, from a place on.
--- Assumes nothing.
 use mathlib.Core.Path.{_≡_}
 use mathlib.Core.Bool.{Bool, _&&_}
 use mathlib.Core.List.{List, [], _∷_}
 use mathlib.Core.Option.{Option, none, some}
-use Prim.Native.Nat.{ℕ, _+_, _≤_, _<_}
+use Prim.Native.Nat.{ℕ, _+_, _*_, _≤_, _<_}
 use lib.Dec.{eqb, ltb}
 use lib.ListN.{length, getD}
 use Rattle.concepts.specs.Lists.{NoneBelow}
 use Rattle.concepts.specs.RowSet.{RowSet, empty}
 use Rattle.procedure.specs.Graph as G
 use Rattle.words.specs.Sizes.{nodeSize, edgeSize, alternativeSize}
-use Rattle.rowset.specs.Value.{valueOf}
+use Rattle.inplace.specs.Widths.{setOf}
 use Rattle.records.specs.Areas.{Bytes, roomOf, recordsIn, chosenFrom}
 use Rattle.records.specs.Records.{nodeIn, edgeIn, alternativeIn}
 use Rattle.chains.specs.Chain.{Behind}
@@ -50,7 +49,11 @@ graphOf w c =
     }
 
 abbrev pub capacityOf : Work → G.Capacity
-capacityOf w = record { nodeRoom = roomOf nodeSize (w .nodes); edgeRoom = roomOf edgeSize (w .edges); alternativeRoom = roomOf alternativeSize (w .alternatives) }
+capacityOf w = record {
+  nodeRoom = roomOf nodeSize (w .nodes);
+  edgeRoom = roomOf edgeSize (w .edges);
+  alternativeRoom = roomOf alternativeSize (w .alternatives);
+}
 
 -- the areas have the records that the counts count, and their chains
 pub record Held (w : Work) (c : Counts) : Type 0 where
@@ -136,6 +139,10 @@ pub record Owns (n a : Bytes) (c : Counts) (x : ℕ) : Type 0 where
   pub held : Held (work n edges a) c
   pub node : x < c .nodes
 
+-- r says whether state x of these nodes and alternatives has the set s among them, whatever the edges
+abbrev pub TellsAlternative : Bytes → Bytes → Counts → ℕ → RowSet → Bool → Type 0
+TellsAlternative n a c x s r = (e : Bytes) → r ≡ G.hasAlternative x s (graphOf (work n e a) c)
+
 -- ---- searches
 
 -- node x of an area is a state with the set s, and not the root
@@ -201,6 +208,7 @@ abbrev pub IsNext : Next → ℕ → ℕ → (ℕ → List ℕ) → (ℕ → Typ
 IsNext (Node.At i y) from n rest among = (from ≤ i) × (i < n) × (rest from ≡ y ∷ rest (i + 1)) × among (i + 1)
 IsNext Node.End from n rest among = rest from ≡ []
 
-abbrev pub IsNextAlternative : NextAlternative → ℕ → ℕ → (ℕ → List RowSet) → (ℕ → Type 0) → Type 0
-IsNextAlternative (Set.At i s) from n rest among = (from ≤ i) × (i < n) × (rest from ≡ valueOf s ∷ rest (i + 1)) × among (i + 1)
-IsNextAlternative Set.End from n rest among = rest from ≡ []
+-- the same of a set, which is that of a record of a
+abbrev pub IsNextAlternative : Bytes → NextAlternative → ℕ → ℕ → (ℕ → List RowSet) → (ℕ → Type 0) → Type 0
+IsNextAlternative a (Set.At i) from n rest among = (from ≤ i) × (i < n) × (rest from ≡ setOf a (alternativeSize * i) ∷ rest (i + 1)) × among (i + 1)
+IsNextAlternative a Set.End from n rest among = rest from ≡ []

@@ -1,12 +1,11 @@
 -- Laws of Graphs: what a search through an area finds in the graph that it holds.
 --
 -- In order: searches for a node; the records of a node, from a place on; a step along a chain; a search through the alternatives of a state.
--- Assumes nothing.
 use mathlib.Core.Path.{_≡_, refl, sym, ap, subst, _∙_}
 use mathlib.Core.Bool.{Bool, true, false, _&&_, _||_}
 use mathlib.Core.List.{List, [], _∷_, _++_}
 use mathlib.Core.Option.{Option, none, some}
-use Prim.Native.Nat.{ℕ, suc, _+_, _≤_, _<_}
+use Prim.Native.Nat.{ℕ, suc, _+_, _*_, _≤_, _<_}
 use native.Mathlib.Omega.{arith}
 use lib.Dec.{eqb, ltb}
 use lib.ListN.{getD}
@@ -15,20 +14,20 @@ use Rattle.concepts.specs.ListLaws.{getD-range, length-range, first-at, first-n
 use Rattle.concepts.specs.RowSet.{RowSet}
 use Rattle.procedure.specs.Status.{isUnset}
 use Rattle.procedure.specs.Graph as G
-use Rattle.words.specs.Sizes.{edgeSize, alternativeSize}
+use Rattle.words.specs.Sizes.{nodeSize, edgeSize, alternativeSize}
 use Rattle.records.specs.Areas.{Bytes, recordsIn, chosenFrom}
 use Rattle.records.specs.AreaLaws.{getD-records, records-kept, chosen-found, chosen-end}
-use Rattle.rowset.specs.Value.{valueOf}
-use Rattle.rowset.specs.declared.RowSet as Rows
-use Rattle.records.specs.Records.{nodeOf, nodeIn, isUnsetAt, edgeIn, alternativeIn}
-use Rattle.records.specs.declared.Node as D
+use Rattle.inplace.specs.Widths.{setOf}
+use Rattle.records.specs.Records.{nodeIn, isUnsetAt, edgeIn, alternativeIn}
+use Rattle.records.specs.RecordLaws.{node-rows}
 use Rattle.chains.specs.Chain.{First, Behind, following}
 use Rattle.chains.specs.ChainLaws.{chain-follows, first-found, first-end, behind-same}
 use Rattle.chains.specs.Places.{keyIn, nextIn, firstIn, ChainIn}
 use Rattle.chains.specs.declared.Places.{Places}
 use Rattle.graph.specs.Chains.{childPlaces, parentPlaces, alternativePlaces}
 use Rattle.graph.specs.Graphs.{Work, work, graphOf, Held, Grown, isStateWith, childrenFrom, parentsFrom, alternativesFrom}
-use Rattle.graph.specs.Graphs.{noEdge, noAlternative, startOf, endOf, ownerOf, AmongChildren, AmongParents, AmongAlternatives, Walks, IsNext, IsNextAlternative, WithAlternatives, Owns}
+use Rattle.graph.specs.Graphs.{noEdge, noAlternative, AmongChildren, AmongParents, AmongAlternatives, Walks, IsNext, IsNextAlternative}
+use Rattle.graph.specs.Graphs.{WithAlternatives, Owns}
 use Rattle.graph.specs.GraphLaws.{grown-refl, count-nodes, count-edges, count-alternatives, graph-node}
 use Rattle.graph.specs.AddLaws.{picks-first, picks-second}
 use Rattle.graph.specs.declared.Counts.{Counts}
@@ -39,12 +38,11 @@ use Rattle.graph.specs.declared.NextAlternative.the-variants as Set
 
 -- ---- searches for a node
 
--- the test of a node that was read, where b says whether the sets are the same
-pub state-is : (v : D.Node) (n : Bytes) (x : ℕ) (s : RowSet) {b : Bool} → nodeOf v ≡ nodeIn n x → b ≡ eqb (valueOf (v .rows)) s
-    → (ltb 0 x && (v .«is_state» && b)) ≡ isStateWith n s x
+-- the test of a node by its flag and its set
+pub state-is : (n : Bytes) (x : ℕ) (s : RowSet) {a b : Bool} → a ≡ nodeIn n x .isState → b ≡ eqb (setOf n (nodeSize * x)) s
+    → (ltb 0 x && (a && b)) ≡ isStateWith n s x
 unfolding isStateWith
-state-is v n x s read same =
-    ap (λ (t : Bool). ltb 0 x && (v .«is_state» && t)) same ∙ ap (λ (w : G.Node). ltb 0 x && (w .isState && eqb (w .rows) s)) read
+state-is n x s flag same = let rows = node-rows n x in cc
 
 -- what `lowest` asks of a node
 abbrev answer : (ℕ → Bool) → ℕ → Option ℕ
@@ -121,10 +119,12 @@ module _ (w w′ : Work) {c d : Counts} (grown : Grown c d) where
   unfolding graphOf
   edges-kept more q = records-kept edgeIn (w′ .edges) (c .edges) (d .edges) (graphOf w c .edges) more (count-edges w c) (grown .edges) q
 
-  pub alternatives-kept : (more : List G.Alternative) → graphOf w′ d .alternatives ≡ graphOf w c .alternatives ++ more → graphOf w′ c .alternatives ≡ graphOf w c .alternatives
+  pub alternatives-kept : (more : List G.Alternative) → graphOf w′ d .alternatives ≡ graphOf w c .alternatives ++ more
+      → graphOf w′ c .alternatives ≡ graphOf w c .alternatives
   unfolding graphOf
   alternatives-kept more q =
-      records-kept alternativeIn (w′ .alternatives) (c .alternatives) (d .alternatives) (graphOf w c .alternatives) more (count-alternatives w c) (grown .alternatives) q
+      records-kept alternativeIn (w′ .alternatives) (c .alternatives) (d .alternatives) (graphOf w c .alternatives) more
+      (count-alternatives w c) (grown .alternatives) q
 
 -- the parents of a node are by the edges alone, and the alternatives of a state by the alternatives
 module _ (g h : G.Graph) (x i : ℕ) where
@@ -144,7 +144,8 @@ module _ (g h : G.Graph) (x i : ℕ) where
 
 -- so what a step along a chain gives now, it gives of the graph of then
 module _ (g h : G.Graph) (x i count : ℕ) where
-  pub next-parent-same : h .edges ≡ g .edges → (v : Next) → IsNext v i count (parentsFrom h x) (AmongParents h x) → IsNext v i count (parentsFrom g x) (AmongParents g x)
+  pub next-parent-same : h .edges ≡ g .edges → (v : Next) → IsNext v i count (parentsFrom h x) (AmongParents h x)
+      → IsNext v i count (parentsFrom g x) (AmongParents g x)
   next-parent-same e (Node.At j y) (l, m, q, o) = (
     l,
     m,
@@ -153,20 +154,22 @@ module _ (g h : G.Graph) (x i count : ℕ) where
   )
   next-parent-same e Node.End q = sym (parents-same g h x i e) ∙ q
 
-  pub next-alternative-same : h .alternatives ≡ g .alternatives → (v : NextAlternative)
-      → IsNextAlternative v i count (alternativesFrom h x) (AmongAlternatives h x) → IsNextAlternative v i count (alternativesFrom g x) (AmongAlternatives g x)
-  next-alternative-same e (Set.At j s) (l, m, q, o) = (
+  pub next-alternative-same : (a : Bytes) → h .alternatives ≡ g .alternatives → (v : NextAlternative)
+      → IsNextAlternative a v i count (alternativesFrom h x) (AmongAlternatives h x)
+      → IsNextAlternative a v i count (alternativesFrom g x) (AmongAlternatives g x)
+  next-alternative-same a e (Set.At j) (l, m, q, o) = (
     l,
     m,
-    sym (alternatives-same g h x i e) ∙ q ∙ ap (λ (z : List RowSet). valueOf s ∷ z) (alternatives-same g h x (j + 1) e),
+    sym (alternatives-same g h x i e) ∙ q ∙ ap (λ (z : List RowSet). setOf a (alternativeSize * j) ∷ z) (alternatives-same g h x (j + 1) e),
     among-alternatives-same g h x (j + 1) e o,
   )
-  next-alternative-same e Set.End q = sym (alternatives-same g h x i e) ∙ q
+  next-alternative-same a e Set.End q = sym (alternatives-same g h x i e) ∙ q
 
 -- ---- a step along a chain is what a search finds
 
 -- for any kind of record: they are read by `read`, belong to a node by `keyOf`, which stands at the key's place, and are worth `worth`
-module _ {A B : Type 0} (p : Places) (read : Bytes → ℕ → A) (keyOf : A → ℕ) (worth : A → B) (missing : A) (keyed : (b : Bytes) (j : ℕ) → keyOf (read b j) ≡ keyIn p b j) where
+module _ {A B : Type 0} (p : Places) (read : Bytes → ℕ → A) (keyOf : A → ℕ) (worth : A → B) (missing : A)
+    (keyed : (b : Bytes) (j : ℕ) → keyOf (read b j) ≡ keyIn p b j) where
   -- the key of record j, and what the records of x are worth, among the first `count` records
   abbrev keyAt : Bytes → ℕ → ℕ → ℕ
   keyAt b count j = keyOf (getD (recordsIn read b count) j missing)
@@ -186,7 +189,8 @@ module _ {A B : Type 0} (p : Places) (read : Bytes → ℕ → A) (keyOf : A →
     tests : (j : ℕ) → eqb (keyIn p b j) x ≡ eqb (keyOf (read b j)) x
     tests j = ap (λ (v : ℕ). eqb v x) (sym (keyed b j))
 
-    along-next : i < count → (from ≤ i) × (i < count) × (restFrom b count x from ≡ worth (read b i) ∷ restFrom b count x (i + 1)) × Behind (keyAt b count) x (i + 1)
+    along-next : i < count → (from ≤ i) × (i < count) × (restFrom b count x from ≡ worth (read b i) ∷ restFrom b count x (i + 1))
+        × Behind (keyAt b count) x (i + 1)
     along-next q =
         let f = first-found along (C .few) count few q in
         let e : suc i ≡ i + 1 = omega arith in (
@@ -213,35 +217,40 @@ module _ {n e a : Bytes} {c d : Counts} (H : Held (work n e a) d) (grown : Grown
       pub child-next : (y : ℕ) → y ≡ edgeIn e i .to → i < c .edges → IsNext (Node.At i y) from (c .edges) (childrenFrom g x) (AmongChildren g x)
       unfolding childrenFrom graphOf edgeIn
       child-next y q h =
-          rw q (along-next childPlaces edgeIn (λ (d : G.Edge). d .from) (λ (d : G.Edge). d .to) noEdge (λ b j. refl) n e (H .chains .children) there (grown .edges) (walks .place) o s h)
+          rw q (along-next childPlaces edgeIn (λ (d : G.Edge). d .from) (λ (d : G.Edge). d .to) noEdge (λ b j. refl) n e
+          (H .chains .children) there (grown .edges) (walks .place) o s h)
 
       pub child-end : c .edges ≤ i → IsNext Node.End from (c .edges) (childrenFrom g x) (AmongChildren g x)
       unfolding childrenFrom graphOf edgeIn
-      child-end h = along-end childPlaces edgeIn (λ (d : G.Edge). d .from) (λ (d : G.Edge). d .to) noEdge (λ b j. refl) n e (H .chains .children) there (grown .edges) (walks .place) o s h
+      child-end h =
+          along-end childPlaces edgeIn (λ (d : G.Edge). d .from) (λ (d : G.Edge). d .to) noEdge (λ b j. refl) n e
+          (H .chains .children) there (grown .edges) (walks .place) o s h
 
     module _ {i : ℕ} (o : AmongParents g x from) (s : i ≡ following (nextIn parentPlaces e) (firstIn parentPlaces n) x from) where
       pub parent-next : (y : ℕ) → y ≡ edgeIn e i .from → i < c .edges → IsNext (Node.At i y) from (c .edges) (parentsFrom g x) (AmongParents g x)
       unfolding parentsFrom graphOf edgeIn
       parent-next y q h =
-          rw q (along-next parentPlaces edgeIn (λ (d : G.Edge). d .to) (λ (d : G.Edge). d .from) noEdge (λ b j. refl) n e (H .chains .parents) there (grown .edges) (walks .place) o s h)
+          rw q (along-next parentPlaces edgeIn (λ (d : G.Edge). d .to) (λ (d : G.Edge). d .from) noEdge (λ b j. refl) n e
+          (H .chains .parents) there (grown .edges) (walks .place) o s h)
 
       pub parent-end : c .edges ≤ i → IsNext Node.End from (c .edges) (parentsFrom g x) (AmongParents g x)
       unfolding parentsFrom graphOf edgeIn
-      parent-end h = along-end parentPlaces edgeIn (λ (d : G.Edge). d .to) (λ (d : G.Edge). d .from) noEdge (λ b j. refl) n e (H .chains .parents) there (grown .edges) (walks .place) o s h
+      parent-end h =
+          along-end parentPlaces edgeIn (λ (d : G.Edge). d .to) (λ (d : G.Edge). d .from) noEdge (λ b j. refl) n e
+          (H .chains .parents) there (grown .edges) (walks .place) o s h
 
   module _ {x from i : ℕ} (walks : Walks alternativeSize n a (c .nodes) (c .alternatives) x from) (o : AmongAlternatives g x from)
       (s : i ≡ following (nextIn alternativePlaces a) (firstIn alternativePlaces n) x from) where
     state-there : x < d .nodes
     state-there = omega (arith, walks .node, grown .nodes)
 
-    pub alternative-next : (v : Rows.RowSet) → valueOf v ≡ alternativeIn a i .rows → i < c .alternatives
-        → IsNextAlternative (Set.At i v) from (c .alternatives) (alternativesFrom g x) (AmongAlternatives g x)
+    pub alternative-next : i < c .alternatives → IsNextAlternative a (Set.At i) from (c .alternatives) (alternativesFrom g x) (AmongAlternatives g x)
     unfolding alternativesFrom graphOf alternativeIn
-    alternative-next v q h =
-        rw q (along-next alternativePlaces alternativeIn (λ (d : G.Alternative). d .owner) (λ (d : G.Alternative). d .rows) noAlternative (λ b j. refl) n a
-        (H .chains .alternatives) state-there (grown .alternatives) (walks .place) o s h)
+    alternative-next h =
+        along-next alternativePlaces alternativeIn (λ (d : G.Alternative). d .owner) (λ (d : G.Alternative). d .rows) noAlternative (λ b j. refl) n a
+        (H .chains .alternatives) state-there (grown .alternatives) (walks .place) o s h
 
-    pub alternative-end : c .alternatives ≤ i → IsNextAlternative Set.End from (c .alternatives) (alternativesFrom g x) (AmongAlternatives g x)
+    pub alternative-end : c .alternatives ≤ i → IsNextAlternative a Set.End from (c .alternatives) (alternativesFrom g x) (AmongAlternatives g x)
     unfolding alternativesFrom graphOf alternativeIn
     alternative-end h =
         along-end alternativePlaces alternativeIn (λ (d : G.Alternative). d .owner) (λ (d : G.Alternative). d .rows) noAlternative (λ b j. refl) n a
@@ -249,7 +258,8 @@ module _ {n e a : Bytes} {c d : Counts} (H : Held (work n e a) d) (grown : Grown
 
 -- ---- a search through the alternatives of a state
 
-any-chosen : {A B : Type 0} (pass : A → Bool) (worth : A → B) (test : B → Bool) (xs : List A) → any (λ d. pass d && test (worth d)) xs ≡ any test (chosenFrom pass worth xs 0)
+any-chosen : {A B : Type 0} (pass : A → Bool) (worth : A → B) (test : B → Bool) (xs : List A)
+    → any (λ d. pass d && test (worth d)) xs ≡ any test (chosenFrom pass worth xs 0)
 unfolding any chosenFrom select
 any-chosen pass worth test [] = refl
 any-chosen pass worth test (d ∷ xs) = by (pass d) refl (any-chosen pass worth test xs)
@@ -269,6 +279,13 @@ pub record Sought (n a : Bytes) (c : Counts) (x : ℕ) (s : RowSet) (i : ℕ) : 
   pub among : AmongAlternatives (graphOf (work n [] a) c) x i
   pub left : (e : Bytes) → any (λ v. eqb v s) (alternativesFrom (graphOf (work n e a) c) x i) ≡ G.hasAlternative x s (graphOf (work n e a) c)
 
+-- what the search from place i on learns at alternative j, the next one
+pub record SoughtAt (n a : Bytes) (c : Counts) (x : ℕ) (s : RowSet) (i j : ℕ) : Type 0 where
+  pub from : i ≤ j
+  pub below : j < c .alternatives
+  pub here : eqb (setOf a (alternativeSize * j)) s ≡ true → (e : Bytes) → true ≡ G.hasAlternative x s (graphOf (work n e a) c)
+  pub more : eqb (setOf a (alternativeSize * j)) s ≡ false → Sought n a c x s (j + 1)
+
 pub sought-start : (n a : Bytes) (c : Counts) (x : ℕ) (s : RowSet) → Sought n a c x s 0
 sought-start n a c x s = record { place = omega arith; among = tt; left = λ e. sym (has-among x s (graphOf (work n e a) c)) }
 
@@ -277,37 +294,35 @@ module _ {n a : Bytes} {c : Counts} {x : ℕ} {s : RowSet} {i : ℕ} (O : Owns n
   sought-walks = record { node = O .node; nodes = O .held .nodes; place = S .place; records = O .held .alternatives }
 
   module _ {r : NextAlternative}
-      (N : WithAlternatives n a c (λ g. AmongAlternatives g x i → IsNextAlternative r i (c .alternatives) (alternativesFrom g x) (AmongAlternatives g x))) where
+      (N : WithAlternatives n a c (λ g. AmongAlternatives g x i
+      → IsNextAlternative a r i (c .alternatives) (alternativesFrom g x) (AmongAlternatives g x))) where
     -- the answer, whatever the edges
     answered : (v : NextAlternative) → r ≡ v → (e : Bytes)
-        → let g = graphOf (work n e a) c in IsNextAlternative v i (c .alternatives) (alternativesFrom g x) (AmongAlternatives g x)
+        → let g = graphOf (work n e a) c in IsNextAlternative a v i (c .alternatives) (alternativesFrom g x) (AmongAlternatives g x)
     unfolding graphOf alternativesFrom
     answered v q e =
         let g = graphOf (work n (O .edges) a) c in
-        subst (λ (u : NextAlternative). IsNextAlternative u i (c .alternatives) (alternativesFrom g x) (AmongAlternatives g x)) q
+        subst (λ (u : NextAlternative). IsNextAlternative a u i (c .alternatives) (alternativesFrom g x) (AmongAlternatives g x)) q
         (N (O .edges) c (O .held) grown-refl (S .among))
 
     pub sought-end : r ≡ Set.End → (e : Bytes) → false ≡ G.hasAlternative x s (graphOf (work n e a) c)
     unfolding any
     sought-end q e = ap (λ (l : List RowSet). any (λ v. eqb v s) l) (sym (answered Set.End q e)) ∙ S .left e
 
-    module _ {j : ℕ} {v : Rows.RowSet} (q : r ≡ Set.At j v) where
-      pub sought-from : i ≤ j
-      sought-from = answered (Set.At j v) q [] .0
+    -- by whether the set of alternative j is s
+    by-first : {j : ℕ} → r ≡ Set.At j → (b : Bool) → eqb (setOf a (alternativeSize * j)) s ≡ b → (e : Bytes)
+        → (b || any (λ v. eqb v s) (alternativesFrom (graphOf (work n e a) c) x (j + 1))) ≡ G.hasAlternative x s (graphOf (work n e a) c)
+    unfolding any
+    by-first {j} q b t e =
+        ap (λ (b : Bool). b || any (λ v. eqb v s) (alternativesFrom (graphOf (work n e a) c) x (j + 1))) (sym t)
+        ∙ ap (λ (l : List RowSet). any (λ v. eqb v s) l) (sym (answered (Set.At j) q e .2)) ∙ S .left e
 
-      pub sought-below : j < c .alternatives
-      sought-below = answered (Set.At j v) q [] .1
-
-      -- by whether it is the set
-      by-first : (b : Bool) → eqb (valueOf v) s ≡ b → (e : Bytes)
-          → (b || any (λ v. eqb v s) (alternativesFrom (graphOf (work n e a) c) x (j + 1))) ≡ G.hasAlternative x s (graphOf (work n e a) c)
-      unfolding any
-      by-first b t e =
-          ap (λ (b : Bool). b || any (λ v. eqb v s) (alternativesFrom (graphOf (work n e a) c) x (j + 1))) (sym t)
-          ∙ ap (λ (l : List RowSet). any (λ v. eqb v s) l) (sym (answered (Set.At j v) q e .2)) ∙ S .left e
-
-      pub sought-here : eqb (valueOf v) s ≡ true → (e : Bytes) → true ≡ G.hasAlternative x s (graphOf (work n e a) c)
-      sought-here t e = by-first true t e
-
-      pub sought-more : eqb (valueOf v) s ≡ false → Sought n a c x s (j + 1)
-      sought-more t = record { place = omega (arith, sought-below); among = answered (Set.At j v) q [] .3; left = by-first false t }
+    pub sought-at : {j : ℕ} → r ≡ Set.At j → SoughtAt n a c x s i j
+    sought-at {j} q =
+        let (from, below, _, among) = answered (Set.At j) q [] in
+        record {
+          from = from;
+          below = below;
+          here = by-first q true;
+          more = λ t. record { place = omega (arith, below); among = among; left = by-first q false t };
+        }

@@ -5,10 +5,10 @@
 ghost use mathlib.Core.Path.{_≡_};
 ghost use Prim.Native.Nat.{_≤_, _<_};
 ghost use Rattle.concepts.specs.Lists.{NoneBelow};
-ghost use Rattle.procedure.specs.Graph.{addNode, addEdge, hasAlternative, addAlternative, setStatus, setLink, findState, lowestUnset};
+ghost use Rattle.procedure.specs.Graph.{addNode, addEdge, addAlternative, setStatus, setLink, findState, lowestUnset};
 ghost use Rattle.words.specs.Sizes.{nodeSize, edgeSize, alternativeSize};
-ghost use Rattle.rowset.specs.Value.{valueOf};
-ghost use Rattle.records.specs.Areas.{Bytes, roomOf, Fits};
+ghost use Rattle.inplace.specs.Widths.{setOf};
+ghost use Rattle.records.specs.Areas.{roomOf, Fits};
 ghost use Rattle.records.specs.Codes as Codes;
 ghost use Rattle.records.specs.Records as Records;
 ghost use Rattle.graph.specs.Graphs as Graphs;
@@ -16,28 +16,36 @@ use chains::Places;
 use chains::append;
 use chains::begin;
 use chains::follow;
+use inplace::SET_BYTES;
+use inplace::SET_WORDS;
+use inplace::same;
 use records::ALTERNATIVE_BYTES;
-use records::Alternative;
 use records::EDGE_BYTES;
 use records::Edge;
-use records::FROM;
 use records::Link;
 use records::NODE_BYTES;
 use records::Node;
-use records::OWNER;
 use records::Status;
-use records::TO;
+use records::alternative_set;
+use records::is_state;
 use records::is_unset;
-use records::load_alternative;
+use records::layout::ALTERNATIVES_AT;
+use records::layout::CHILDREN_AT;
+use records::layout::FROM_AT;
+use records::layout::NEXT_ALTERNATIVE_AT;
+use records::layout::NEXT_CHILD_AT;
+use records::layout::NEXT_PARENT_AT;
+use records::layout::OWNER_AT;
+use records::layout::PARENTS_AT;
+use records::layout::TO_AT;
 use records::load_edge;
-use records::load_node;
+use records::node_set;
 use records::room;
 use records::store_alternative;
 use records::store_edge;
 use records::store_link;
 use records::store_node;
 use records::store_status;
-use rowset::RowSet;
 
 // How many records each area has in use, at most 4,096 of each. In 2 bytes each, since nearly every function takes counts and answers with counts.
 pub struct Counts {
@@ -71,32 +79,32 @@ pub enum Next {
     End,
 }
 
-// The next alternative of a state, with its index.
+// The next alternative of a state, by its index.
 pub enum NextAlternative {
-    At { index: usize, rows: RowSet },
+    At(usize),
     End,
 }
 
 // Where the chains keep their numbers: of the edges from a node, of the edges to it, of a state's alternatives.
 const CHILDREN: Places = Places {
     size: EDGE_BYTES,
-    key: FROM,
-    next: 10,
-    first: 20,
+    key: FROM_AT,
+    next: NEXT_CHILD_AT,
+    first: CHILDREN_AT,
 };
 
 const PARENTS: Places = Places {
     size: EDGE_BYTES,
-    key: TO,
-    next: 12,
-    first: 24,
+    key: TO_AT,
+    next: NEXT_PARENT_AT,
+    first: PARENTS_AT,
 };
 
 const ALTERNATIVES: Places = Places {
     size: ALTERNATIVE_BYTES,
-    key: OWNER,
-    next: 10,
-    first: 28,
+    key: OWNER_AT,
+    next: NEXT_ALTERNATIVE_AT,
+    first: ALTERNATIVES_AT,
 };
 
 // The first edge from place `from` on that starts at x, with its end.
@@ -132,7 +140,7 @@ pub fn next_parent(nodes: &[u8], edges: &[u8], c: Counts, x: u16, from: usize) -
     }
 }
 
-// The first alternative from place `from` on that is state x's, with its set.
+// The first alternative from place `from` on that is state x's.
 pub fn next_alternative(
     nodes: &[u8],
     alternatives: &[u8],
@@ -142,25 +150,24 @@ pub fn next_alternative(
 ) -> NextAlternative
     requires { ⌜ Graphs.Walks alternativeSize (now nodes) (now alternatives) (c .nodes) (c .alternatives) x from ⌝ }
     ensures { λ r. ⌜ Graphs.WithAlternatives (now (nodes .entry)) (now (alternatives .entry)) c
-        (λ g. Graphs.AmongAlternatives g x from → Graphs.IsNextAlternative r from (c .alternatives) (Graphs.alternativesFrom g x) (Graphs.AmongAlternatives g x)) ⌝ }
+        (λ g. Graphs.AmongAlternatives g x from
+        → Graphs.IsNextAlternative (now (alternatives .entry)) r from (c .alternatives) (Graphs.alternativesFrom g x) (Graphs.AmongAlternatives g x)) ⌝ }
 {
     let index = follow(nodes, alternatives, ALTERNATIVES, x as usize, from);
     if index < c.alternatives as usize {
-        let d = load_alternative(alternatives, index);
-        let rows = d.rows;
-        NextAlternative::At { index, rows }
+        NextAlternative::At(index)
     } else {
         NextAlternative::End
     }
 }
 
-// Adds a node at the end. It has no children, no parents and no alternatives.
-pub fn add_node(nodes: &mut [u8], c: Counts, n: Node) -> Step
-    ensures { λ r. ⌜ Graphs.AddsNode (now (nodes .entry)) (now (nodes .exit)) c r (λ k g. addNode k (Records.nodeOf n) g) ⌝ }
+// Adds a node with the set s at the end. It has no children, no parents and no alternatives.
+pub fn add_node(nodes: &mut [u8], c: Counts, s: &[u8; SET_BYTES], n: Node) -> Step
+    ensures { λ r. ⌜ Graphs.AddsNode (now (nodes .entry)) (now (nodes .exit)) c r (λ k g. addNode k (Records.nodeOf (setOf (now (s .entry)) 0) n) g) ⌝ }
 {
     let x = c.nodes as usize;
     if x < room(nodes.len(), NODE_BYTES) {
-        store_node(nodes, x, n);
+        store_node(nodes, x, s, n);
         begin(nodes, CHILDREN, x);
         begin(nodes, PARENTS, x);
         begin(nodes, ALTERNATIVES, x);
@@ -194,47 +201,47 @@ pub fn add_edge(nodes: &mut [u8], edges: &mut [u8], c: Counts, from: u16, to: u1
     }
 }
 
-// Whether the state has the alternative already.
-fn has_alternative(nodes: &[u8], alternatives: &[u8], c: Counts, owner: u16, rows: RowSet) -> bool
+// Whether the state has the set s among its alternatives already.
+fn has_alternative(
+    nodes: &[u8],
+    alternatives: &[u8],
+    c: Counts,
+    owner: u16,
+    s: &[u8; SET_BYTES],
+) -> bool
     requires { ⌜ Graphs.Owns (now nodes) (now alternatives) c owner ⌝ }
-    ensures { λ r. ⌜ ((e : Bytes) → r ≡ hasAlternative owner (valueOf rows) (Graphs.graphOf (Graphs.work (now (nodes .entry)) e (now (alternatives .entry))) c)) ⌝ }
+    ensures { λ r. ⌜ Graphs.TellsAlternative (now (nodes .entry)) (now (alternatives .entry)) c owner (setOf (now (s .entry)) 0) r ⌝ }
 {
     let mut i: usize = 0;
     loop {
-        let NextAlternative::At { index, rows: its } = next_alternative(
-            nodes,
-            alternatives,
-            c,
-            owner,
-            i,
-        ) else {
+        let NextAlternative::At(index) = next_alternative(nodes, alternatives, c, owner, i) else {
             return false;
         };
-        if rowset::same(its, rows) {
+        if same(alternatives, alternative_set(index), s, 0, SET_WORDS) {
             return true;
         }
         i = index + 1;
     }
 }
 
-// Adds an alternative at the end, unless the state has it already.
+// Adds the set s as an alternative at the end, unless the state has it already.
 pub fn add_alternative(
     nodes: &mut [u8],
     alternatives: &mut [u8],
     c: Counts,
     owner: u16,
-    rows: RowSet,
+    s: &[u8; SET_BYTES],
 ) -> Step
     requires { ⌜ Graphs.Owns (now nodes) (now alternatives) c owner ⌝ }
     ensures { λ r. ⌜ Graphs.AddsAlternative (now (nodes .entry)) (now (nodes .exit)) (now (alternatives .entry)) (now (alternatives .exit)) c r
-        (λ k g. addAlternative k owner (valueOf rows) g) ⌝ }
+        (λ k g. addAlternative k owner (setOf (now (s .entry)) 0) g) ⌝ }
 {
-    if has_alternative(nodes, alternatives, c, owner, rows) {
+    if has_alternative(nodes, alternatives, c, owner, s) {
         return Step::Done(c);
     }
     let i = c.alternatives as usize;
     if i < room(alternatives.len(), ALTERNATIVE_BYTES) {
-        store_alternative(alternatives, i, Alternative { owner, rows });
+        store_alternative(alternatives, i, s, owner);
         append(nodes, alternatives, ALTERNATIVES, owner as usize, i);
         Step::Done(Counts {
             nodes: c.nodes,
@@ -262,26 +269,24 @@ pub fn set_link(nodes: &mut [u8], c: Counts, x: usize, link: Link)
     store_link(nodes, x, link);
 }
 
-// Whether node x is a state with this set, and not the root.
-fn is_state_with(nodes: &[u8], x: usize, rows: RowSet) -> bool
+// Whether node x is a state with the set s, and not the root.
+fn is_state_with(nodes: &[u8], x: u16, s: &[u8; SET_BYTES]) -> bool
     requires { ⌜ Fits nodeSize (now nodes) x ⌝ }
-    ensures { λ r. ⌜ r ≡ Graphs.isStateWith (now (nodes .entry)) (valueOf rows) x ⌝ }
+    ensures { λ r. ⌜ r ≡ Graphs.isStateWith (now (nodes .entry)) (setOf (now (s .entry)) 0) x ⌝ }
 {
-    let n = load_node(nodes, x);
-    let its = n.rows;
-    (0 < x) & (n.is_state & rowset::same(its, rows))
+    (0 < x) & (is_state(nodes, x as usize) & same(nodes, node_set(x), s, 0, SET_WORDS))
 }
 
-// The state with this set; the root "is never looked up".
-pub fn find_state(nodes: &[u8], c: Counts, rows: RowSet) -> FoundNode
+// The state with the set s; the root "is never looked up".
+pub fn find_state(nodes: &[u8], c: Counts, s: &[u8; SET_BYTES]) -> FoundNode
     requires { ⌜ c .nodes ≤ roomOf nodeSize (now nodes) ⌝ }
-    ensures { λ r. ⌜ Graphs.WithNodes (now (nodes .entry)) c (λ g. Graphs.foundOf r ≡ findState (valueOf rows) g) ⌝ }
+    ensures { λ r. ⌜ Graphs.WithNodes (now (nodes .entry)) c (λ g. Graphs.foundOf r ≡ findState (setOf (now (s .entry)) 0) g) ⌝ }
 {
-    let count = c.nodes as usize;
+    let count = c.nodes;
     let mut x = 0;
     while x < count {
-        if is_state_with(nodes, x, rows) {
-            return FoundNode::At(x as u16);
+        if is_state_with(nodes, x, s) {
+            return FoundNode::At(x);
         }
         x += 1;
     }
@@ -291,7 +296,8 @@ pub fn find_state(nodes: &[u8], c: Counts, rows: RowSet) -> FoundNode
 // The lowest node that has no status, where none below `from` lacks one; nor does any below the one that is found.
 pub fn lowest_unset(nodes: &[u8], c: Counts, from: usize) -> FoundNode
     requires { ⌜ (c .nodes ≤ roomOf nodeSize (now nodes)) × (from ≤ c .nodes) × NoneBelow (Records.isUnsetAt (now nodes)) from ⌝ }
-    ensures { λ r. ⌜ Graphs.WithNodes (now (nodes .entry)) c (λ g. Graphs.foundOf r ≡ lowestUnset g) × Graphs.PassedOver r (Records.isUnsetAt (now (nodes .entry))) ⌝ }
+    ensures { λ r. ⌜ Graphs.WithNodes (now (nodes .entry)) c (λ g. Graphs.foundOf r ≡ lowestUnset g)
+        × Graphs.PassedOver r (Records.isUnsetAt (now (nodes .entry))) ⌝ }
 {
     let count = c.nodes as usize;
     let mut x = from;

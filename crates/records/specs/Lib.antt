@@ -2,5 +2,6 @@
 pub mod Codes
 pub mod Areas
 pub mod AreaLaws
+pub mod Layout
 pub mod Records
 pub mod RecordLaws

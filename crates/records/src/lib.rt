@@ -1,21 +1,37 @@
 // The records of the graph in lent areas of bytes: "nodes (64 bytes each), graph edges (16) and alternatives (16)" (01, Areas).
 //
-// In order: the values; tests of a status; codes of one byte; how many records an area holds; a record read and written; one part of a
-// node; an area cleared. The graph that three areas hold is in crate graph.
+// In order: the values; tests of a status; codes of one byte; how many records an area holds; where a record's set of rows is; a record read and
+// written; one part of a node; an area cleared. Where each number stands is in layout.rt. The graph that three areas hold is in crate graph.
+// A set of rows goes by its place and is no part of a value.
 ghost use mathlib.Core.Path.{_≡_};
-ghost use Prim.Native.Nat.{_/_, _<_, min};
+ghost use Prim.Native.Nat.{_+_, _*_, _/_, _^_, _≤_, _<_, min};
 ghost use lib.ListN.{length, replicate};
 ghost use Rattle.procedure.specs.Status.{isOpen, isLive};
 ghost use Rattle.procedure.specs.Graph.{withStatus, withLink};
-ghost use Rattle.words.specs.Sizes.{nodeSize, edgeSize, alternativeSize, mostRecords};
+ghost use Rattle.words.specs.Words.{putLe};
+ghost use Rattle.words.specs.Sizes.{nodeSize, edgeSize, alternativeSize, setSize, mostRecords};
+ghost use Rattle.inplace.specs.Widths.{setOf};
 ghost use Rattle.records.specs.Codes as Codes;
-ghost use Rattle.records.specs.Areas.{Fits, Written};
+ghost use Rattle.records.specs.Areas.{Fits};
 ghost use Rattle.records.specs.Records as Records;
-use rowset::RowSet;
+use inplace::SET_BYTES;
+use inplace::SET_WORDS;
+use inplace::copy;
+use layout::FROM_AT;
+use layout::IS_STATE_AT;
+use layout::LINK_KIND_AT;
+use layout::LINK_NUMBER_AT;
+use layout::OWNER_AT;
+use layout::PRL_AT;
+use layout::PST_AT;
+use layout::STATUS_AT;
+use layout::TO_AT;
 use words::get1;
 use words::get2;
 use words::put1;
 use words::put2;
+
+pub mod layout;
 
 // "a status (none, open, yes, never, small)".
 pub enum Status {
@@ -33,8 +49,8 @@ pub enum Link {
     Lapsed,
 }
 
+// A node but for its set.
 pub struct Node {
-    pub rows: RowSet,
     pub status: Status,
     pub is_state: bool,
     pub pst: u16,
@@ -47,11 +63,6 @@ pub struct Edge {
     pub to: u16,
 }
 
-pub struct Alternative {
-    pub owner: u16,
-    pub rows: RowSet,
-}
-
 // "whole records count, and at most 4,096 of each" (01, Areas).
 const MOST: usize = 4096;
 
@@ -61,13 +72,6 @@ pub const NODE_BYTES: usize = 64;
 pub const EDGE_BYTES: usize = 16;
 
 pub const ALTERNATIVE_BYTES: usize = 16;
-
-// Where numbers of 2 bytes stand in a record: an edge's start and end, an alternative's state.
-pub const FROM: usize = 0;
-
-pub const TO: usize = 2;
-
-pub const OWNER: usize = 8;
 
 // Whether a status is open.
 pub fn is_open(s: Status) -> bool
@@ -170,40 +174,64 @@ pub fn room(len: usize, size: usize) -> usize
     if n < MOST { n } else { MOST }
 }
 
-// Node x of the area.
+// Where the set of node x begins in the area of nodes.
+pub fn node_set(x: u16) -> usize
+    ensures { λ r. ⌜ r ≡ nodeSize * x ⌝ }
+{
+    NODE_BYTES * x as usize
+}
+
+// Where the set of alternative i begins in the area of alternatives.
+pub fn alternative_set(i: usize) -> usize
+    requires { ⌜ i < mostRecords ⌝ }
+    ensures { λ r. ⌜ r ≡ alternativeSize * i ⌝ }
+{
+    ALTERNATIVE_BYTES * i
+}
+
+// Writes the set s in the bytes from place `at` on. That it fits them is said here, since only of a slice it is known that its elements are bytes.
+fn put_set(b: &mut [u8], at: usize, s: &[u8])
+    requires { ⌜ (at + setSize ≤ length (now b)) × (setSize ≤ length (now s)) ⌝ }
+    ensures { λ _. ⌜ (now (b .exit) ≡ putLe (now (b .entry)) at setSize (setOf (now (s .entry)) 0)) × (setOf (now (s .entry)) 0 < 256 ^ setSize) ⌝ }
+{
+    copy(b, at, s, 0, SET_WORDS);
+}
+
+// Node x of the area, but for its set.
 pub fn load_node(nodes: &[u8], x: usize) -> Node
     requires { ⌜ Fits nodeSize (now nodes) x ⌝ }
-    ensures { λ r. ⌜ Records.nodeOf r ≡ Records.nodeIn (now (nodes .entry)) x ⌝ }
+    ensures { λ r. ⌜ Records.nodeOf (setOf (now (nodes .entry)) (nodeSize * x)) r ≡ Records.nodeIn (now (nodes .entry)) x ⌝ }
 {
     let at = NODE_BYTES * x;
-    let status = status_from(get1(nodes, at + 8));
-    let link = link_from(get1(nodes, at + 13), get2(nodes, at + 14));
+    let status = status_from(get1(nodes, at + STATUS_AT));
+    let link = link_from(
+        get1(nodes, at + LINK_KIND_AT),
+        get2(nodes, at + LINK_NUMBER_AT),
+    );
     Node {
-        rows: rowset::get(nodes, at),
         status,
-        is_state: get1(nodes, at + 9) == 1,
-        pst: get2(nodes, at + 10),
-        prl: get1(nodes, at + 12),
+        is_state: get1(nodes, at + IS_STATE_AT) == 1,
+        pst: get2(nodes, at + PST_AT),
+        prl: get1(nodes, at + PRL_AT),
         link,
     }
 }
 
-// Writes n as node x of the area.
-pub fn store_node(nodes: &mut [u8], x: usize, n: Node)
+// Writes n with the set s as node x of the area.
+pub fn store_node(nodes: &mut [u8], x: usize, s: &[u8; SET_BYTES], n: Node)
     requires { ⌜ Fits nodeSize (now nodes) x ⌝ }
-    ensures { λ _. ⌜ Written Records.nodeIn nodeSize Records.nodeExtent (now (nodes .entry)) (now (nodes .exit)) x (Records.nodeOf n) ⌝ }
+    ensures { λ _. ⌜ Records.NodeWritten (now (nodes .entry)) (now (nodes .exit)) x (Records.nodeOf (setOf (now (s .entry)) 0) n) ⌝ }
 {
     let at = NODE_BYTES * x;
-    let rows = n.rows;
     let status = n.status;
     let link = n.link;
-    rowset::put(nodes, at, rows);
-    put1(nodes, at + 8, status_code(status));
-    put1(nodes, at + 9, flag_code(n.is_state));
-    put2(nodes, at + 10, n.pst);
-    put1(nodes, at + 12, n.prl);
-    put1(nodes, at + 13, link_kind(link));
-    put2(nodes, at + 14, link_number(link));
+    put_set(nodes, at, s);
+    put1(nodes, at + STATUS_AT, status_code(status));
+    put1(nodes, at + IS_STATE_AT, flag_code(n.is_state));
+    put2(nodes, at + PST_AT, n.pst);
+    put1(nodes, at + PRL_AT, n.prl);
+    put1(nodes, at + LINK_KIND_AT, link_kind(link));
+    put2(nodes, at + LINK_NUMBER_AT, link_number(link));
 }
 
 // Edge i of the area.
@@ -213,42 +241,29 @@ pub fn load_edge(edges: &[u8], i: usize) -> Edge
 {
     let at = EDGE_BYTES * i;
     Edge {
-        from: get2(edges, at + FROM),
-        to: get2(edges, at + TO),
+        from: get2(edges, at + FROM_AT),
+        to: get2(edges, at + TO_AT),
     }
 }
 
 // Writes d as edge i of the area.
 pub fn store_edge(edges: &mut [u8], i: usize, d: Edge)
     requires { ⌜ Fits edgeSize (now edges) i ⌝ }
-    ensures { λ _. ⌜ Written Records.edgeIn edgeSize Records.edgeExtent (now (edges .entry)) (now (edges .exit)) i (Records.edgeOf d) ⌝ }
+    ensures { λ _. ⌜ Records.EdgeWritten (now (edges .entry)) (now (edges .exit)) i (Records.edgeOf d) ⌝ }
 {
     let at = EDGE_BYTES * i;
-    put2(edges, at + FROM, d.from);
-    put2(edges, at + TO, d.to);
+    put2(edges, at + FROM_AT, d.from);
+    put2(edges, at + TO_AT, d.to);
 }
 
-// Alternative i of the area.
-pub fn load_alternative(alternatives: &[u8], i: usize) -> Alternative
+// Writes the set s of the state `owner` as alternative i of the area.
+pub fn store_alternative(alternatives: &mut [u8], i: usize, s: &[u8; SET_BYTES], owner: u16)
     requires { ⌜ Fits alternativeSize (now alternatives) i ⌝ }
-    ensures { λ r. ⌜ Records.alternativeOf r ≡ Records.alternativeIn (now (alternatives .entry)) i ⌝ }
+    ensures { λ _. ⌜ Records.AlternativeWritten (now (alternatives .entry)) (now (alternatives .exit)) i (Records.alternativeOf (setOf (now (s .entry)) 0) owner) ⌝ }
 {
     let at = ALTERNATIVE_BYTES * i;
-    Alternative {
-        rows: rowset::get(alternatives, at),
-        owner: get2(alternatives, at + OWNER),
-    }
-}
-
-// Writes d as alternative i of the area.
-pub fn store_alternative(alternatives: &mut [u8], i: usize, d: Alternative)
-    requires { ⌜ Fits alternativeSize (now alternatives) i ⌝ }
-    ensures { λ _. ⌜ Written Records.alternativeIn alternativeSize Records.alternativeExtent (now (alternatives .entry)) (now (alternatives .exit)) i (Records.alternativeOf d) ⌝ }
-{
-    let at = ALTERNATIVE_BYTES * i;
-    let rows = d.rows;
-    rowset::put(alternatives, at, rows);
-    put2(alternatives, at + OWNER, d.owner);
+    put_set(alternatives, at, s);
+    put2(alternatives, at + OWNER_AT, owner);
 }
 
 // Whether node x of the area has no status.
@@ -256,25 +271,33 @@ pub fn is_unset(nodes: &[u8], x: usize) -> bool
     requires { ⌜ Fits nodeSize (now nodes) x ⌝ }
     ensures { λ r. ⌜ r ≡ Records.isUnsetAt (now (nodes .entry)) x ⌝ }
 {
-    get1(nodes, NODE_BYTES * x + 8) == 0
+    get1(nodes, NODE_BYTES * x + STATUS_AT) == 0
+}
+
+// Whether node x of the area is a state.
+pub fn is_state(nodes: &[u8], x: usize) -> bool
+    requires { ⌜ Fits nodeSize (now nodes) x ⌝ }
+    ensures { λ r. ⌜ r ≡ Records.nodeIn (now (nodes .entry)) x .isState ⌝ }
+{
+    get1(nodes, NODE_BYTES * x + IS_STATE_AT) == 1
 }
 
 // Gives node x of the area a status.
 pub fn store_status(nodes: &mut [u8], x: usize, status: Status)
     requires { ⌜ Fits nodeSize (now nodes) x ⌝ }
-    ensures { λ _. ⌜ Written Records.nodeIn nodeSize Records.nodeExtent (now (nodes .entry)) (now (nodes .exit)) x (withStatus (Codes.statusOf status) (Records.nodeIn (now (nodes .entry)) x)) ⌝ }
+    ensures { λ _. ⌜ Records.NodeWritten (now (nodes .entry)) (now (nodes .exit)) x (withStatus (Codes.statusOf status) (Records.nodeIn (now (nodes .entry)) x)) ⌝ }
 {
-    put1(nodes, NODE_BYTES * x + 8, status_code(status));
+    put1(nodes, NODE_BYTES * x + STATUS_AT, status_code(status));
 }
 
 // Gives node x of the area a link.
 pub fn store_link(nodes: &mut [u8], x: usize, link: Link)
     requires { ⌜ Fits nodeSize (now nodes) x ⌝ }
-    ensures { λ _. ⌜ Written Records.nodeIn nodeSize Records.nodeExtent (now (nodes .entry)) (now (nodes .exit)) x (withLink (Codes.linkOf link) (Records.nodeIn (now (nodes .entry)) x)) ⌝ }
+    ensures { λ _. ⌜ Records.NodeWritten (now (nodes .entry)) (now (nodes .exit)) x (withLink (Codes.linkOf link) (Records.nodeIn (now (nodes .entry)) x)) ⌝ }
 {
     let at = NODE_BYTES * x;
-    put1(nodes, at + 13, link_kind(link));
-    put2(nodes, at + 14, link_number(link));
+    put1(nodes, at + LINK_KIND_AT, link_kind(link));
+    put2(nodes, at + LINK_NUMBER_AT, link_number(link));
 }
 
 // Every byte of the area becomes zero.

@@ -1,7 +1,6 @@
 -- Laws of the steps: each is a few of the graph's own steps, one after another.
 --
 -- In order: a node that is added first, and what follows it; a node with the edge to it; a special node that is linked; one that is lapsed.
--- Assumes nothing.
 use mathlib.Core.Path.{_≡_, refl, sym, ap, subst, _∙_}
 use mathlib.Core.Bool.{true, false}
 use mathlib.Core.Option.{Option}
@@ -39,10 +38,12 @@ module _ {n n′ : Bytes} {c : Counts} {first : Step} (v : G.Node) (adds : AddsN
 
   -- what follows it may use its number, which is the count of the nodes before
   pub node-then : {d : Counts} → first ≡ Done d → (next : ℕ → Operation) {e a : Bytes} {s : Step} {w′ : Work} → Held (work n e a) c
-      → (Held (work n′ e a) d → Refines (work n′ e a) d s w′ (next (c .nodes))) → Refines (work n e a) c s w′ (λ k g. G._>>=_ (G.addNode k v g) (next (G.nodeCount g) k))
+      → (Held (work n′ e a) d → Refines (work n′ e a) d s w′ (next (c .nodes)))
+      → Refines (work n e a) c s w′ (λ k g. G._>>=_ (G.addNode k v g) (next (G.nodeCount g) k))
   node-then {d} w next {e} {a} {s} {w′} h after =
       let R = refines-answer (adds e a h) w in
-      refines-then R (λ g. next (G.nodeCount g)) (subst (λ (m : ℕ). Refines (work n′ e a) d s w′ (next m)) (sym (count-nodes (work n e a) c)) (after (refines-held R)))
+      refines-then R (λ g. next (G.nodeCount g))
+      (subst (λ (m : ℕ). Refines (work n′ e a) d s w′ (next m)) (sym (count-nodes (work n e a) c)) (after (refines-held R)))
 
   -- without a place for it nothing follows
   pub node-short : {p : Area} → first ≡ Full p → (next : ℕ → Operation) {e a : Bytes} → Held (work n e a) c
@@ -61,7 +62,8 @@ module _ {n n′ e : Bytes} {c : Counts} {first : Step} (x : ℕ) (v : G.Node) (
 
 -- ---- a special node that is linked
 
-pub link-done : {n n₁ n′ e e′ : Bytes} {c : Counts} {s : Step} (z y : ℕ) → ChangesNodes n n₁ c (G.setLink z (G.toState y)) → AddsEdge n₁ n′ e e′ c s (λ k g. G.addEdge k z y g)
+pub link-done : {n n₁ n′ e e′ : Bytes} {c : Counts} {s : Step} (z y : ℕ) → ChangesNodes n n₁ c (G.setLink z (G.toState y))
+    → AddsEdge n₁ n′ e e′ c s (λ k g. G.addEdge k z y g)
     → AddsBelow n n′ e e′ c s (λ k g. linkTo k z y g)
 unfolding linkTo
 link-done {e = e} z y changes edge a h = let C = changes e a h in changes-then C (λ g k u. G.addEdge k z y u) (edge a (C .held))
@@ -98,8 +100,10 @@ module _ {n : Bytes} {c : Counts} (z : ℕ) (rows : RowSet) {r : FoundNode} (fou
     unfolding linkFound
     found-full q = as-found {v = Found.Nothing} w (λ a h. node-short (state rows) adds q (λ m k g. linkTo k z m g) h)
 
-module _ {n n₁ e : Bytes} {c : Counts} {first : Step} (p ρ : ℕ) (rows : RowSet) (adds : AddsNode n n₁ c first (λ k g. G.addNode k (below p ρ rows unset G.unlinked) g)) where
-  pub special-done : {n′ e′ : Bytes} {d : Counts} {s : Step} → first ≡ Done d → AddsBelow n₁ n′ e e′ d s (λ k g. linkFound k (c .nodes) rows (G.findState rows g) g)
+module _ {n n₁ e : Bytes} {c : Counts} {first : Step} (p ρ : ℕ) (rows : RowSet)
+    (adds : AddsNode n n₁ c first (λ k g. G.addNode k (below p ρ rows unset G.unlinked) g)) where
+  pub special-done : {n′ e′ : Bytes} {d : Counts} {s : Step} → first ≡ Done d
+      → AddsBelow n₁ n′ e e′ d s (λ k g. linkFound k (c .nodes) rows (G.findState rows g) g)
       → AddsBelow n n′ e e′ c s (λ k g. linkSpecial k p ρ rows g)
   unfolding linkSpecial
   special-done w links a h = node-then (below p ρ rows unset G.unlinked) adds w (λ m k g. linkFound k m rows (G.findState rows g) g) h (λ held. links a held)
@@ -111,7 +115,7 @@ module _ {n n₁ e : Bytes} {c : Counts} {first : Step} (p ρ : ℕ) (rows : Row
 -- ---- a special node that is lapsed
 
 -- by the node p that was read and the test of its status
-module _ {n : Bytes} (c : Counts) (p : ℕ) (lacked : RowSet) (v : Node) (read : nodeOf v ≡ nodeIn n p) (l : p < c .nodes) where
+module _ {n : Bytes} (c : Counts) (p : ℕ) (lacked : RowSet) {s : RowSet} (v : Node) (read : nodeOf s v ≡ nodeIn n p) (l : p < c .nodes) where
   status-read : (w : Work) → w .nodes ≡ n → isLive (statusOf (v .status)) ≡ isLive (G.nodeAt (graphOf w c) p .status)
   status-read w q = ap (λ (x : G.Node). isLive (x .status)) (read ∙ ap (λ (b : Bytes). nodeIn b p) (sym q) ∙ sym (graph-node w c p l))
 
@@ -124,7 +128,8 @@ module _ {n : Bytes} (c : Counts) (p : ℕ) (lacked : RowSet) (v : Node) (read :
   unfolding joinAlternatives
   join-not {a} settled e h = refines-as (refines-none h) (rw (sym (status-read (work n e a) refl) ∙ settled, joinAlternatives))
 
-module _ {n n₁ e a : Bytes} {c : Counts} {first : Step} (x p ρ : ℕ) (rows lacked : RowSet) (adds : AddsNode n n₁ c first (λ k g. G.addNode k (below p ρ rows toosmall G.lapsed) g))
+module _ {n n₁ e a : Bytes} {c : Counts} {first : Step} (x p ρ : ℕ) (rows lacked : RowSet)
+    (adds : AddsNode n n₁ c first (λ k g. G.addNode k (below p ρ rows toosmall G.lapsed) g))
     (h : Held (work n e a) c) where
   abbrev joining : ℕ → Operation
   joining m k g = joinAlternatives k p lacked g
@@ -132,7 +137,8 @@ module _ {n n₁ e a : Bytes} {c : Counts} {first : Step} (x p ρ : ℕ) (rows l
   abbrev last : G.Graph → Operation
   last g k u = G.addEdge k x (G.nodeCount g) u
 
-  module _ {n₂ a′ : Bytes} {d : Counts} {second : Step} (w : first ≡ Done d) (joins : AddsAlternative n₁ n₂ a a′ d second (λ k g. joinAlternatives k p lacked g)) where
+  module _ {n₂ a′ : Bytes} {d : Counts} {second : Step} (w : first ≡ Done d)
+      (joins : AddsAlternative n₁ n₂ a a′ d second (λ k g. joinAlternatives k p lacked g)) where
     joined : Refines (work n e a) c second (work n₂ e a′) (λ k g. G._>>=_ (G.addNode k (below p ρ rows toosmall G.lapsed) g) (joinAlternatives k p lacked))
     joined = node-then (below p ρ rows toosmall G.lapsed) adds w joining h (λ held. joins e held)
 

@@ -7,7 +7,7 @@ ghost use Rattle.procedure.specs.Status as Procedure;
 ghost use Rattle.procedure.specs.Graph as Graph;
 ghost use Rattle.procedure.specs.Tableau as Tableau;
 ghost use Rattle.words.specs.Sizes.{nodeSize};
-ghost use Rattle.rowset.specs.Value.{valueOf};
+ghost use Rattle.inplace.specs.Widths.{setOf};
 ghost use Rattle.records.specs.Areas.{roomOf};
 ghost use Rattle.records.specs.Codes as Codes;
 ghost use Rattle.records.specs.Records as Records;
@@ -25,19 +25,27 @@ use graph::find_state;
 use graph::next_child;
 use graph::set_link;
 use graph::set_status;
+use inplace::SET_BYTES;
 use records::Link;
 use records::Node;
 use records::Status;
 use records::is_live;
 use records::load_node;
-use rowset::RowSet;
 
-// Adds a node, and the edge to it.
-pub fn add_child(nodes: &mut [u8], edges: &mut [u8], c: Counts, from: u16, node: Node) -> Step
+// Adds a node with the set s, and the edge to it.
+pub fn add_child(
+    nodes: &mut [u8],
+    edges: &mut [u8],
+    c: Counts,
+    from: u16,
+    s: &[u8; SET_BYTES],
+    node: Node,
+) -> Step
     requires { ⌜ (from < c .nodes) × Steps.Holds (now nodes) (now edges) c ⌝ }
-    ensures { λ r. ⌜ Steps.AddsBelow (now (nodes .entry)) (now (nodes .exit)) (now (edges .entry)) (now (edges .exit)) c r (Steps.addChild from (Records.nodeOf node)) ⌝ }
+    ensures { λ r. ⌜ Steps.AddsBelow (now (nodes .entry)) (now (nodes .exit)) (now (edges .entry)) (now (edges .exit)) c r
+        (Steps.addChild from (Records.nodeOf (setOf (now (s .entry)) 0) node)) ⌝ }
 {
-    match add_node(nodes, c, node) {
+    match add_node(nodes, c, s, node) {
         Step::Done(d) => add_edge(nodes, edges, d, from, c.nodes),
         Step::Full(area) => Step::Full(area),
     }
@@ -52,24 +60,23 @@ fn link_to(nodes: &mut [u8], edges: &mut [u8], c: Counts, z: u16, y: u16) -> Ste
     add_edge(nodes, edges, c, z, y)
 }
 
-// Links node z to the state with this set, made if new.
-fn link_found(nodes: &mut [u8], edges: &mut [u8], c: Counts, z: u16, rows: RowSet) -> Step
+// Links node z to the state with the set s, made if new.
+fn link_found(nodes: &mut [u8], edges: &mut [u8], c: Counts, z: u16, s: &[u8; SET_BYTES]) -> Step
     requires { ⌜ (z < c .nodes) × Steps.Holds (now nodes) (now edges) c ⌝ }
     ensures { λ r. ⌜ Steps.AddsBelow (now (nodes .entry)) (now (nodes .exit)) (now (edges .entry)) (now (edges .exit)) c r
-        (λ k g. Tableau.linkFound k z (valueOf rows) (Graph.findState (valueOf rows) g) g) ⌝ }
+        (λ k g. Tableau.linkFound k z (setOf (now (s .entry)) 0) (Graph.findState (setOf (now (s .entry)) 0) g) g) ⌝ }
 {
-    match find_state(nodes, c, rows) {
+    match find_state(nodes, c, s) {
         FoundNode::At(y) => link_to(nodes, edges, c, z, y),
         FoundNode::Nothing => {
             let state = Node {
-                rows,
                 status: Status::Unset,
                 is_state: true,
                 pst: 0,
                 prl: 0,
                 link: Link::None,
             };
-            match add_node(nodes, c, state) {
+            match add_node(nodes, c, s, state) {
                 Step::Done(d) => link_to(nodes, edges, d, z, c.nodes),
                 Step::Full(area) => Step::Full(area),
             }
@@ -77,37 +84,43 @@ fn link_found(nodes: &mut [u8], edges: &mut [u8], c: Counts, z: u16, rows: RowSe
     }
 }
 
-// Adds a special node that lacks nothing above, and links it.
+// Adds a special node with the set s, which lacks nothing above, and links it.
 pub fn link_special(
     nodes: &mut [u8],
     edges: &mut [u8],
     c: Counts,
     p: u16,
     role: u8,
-    rows: RowSet,
+    s: &[u8; SET_BYTES],
 ) -> Step
     requires { ⌜ Steps.Holds (now nodes) (now edges) c ⌝ }
-    ensures { λ r. ⌜ Steps.AddsBelow (now (nodes .entry)) (now (nodes .exit)) (now (edges .entry)) (now (edges .exit)) c r (λ k g. Tableau.linkSpecial k p role (valueOf rows) g) ⌝ }
+    ensures { λ r. ⌜ Steps.AddsBelow (now (nodes .entry)) (now (nodes .exit)) (now (edges .entry)) (now (edges .exit)) c r
+        (λ k g. Tableau.linkSpecial k p role (setOf (now (s .entry)) 0) g) ⌝ }
 {
     let special = Node {
-        rows,
         status: Status::Unset,
         is_state: false,
         pst: p,
         prl: role,
         link: Link::None,
     };
-    match add_node(nodes, c, special) {
-        Step::Done(d) => link_found(nodes, edges, d, c.nodes, rows),
+    match add_node(nodes, c, s, special) {
+        Step::Done(d) => link_found(nodes, edges, d, c.nodes, s),
         Step::Full(area) => Step::Full(area),
     }
 }
 
 // What a set lacks joins the alternatives of state p while its status is none or open.
-fn join(nodes: &mut [u8], alternatives: &mut [u8], c: Counts, p: u16, lacked: RowSet) -> Step
+fn join(
+    nodes: &mut [u8],
+    alternatives: &mut [u8],
+    c: Counts,
+    p: u16,
+    lacked: &[u8; SET_BYTES],
+) -> Step
     requires { ⌜ Owns (now nodes) (now alternatives) c p ⌝ }
     ensures { λ r. ⌜ AddsAlternative (now (nodes .entry)) (now (nodes .exit)) (now (alternatives .entry)) (now (alternatives .exit)) c r
-        (λ k g. Tableau.joinAlternatives k p (valueOf lacked) g) ⌝ }
+        (λ k g. Tableau.joinAlternatives k p (setOf (now (lacked .entry)) 0) g) ⌝ }
 {
     let above = load_node(nodes, p as usize);
     let status = above.status;
@@ -118,7 +131,7 @@ fn join(nodes: &mut [u8], alternatives: &mut [u8], c: Counts, p: u16, lacked: Ro
     }
 }
 
-// Adds a special node that lacks something above: lapsed and small. What it lacks joins the alternatives there; the edge comes last.
+// Adds a special node with the set s, which lacks something above: lapsed and small. What it lacks joins the alternatives there; the edge comes last.
 pub fn add_lapsed(
     nodes: &mut [u8],
     edges: &mut [u8],
@@ -127,22 +140,22 @@ pub fn add_lapsed(
     from: u16,
     p: u16,
     role: u8,
-    rows: RowSet,
-    lacked: RowSet,
+    s: &[u8; SET_BYTES],
+    lacked: &[u8; SET_BYTES],
 ) -> Step
     requires { ⌜ (from < c .nodes) × (p < c .nodes) × Held (work (now nodes) (now edges) (now alternatives)) c ⌝ }
-    ensures { λ r. ⌜ Refines (work (now (nodes .entry)) (now (edges .entry)) (now (alternatives .entry))) c r (work (now (nodes .exit)) (now (edges .exit)) (now (alternatives .exit)))
-        (Steps.addLapsed from p role (valueOf rows) (valueOf lacked)) ⌝ }
+    ensures { λ r. ⌜ Refines (work (now (nodes .entry)) (now (edges .entry)) (now (alternatives .entry))) c r
+        (work (now (nodes .exit)) (now (edges .exit)) (now (alternatives .exit)))
+        (Steps.addLapsed from p role (setOf (now (s .entry)) 0) (setOf (now (lacked .entry)) 0)) ⌝ }
 {
     let lapsed = Node {
-        rows,
         status: Status::TooSmall,
         is_state: false,
         pst: p,
         prl: role,
         link: Link::Lapsed,
     };
-    match add_node(nodes, c, lapsed) {
+    match add_node(nodes, c, s, lapsed) {
         Step::Done(d) => match join(nodes, alternatives, d, p, lacked) {
             Step::Done(b) => add_edge(nodes, edges, b, from, c.nodes),
             Step::Full(area) => Step::Full(area),
@@ -216,7 +229,8 @@ fn entry(by: Pairs, a: Status, b: Status) -> Status
 // The statuses of the children of x, folded from `start` on.
 fn fold(nodes: &[u8], edges: &[u8], c: Counts, x: u16, by: Pairs, start: Status) -> Status
     requires { ⌜ Tables.Judges (now nodes) (now edges) c x ⌝ }
-    ensures { λ r. ⌜ Codes.statusOf r ≡ Procedure.foldStatus (Tables.statusTable by) (Codes.statusOf start) (Tables.statusesFrom (now (nodes .entry)) (now (edges .entry)) c x 0) ⌝ }
+    ensures { λ r. ⌜ Codes.statusOf r
+        ≡ Procedure.foldStatus (Tables.statusTable by) (Codes.statusOf start) (Tables.statusesFrom (now (nodes .entry)) (now (edges .entry)) c x 0) ⌝ }
 {
     let mut v = start;
     let mut i = 0;

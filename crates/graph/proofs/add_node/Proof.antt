@@ -1,7 +1,7 @@
 -- `graph::add_node` meets its contract: by the room that is left.
--- Assumes nothing.
 use native.Mathlib.Omega.{arith}
 use borrow.Author.Needs.{needs}
+use Rattle.inplace.specs.Widths.{setOf}
 use Rattle.records.specs.Records.{nodeOf}
 use Rattle.graph.specs.ChainsLaws.{child-sits, parent-sits, alternative-sits}
 use Rattle.graph.specs.AddLaws.{add-node-done, add-node-full}
@@ -21,7 +21,7 @@ returns c =
 returns-2 : tie.Need-returns-2
 returns-2 c =
     let s : tie.Start = search in
-    add-node-full _ (nodeOf (s .args .n)) (omega (arith, c .if1 .left, c .before .room .ensures))
+    add-node-full _ (nodeOf (setOf (s .args .s .now) 0) (s .args .n)) (omega (arith, c .if1 .left, c .before .room .ensures))
 
 pub add-node-spec : {M : Type 1} → statement M
 add-node-spec =
@@ -30,7 +30,7 @@ add-node-spec =
     -- room(nodes.len(), NODE_BYTES)
     (λ c. search needs)
     (λ c κs. search needs)
-    -- store_node(nodes, x, n)
+    -- store_node(nodes, x, s, n)
     (λ c κs. search needs)
     -- begin(nodes, CHILDREN, x), begin(nodes, PARENTS, x), begin(nodes, ALTERNATIVES, x)
     (λ c κs. search (child-sits, needs))

@@ -1,39 +1,32 @@
 -- `graph::find_state` meets its contract: the invariant is that no node below `x` is the state looked for.
--- Assumes nothing.
 use mathlib.Core.Path.{sym, _∙_}
 use Prim.Native.Nat.{_-_, _≤_}
 use native.Mathlib.Omega.{arith}
-use borrow.Author.Needs.{needs}
 use borrow.Author.Count.{below-none, below-more}
 use Rattle.concepts.specs.Lists.{NoneBelow}
-use Rattle.rowset.specs.Value.{valueOf}
+use Rattle.inplace.specs.Widths.{setOf}
 use Rattle.graph.specs.Graphs.{work, isStateWith}
 use Rattle.graph.specs.SearchLaws.{state-found, state-nowhere}
 use Rattle.graph.proofs.find_state.Statement.{statement}
 use Rattle.graph.proofs.find_state.Tie as tie
 
 abbrev Inv-loop : tie.InvT-loop
-Inv-loop nodes rows count x₀ x = (x ≤ count) × NoneBelow (isStateWith nodes (valueOf rows)) x
+Inv-loop nodes s count x₀ x = (x ≤ count) × NoneBelow (isStateWith nodes (setOf s 0)) x
 
 abbrev μ-loop : tie.MeasureT-loop
-μ-loop nodes rows count x₀ x = count - x
+μ-loop nodes s count x₀ x = count - x
 
 abbrev At : (tie.InvT-loop → tie.MeasureT-loop → Type 0) → Type 0
 At P = P Inv-loop μ-loop
 
-loop-holds : At tie.Need-loop-holds
-loop-holds c = (omega arith, below-none _)
-
 is-state-with-requires : At tie.Need-is-state-with-requires
 is-state-with-requires c κs = let s : At tie.Start = search in (omega (arith, s .pre), omega (arith, s .pre))
-
-fits : At tie.Need-cast-t8
-fits c = let s : At tie.Start = search in omega (arith, s .pre)
 
 returns : At tie.Need-returns
 returns c =
     let l : At tie.In-loop = search in
-    λ e a h. sym (state-found (work _ e a) _ _ _ (omega (arith, l .loop-test .taken)) (l .before .loop .inv .1) (sym (c .before .is-state-with .ensures) ∙ c .if1 .taken))
+    λ e a h. sym (state-found (work _ e a) _ _ _ (omega (arith, l .loop-test .taken)) (l .before .loop .inv .1)
+    (sym (c .before .is-state-with .ensures) ∙ c .if1 .taken))
 
 loop-again : At tie.Need-loop-again
 loop-again c =
@@ -51,11 +44,8 @@ find-state-spec =
     (tie.spec
     Inv-loop
     μ-loop
-    -- c.nodes as usize
-    (λ c. search needs)
-    loop-holds
+    (λ c. (omega arith, below-none _))
     is-state-with-requires
-    fits
     returns
     -- x += 1
     (λ c. omega arith) (λ c. omega arith)

@@ -1,5 +1,4 @@
 -- `graph::lowest_unset` meets its contract: the invariant is that every node below `x` has a status.
--- Assumes nothing.
 use mathlib.Core.Path.{sym, _∙_}
 use Prim.Native.Nat.{_-_, _≤_}
 use native.Mathlib.Omega.{arith}
@@ -33,7 +32,8 @@ fits c = let s : At tie.Start = search in omega (arith, s .pre)
 returns : At tie.Need-returns
 returns c =
     let l : At tie.In-loop = search in (
-      λ e a h. sym (unset-found (work _ e a) _ _ (omega (arith, l .loop-test .taken)) (l .before .loop .inv .1) (sym (c .before .is-unset .ensures) ∙ c .if1 .taken)),
+      λ e a h. sym (unset-found (work _ e a) _ _ (omega (arith, l .loop-test .taken)) (l .before .loop .inv .1)
+          (sym (c .before .is-unset .ensures) ∙ c .if1 .taken)),
       l .before .loop .inv .1,
     )
 

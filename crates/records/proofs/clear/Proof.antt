@@ -1,5 +1,4 @@
 -- `records::clear` meets its contract: the invariant is that the first `i` bytes are zero and the others as they were.
--- Assumes nothing.
 use mathlib.Core.Path.{_≡_, refl, ap, _∙_}
 use mathlib.Core.List.{List, _++_, append-nil}
 use Prim.Native.Nat.{ℕ, _-_, _≤_}
@@ -33,7 +32,8 @@ returns c =
     let l = c .before .loop in
     let b : List ℕ = s .args .area .now in
     let e : l .i ≡ length b = omega (arith, c .loop-test .left, l .inv .0, l .inv .1) in
-    l .inv .2 ∙ ap (λ (k : ℕ). replicate k 0 ++ drop k b) e ∙ ap (λ (r : List ℕ). replicate (length b) 0 ++ r) (drop-length b) ∙ append-nil (replicate (length b) 0)
+    l .inv .2 ∙ ap (λ (k : ℕ). replicate k 0 ++ drop k b) e ∙ ap (λ (r : List ℕ). replicate (length b) 0 ++ r) (drop-length b)
+    ∙ append-nil (replicate (length b) 0)
 
 pub clear-spec : {M : Type 1} → statement M
 clear-spec =

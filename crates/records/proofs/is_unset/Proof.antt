@@ -1,5 +1,4 @@
 -- `records::is_unset` meets its contract: the byte of the status tells.
--- Assumes nothing.
 use mathlib.Core.Path.{ap, _∙_}
 use Prim.Native.Nat.{ℕ}
 use borrow.Author.Needs.{needs}
@@ -18,6 +17,6 @@ pub is-unset-spec : {M : Type 1} → statement M
 is-unset-spec =
     tie.close
     (tie.spec
-    -- get1(nodes, NODE_BYTES * x + 8)
+    -- get1(nodes, NODE_BYTES * x + STATUS_AT)
     (λ c. search needs) (λ c. search needs) (λ c κs. search needs)
     returns)

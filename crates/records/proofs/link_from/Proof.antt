@@ -1,5 +1,4 @@
 -- `records::link_from` meets its contract: a byte past 1 stands for a link that has lapsed.
--- Assumes nothing.
 use borrow.Author.Needs.{needs}
 use Rattle.records.specs.Codes.{link-rest}
 use Rattle.records.proofs.link_from.Statement.{statement}

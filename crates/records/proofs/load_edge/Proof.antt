@@ -1,5 +1,4 @@
 -- `records::load_edge` meets its contract: the numbers that it reads are those of the definition.
--- Assumes nothing.
 use borrow.Author.Needs.{needs}
 use Rattle.records.specs.Records.{edgeIn}
 use Rattle.records.proofs.load_edge.Statement.{statement}
@@ -15,7 +14,7 @@ load-edge-spec =
     (tie.spec
     -- EDGE_BYTES * i
     (λ c. search needs)
-    -- get2(edges, at + FROM), get2(edges, at + TO)
+    -- get2(edges, at + FROM_AT), get2(edges, at + TO_AT)
     (λ c. search needs) (λ c κs. search needs)
     (λ c. search needs) (λ c κs. search needs)
     returns)

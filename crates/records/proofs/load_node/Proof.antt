@@ -1,20 +1,12 @@
 -- `records::load_node` meets its contract: the numbers that it reads are those of the definition.
--- Assumes nothing.
-use mathlib.Core.Path.{_≡_}
-use Prim.Native.Nat.{_+_, _*_}
-use native.Mathlib.Omega.{arith}
 use borrow.Author.Needs.{needs}
-use Rattle.words.specs.Sizes.{nodeSize}
 use Rattle.records.specs.Records.{nodeIn}
 use Rattle.records.proofs.load_node.Statement.{statement}
 use Rattle.records.proofs.load_node.Tie as tie
 
 returns : tie.Need-returns
 unfolding nodeIn
-returns c =
-    let s : tie.Start = search in
-    let z : nodeSize * s .args .x + 0 ≡ nodeSize * s .args .x = omega arith in
-    cc
+returns c = cc
 
 pub load-node-spec : {M : Type 1} → statement M
 load-node-spec =
@@ -22,14 +14,12 @@ load-node-spec =
     (tie.spec
     -- NODE_BYTES * x
     (λ c. search needs)
-    -- status_from(get1(nodes, at + 8))
+    -- status_from(get1(nodes, at + STATUS_AT))
     (λ c. search needs) (λ c κs. search needs) (λ c κs. search needs)
-    -- link_from(get1(nodes, at + 13), get2(nodes, at + 14))
+    -- link_from(get1(nodes, at + LINK_KIND_AT), get2(nodes, at + LINK_NUMBER_AT))
     (λ c. search needs) (λ c κs. search needs)
     (λ c. search needs) (λ c κs. search needs) (λ c κs. search needs)
-    -- rowset::get(nodes, at)
-    (λ c κs. search needs)
-    -- get1(nodes, at + 9), get2(nodes, at + 10), get1(nodes, at + 12)
+    -- get1(nodes, at + IS_STATE_AT), get2(nodes, at + PST_AT), get1(nodes, at + PRL_AT)
     (λ c. search needs) (λ c κs. search needs)
     (λ c. search needs) (λ c κs. search needs)
     (λ c. search needs) (λ c κs. search needs)

@@ -1,5 +1,4 @@
 -- `records::status_from` meets its contract: a byte past 3 stands for the last status.
--- Assumes nothing.
 use borrow.Author.Needs.{needs}
 use Rattle.records.specs.Codes.{status-rest}
 use Rattle.records.proofs.status_from.Statement.{statement}

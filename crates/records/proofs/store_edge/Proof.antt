@@ -1,9 +1,9 @@
 -- `records::store_edge` meets its contract: the numbers that it writes are the fields of the edge.
--- Assumes nothing.
 use native.Mathlib.Omega.{arith}
 use borrow.Author.Needs.{needs}
 use Rattle.words.specs.Fields.{Apart}
-use Rattle.records.specs.Records.{edgeExtent, edgeFields}
+use Rattle.records.specs.Layout.{edgeExtent}
+use Rattle.records.specs.Records.{edgeFields}
 use Rattle.records.specs.RecordLaws.{edge-stored}
 use Rattle.records.proofs.store_edge.Statement.{statement}
 use Rattle.records.proofs.store_edge.Tie as tie
@@ -21,7 +21,7 @@ store-edge-spec =
     (tie.spec
     -- EDGE_BYTES * i
     (λ c. search needs)
-    -- put2(edges, at + FROM, d.from), put2(edges, at + TO, d.to)
+    -- put2(edges, at + FROM_AT, d.from), put2(edges, at + TO_AT, d.to)
     (λ c. search needs) (λ c κs. search needs)
     (λ c. search needs) (λ c κs. search needs)
     (λ c. search needs)

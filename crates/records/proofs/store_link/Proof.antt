@@ -1,5 +1,4 @@
 -- `records::store_link` meets its contract: two fields are written, and the others are kept.
--- Assumes nothing.
 use Prim.Native.Nat.{_<_}
 use native.Mathlib.Omega.{arith}
 use borrow.Author.Needs.{needs}
@@ -21,9 +20,9 @@ store-link-spec =
     (tie.spec
     -- NODE_BYTES * x
     (λ c. search needs)
-    -- put1(nodes, at + 13, link_kind(link))
+    -- put1(nodes, at + LINK_KIND_AT, link_kind(link))
     (λ c. search needs) (λ c κs. search needs) (λ c κs. search needs)
-    -- put2(nodes, at + 14, link_number(link))
+    -- put2(nodes, at + LINK_NUMBER_AT, link_number(link))
     (λ c. search needs) (λ c κs. search needs) (λ c κs. search needs)
     (λ c. search needs)
     returns)

@@ -1,5 +1,4 @@
 -- `records::store_status` meets its contract: one field is written, and the others are kept.
--- Assumes nothing.
 use borrow.Author.Needs.{needs}
 use Rattle.records.specs.RecordLaws.{status-stored}
 use Rattle.records.proofs.store_status.Statement.{statement}
@@ -14,7 +13,7 @@ pub store-status-spec : {M : Type 1} → statement M
 store-status-spec =
     tie.close
     (tie.spec
-    -- put1(nodes, NODE_BYTES * x + 8, status_code(status))
+    -- put1(nodes, NODE_BYTES * x + STATUS_AT, status_code(status))
     (λ c. search needs) (λ c. search needs) (λ c κs. search needs) (λ c κs. search needs)
     (λ c. search needs)
     returns)

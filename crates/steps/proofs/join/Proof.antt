@@ -1,7 +1,6 @@
 -- `steps::join` meets its contract: by the status of the state above.
--- Assumes nothing.
 use borrow.Author.Needs.{needs}
-use Rattle.rowset.specs.Value.{valueOf}
+use Rattle.inplace.specs.Widths.{setOf}
 use mathlib.Core.Path.{sym, _∙_}
 use Rattle.graph.specs.GraphLaws.{held-node}
 use Rattle.steps.specs.StepLaws.{join-done, join-not}
@@ -17,10 +16,10 @@ join-spec =
     (λ c κs. search needs)
     (λ c. search needs) (λ c. search needs)
     (λ c. let s : tie.Start = search in let l : tie.After-load-node = search in let t : tie.Then1 = search in let a : tie.After-add-alternative = search in
-    join-done (s .args .c) (s .args .p) (valueOf (s .args .lacked)) (l .load-node .result) (l .load-node .ensures)
+    join-done (s .args .c) (s .args .p) (setOf (s .args .lacked .now) 0) (l .load-node .result) (l .load-node .ensures)
     (s .pre .node) (sym (t .before .is-live .ensures) ∙ t .if1 .taken) (a .add-alternative .ensures))
     -- Done(c)
     (λ c. search needs)
     (λ c. let s : tie.Start = search in let l : tie.After-load-node = search in
-    join-not (s .args .c) (s .args .p) (valueOf (s .args .lacked)) (l .load-node .result) (l .load-node .ensures)
+    join-not (s .args .c) (s .args .p) (setOf (s .args .lacked .now) 0) (l .load-node .result) (l .load-node .ensures)
     (s .pre .node) (sym (c .before .is-live .ensures) ∙ c .if1 .left)))
