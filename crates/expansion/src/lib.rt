@@ -6,10 +6,14 @@ ghost use Rattle.graph.specs.Graphs.{work};
 ghost use Rattle.expansion.specs.Contracts.{ExpandAsks, DisjAsks, StateAsks, KitGives, SuccessorsGives, StateGives, DisjGives, ConjGives, ExpandGives};
 use graph::Counts;
 use graph::Step;
+use inplace::SET_BYTES;
+use inplace::SET_WORDS;
+use inplace::copy;
+use inplace::insert;
+use inplace::join_mask;
 use records::is_open;
 use records::load_node;
-use rowset::insert;
-use rowset::union;
+use records::node_set;
 use settests::Exist;
 use settests::Found;
 use settests::lowest_conj;
@@ -35,10 +39,10 @@ fn put_kit(
     ensures { λ r. ⌜ KitGives (now (problem .entry)) (work (now (nodes .entry)) (now (edges .entry)) (now (alternatives .entry))) c r
         (work (now (nodes .exit)) (now (edges .exit)) (now (alternatives .exit))) ⌝ }
 {
-    let wanted = problem::wanted(problem);
-    let rules = problem::rules(problem);
-    let kit = union(wanted, rules);
-    put(problem, nodes, edges, alternatives, c, 0, 0, NO_ROLE, kit)
+    let mut kit = [0u8; SET_BYTES];
+    join_mask(&mut kit, 0, problem, problem::rules(problem), SET_WORDS);
+    join_mask(&mut kit, 0, problem, problem::wanted(problem), SET_WORDS);
+    put(problem, nodes, edges, alternatives, c, 0, 0, NO_ROLE, &kit)
 }
 
 // Puts the successors of state x: for each kind 6 row, rising, its argument, the arguments of kind 5 rows along its role, and all rules.
@@ -54,8 +58,7 @@ fn put_successors(
     ensures { λ r. ⌜ SuccessorsGives (now (problem .entry)) (work (now (nodes .entry)) (now (edges .entry)) (now (alternatives .entry))) c x r
         (work (now (nodes .exit)) (now (edges .exit)) (now (alternatives .exit))) ⌝ }
 {
-    let node = load_node(nodes, x as usize);
-    let set = node.rows;
+    let set = node_set(x);
     let mut cur = c;
     let mut k: usize = 0;
     loop {
@@ -63,13 +66,14 @@ fn put_successors(
             row,
             role,
             argument,
-        } = next_exist(problem, set, k)
+        } = next_exist(problem, nodes, set, k)
         else {
             return Step::Done(cur);
         };
         k = row + 1;
-        let kit = successor(problem, set, role, argument);
-        match put(problem, nodes, edges, alternatives, cur, x, x, role, kit) {
+        let mut kit = [0u8; SET_BYTES];
+        successor(problem, nodes, set, role, argument, &mut kit, 0);
+        match put(problem, nodes, edges, alternatives, cur, x, x, role, &kit) {
             Step::Full(area) => return Step::Full(area),
             Step::Done(next) => cur = next,
         }
@@ -109,17 +113,21 @@ fn expand_disj(
         (work (now (nodes .exit)) (now (edges .exit)) (now (alternatives .exit))) ⌝ }
 {
     let node = load_node(nodes, x as usize);
-    let set = node.rows;
+    let set = node_set(x);
     let p = node.pst;
     let role = node.prl;
-    let Found::Rows(left, right) = lowest_disj(problem, set) else {
+    let Found::Rows(left, right) = lowest_disj(problem, nodes, set) else {
         return expand_state(problem, nodes, edges, alternatives, c, x);
     };
-    let first = insert(set, left);
-    let second = insert(set, right);
-    match put(problem, nodes, edges, alternatives, c, x, p, role, first) {
+    let mut first = [0u8; SET_BYTES];
+    copy(&mut first, 0, nodes, set, SET_WORDS);
+    insert(&mut first, 0, left);
+    let mut second = [0u8; SET_BYTES];
+    copy(&mut second, 0, nodes, set, SET_WORDS);
+    insert(&mut second, 0, right);
+    match put(problem, nodes, edges, alternatives, c, x, p, role, &first) {
         Step::Full(area) => Step::Full(area),
-        Step::Done(d) => put(problem, nodes, edges, alternatives, d, x, p, role, second),
+        Step::Done(d) => put(problem, nodes, edges, alternatives, d, x, p, role, &second),
     }
 }
 
@@ -137,14 +145,17 @@ fn expand_conj(
         (work (now (nodes .exit)) (now (edges .exit)) (now (alternatives .exit))) ⌝ }
 {
     let node = load_node(nodes, x as usize);
-    let set = node.rows;
+    let set = node_set(x);
     let p = node.pst;
     let role = node.prl;
-    let Found::Rows(left, right) = lowest_conj(problem, set) else {
+    let Found::Rows(left, right) = lowest_conj(problem, nodes, set) else {
         return expand_disj(problem, nodes, edges, alternatives, c, x);
     };
-    let both = insert(insert(set, right), left);
-    put(problem, nodes, edges, alternatives, c, x, p, role, both)
+    let mut both = [0u8; SET_BYTES];
+    copy(&mut both, 0, nodes, set, SET_WORDS);
+    insert(&mut both, 0, right);
+    insert(&mut both, 0, left);
+    put(problem, nodes, edges, alternatives, c, x, p, role, &both)
 }
 
 // Expands node x, which has no status: its children are put, its status is set, and its parents are updated.

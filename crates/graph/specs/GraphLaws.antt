@@ -4,15 +4,17 @@
 -- Not here: a step that adds a record, which is in AddLaws; searches, and the records of a node, which are in SearchLaws.
 use mathlib.Core.Path.{_≡_, refl, sym, ap, _∙_}
 use mathlib.Core.List.{List}
-use Prim.Native.Nat.{ℕ, _≤_, _<_}
+use Prim.Native.Nat.{ℕ, _+_, _*_, _≤_, _<_}
 use native.Mathlib.Omega.{arith}
 use lib.ListN.{length}
 use Rattle.procedure.specs.Graph as G
-use Rattle.words.specs.Sizes.{nodeSize, edgeSize, alternativeSize, mostRecords}
+use Rattle.words.specs.Sizes.{nodeSize, edgeSize, alternativeSize, setSize, mostRecords}
+use Rattle.inplace.specs.Widths.{setOf}
 use Rattle.records.specs.Areas.{Bytes, roomOf, Fits, recordsIn, Stored, Beside}
 use Rattle.records.specs.AreaLaws.{length-records, getD-records, records-set, within-beside}
 use Rattle.records.specs.Layout.{nodeChains, edgeExtent, edgeChains}
 use Rattle.records.specs.Records.{nodeIn, NodeWritten, edgeIn, alternativeIn}
+use Rattle.records.specs.RecordLaws.{node-rows}
 use Rattle.graph.specs.Chains.{noRecords}
 use Rattle.graph.specs.ChainsLaws.{chained-none, chained-nodes, chained-edges}
 use Rattle.graph.specs.Graphs.{Work, work, graphOf, capacityOf, Held, Grown, Sized, ChangesNodes}
@@ -70,6 +72,13 @@ module _ {w : Work} {c : Counts} (h : Held w c) where
   pub held-node : {x : ℕ} → x < c .nodes → Fits nodeSize (w .nodes) x
   held-node l = (omega (arith, h .nodes), omega (arith, h .nodes))
 
+  -- the set of a node, and of an alternative, is in its area
+  pub held-set : {x : ℕ} → x < c .nodes → nodeSize * x + setSize ≤ length (w .nodes)
+  held-set l = omega (arith, h .nodes)
+
+  pub held-alternative : {i : ℕ} → i < c .alternatives → alternativeSize * i + setSize ≤ length (w .alternatives)
+  held-alternative l = omega (arith, h .alternatives)
+
 -- ---- looking at the graph
 
 module _ (w : Work) (c : Counts) where
@@ -88,6 +97,10 @@ module _ (w : Work) (c : Counts) where
   pub graph-node : (x : ℕ) → x < c .nodes → G.nodeAt (graphOf w c) x ≡ nodeIn (w .nodes) x
   unfolding graphOf
   graph-node x h = getD-records nodeIn (w .nodes) (c .nodes) x G.noNode h
+
+  -- its set, where it stands
+  pub graph-set : (x : ℕ) → x < c .nodes → G.nodeAt (graphOf w c) x .rows ≡ setOf (w .nodes) (nodeSize * x)
+  graph-set x h = ap (λ (v : G.Node). v .rows) (graph-node x h) ∙ node-rows (w .nodes) x
 
 -- ---- storing a node
 

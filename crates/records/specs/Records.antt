@@ -2,6 +2,7 @@
 --
 -- A node, an edge and an alternative stand in the first bytes of their records, as far as their extent. Behind it there is place for what belongs to no
 -- graph: the marks of the walk (crate marks) and the chains (crate chains). A set of rows stays where it is: a value of the code is what else a record has.
+use mathlib.Core.Path.{_≡_}
 use mathlib.Core.Bool.{Bool}
 use mathlib.Core.List.{List, [], _∷_}
 use Prim.Native.Nat.{ℕ, _*_}
@@ -35,6 +36,10 @@ nodeIn b x =
       prl = field nodeSize b x prlAt 1;
       link = linkIn (field nodeSize b x linkKindAt 1) (field nodeSize b x linkNumberAt 2);
     }
+
+-- the value d is what node x of an area has besides its set
+abbrev pub IsNode : Bytes → ℕ → Node → Type 0
+IsNode b x d = nodeOf (setOf b (nodeSize * x)) d ≡ nodeIn b x
 
 abbrev pub nodeFields : RowSet → Node → List Field
 nodeFields s n =

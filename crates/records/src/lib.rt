@@ -200,7 +200,7 @@ fn put_set(b: &mut [u8], at: usize, s: &[u8])
 // Node x of the area, but for its set.
 pub fn load_node(nodes: &[u8], x: usize) -> Node
     requires { ⌜ Fits nodeSize (now nodes) x ⌝ }
-    ensures { λ r. ⌜ Records.nodeOf (setOf (now (nodes .entry)) (nodeSize * x)) r ≡ Records.nodeIn (now (nodes .entry)) x ⌝ }
+    ensures { λ r. ⌜ Records.IsNode (now (nodes .entry)) x r ⌝ }
 {
     let at = NODE_BYTES * x;
     let status = status_from(get1(nodes, at + STATUS_AT));

@@ -10,12 +10,12 @@ use graph::FoundNode;
 use graph::Step;
 use graph::add_node;
 use graph::lowest_unset;
+use inplace::SET_BYTES;
 use records::Link;
 use records::Node;
 use records::Status;
 use records::is_live;
 use records::load_node;
-use rowset::empty;
 
 // Expands the lowest node without status, which is looked for from the one before on, "until the root is yes, never or small or no node lacks a status".
 fn rounds(
@@ -60,15 +60,15 @@ pub fn run(problem: &[u64], nodes: &mut [u8], edges: &mut [u8], alternatives: &m
         edges: 0,
         alternatives: 0,
     };
+    let empty = [0u8; SET_BYTES];
     let root = Node {
-        rows: empty(),
         status: Status::Unset,
         is_state: true,
         pst: 0,
         prl: 0,
         link: Link::None,
     };
-    match add_node(nodes, none, root) {
+    match add_node(nodes, none, &empty, root) {
         Step::Full(area) => Step::Full(area),
         Step::Done(c) => rounds(problem, nodes, edges, alternatives, c),
     }

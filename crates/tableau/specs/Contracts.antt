@@ -2,16 +2,17 @@
 -- For the words ws of a decoded problem, the work areas w and counts c, the problem is `problemOf ws`, the graph `graphOf w c`, the places `capacityOf w`.
 --
 -- In order: putting a set; judging a node; a node that is linked, and the alternatives of a small state.
--- Assumes nothing.
 use mathlib.Core.Path.{_≡_}
 use mathlib.Core.List.{List}
 use Prim.Native.Nat.{ℕ, _≤_, _<_}
 use lib.ListN.{length}
 use Rattle.concepts.specs.RowSet.{RowSet, missing}
-use Rattle.procedure.specs.Status.{toosmall}
-use Rattle.procedure.specs.Graph.{toState, Capacity, nodeAt}
-use Rattle.procedure.specs.Tableau.{Put, putWithin, judge, putAlternatives}
+use Rattle.procedure.specs.Status.{Status, toosmall}
+use Rattle.procedure.specs.Graph.{unlinked, toState, Capacity, nodeAt}
+use Rattle.procedure.specs.Tableau.{Put, below, putWithin, judge, putAlternatives}
 use Rattle.procedure.proofs.Fit.{PutFit, JudgeFit}
+use Rattle.records.specs.Records.{nodeOf}
+use Rattle.records.specs.declared.Node as D
 use Rattle.problem.specs.Decoded.{tableOf, problemOf, Decoded}
 use Rattle.graph.specs.Graphs.{Work, graphOf, capacityOf, Held, Refines}
 use Rattle.graph.specs.declared.Counts.{Counts}
@@ -24,6 +25,10 @@ lacks ws s = missing (length (tableOf ws)) s
 -- the put of the definitions, with so much fuel and in so many places
 abbrev pub puts : List ℕ → ℕ → Capacity → Put
 puts ws f k m p ρ s g = putWithin (problemOf ws) k f m p ρ s g
+
+-- the value d has this place and status, and no link
+abbrev pub Below : D.Node → (p ρ : ℕ) → Status → Type 0
+Below d p ρ status = (s : RowSet) → nodeOf s d ≡ below p ρ s status unlinked
 
 -- ---- putting a set: under node m, with the state above p and the role ρ
 

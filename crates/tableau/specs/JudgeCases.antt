@@ -1,11 +1,10 @@
 -- The cases of judge, on plain values.
 --
 -- In order: a node, by its link and its kind; one that is linked, by the status of its state; one whose state is small.
--- Assumes nothing.
 use mathlib.Core.Path.{_≡_, sym, ap, _∙_, subst}
 use mathlib.Core.Bool.{Bool, true, false}
 use mathlib.Core.List.{List}
-use Prim.Native.Nat.{ℕ, _≤_, _<_}
+use Prim.Native.Nat.{ℕ, _*_, _≤_, _<_}
 use native.Mathlib.Omega.{arith}
 use Rattle.procedure.specs.Status.{Status}
 use Rattle.procedure.specs.Graph.{toState, Graph, reached, nodeAt, setStatus}
@@ -20,8 +19,9 @@ use Rattle.records.specs.Areas.{Bytes, roomOf, Fits}
 use Rattle.graph.specs.Graphs.{Work, work, graphOf, capacityOf, Changes, ChangesNodes}
 use Rattle.procedure.specs.Graph as G
 use Rattle.words.specs.Sizes.{nodeSize}
+use Rattle.inplace.specs.Widths.{setOf}
 use Rattle.records.specs.Codes.{statusOf, linkOf}
-use Rattle.records.specs.Records.{nodeOf, nodeIn}
+use Rattle.records.specs.Records.{nodeOf, IsNode}
 use Rattle.graph.specs.GraphLaws.{count-nodes, graph-node, held-node}
 use Rattle.graph.specs.RefineLaws.{refines-as, changes-refines}
 use Rattle.records.specs.declared.Node.{Node}
@@ -60,8 +60,8 @@ module _ {ws : List ℕ} {n e a : Bytes} {c : Counts} {x : ℕ} (A : JudgeAsks w
   nodes-only h q C f few = refines-as (changes-refines C) (q (puts ws f (capacityOf (work n e a))))
 
   -- with the node as it was loaded
-  module _ (v : Node) (loaded : nodeOf v ≡ nodeIn n x) where
-    is : nodeAt g x ≡ nodeOf v
+  module _ (v : Node) (loaded : IsNode n x v) where
+    is : nodeAt g x ≡ nodeOf (setOf n (nodeSize * x)) v
     is = graph-node (work n e a) c x there ∙ sym loaded
 
     linked-as : {l : DLink.Link} → v .link ≡ l → nodeAt g x .link ≡ linkOf l
@@ -98,7 +98,7 @@ module _ {ws : List ℕ} {n e a : Bytes} {c : Counts} {x y : ℕ} (A : LinkedAsk
   linked-sets = (there (A .judge), A .judge .held .nodes)
 
   -- with the state as it was loaded
-  module _ (v : Node) (loaded : nodeOf v ≡ nodeIn n y) where
+  module _ (v : Node) (loaded : IsNode n y v) where
     status : {q : DStatus.Status} → v .status ≡ q → nodeAt (g (A .judge)) y .status ≡ statusOf q
     status h = ap (λ (u : G.Node). u .status) (graph-node (work n e a) c y linked-there ∙ sym loaded) ∙ ap statusOf h
 

@@ -1,15 +1,16 @@
 -- The cases of put, on plain values.
 --
 -- In order: the places (`Finished`, `Weighed`, `Complete`, `Linked`); a node with no status or never; a lapsed special node; a linked one; its judgement, and its edge.
--- Assumes nothing.
 use mathlib.Core.Path.{_≡_, sym, ap, _∙_, subst}
-use mathlib.Core.Bool.{Bool, true, false}
+use mathlib.Core.Bool.{Bool, true, false, not}
 use mathlib.Core.List.{List}
 use Prim.Native.Nat.{ℕ, zero, suc, _+_, _*_, _≤_, _<_}
 use native.Mathlib.Nat.{not-suc-le-zero}
 use native.Mathlib.Omega.{arith}
 use native.Mathlib.Decide.{decLt}
 use lib.Dec.{eqb, eqb→eq}
+use lib.ListN.{length}
+use borrow.Author.Tests.{not-true, not-false}
 use Rattle.concepts.specs.Tests.{from-true, from-false}
 use Rattle.concepts.specs.Role.{inverse, inverse-high, Turned}
 use Rattle.concepts.specs.RowSet.{RowSet, empty}
@@ -26,20 +27,20 @@ use Rattle.procedure.proofs.Setting.{Setting}
 use Rattle.procedure.proofs.Special.{Started, special-started}
 use Rattle.procedure.proofs.Fit.{Anyone, anyone-quiet, JudgeFit}
 use Rattle.problem.specs.Decoded.{problemOf}
-use Rattle.words.specs.Sizes.{nodeSize}
+use Rattle.words.specs.Sizes.{nodeSize, setSize}
+use Rattle.inplace.specs.Widths.{setOf}
 use Rattle.records.specs.Areas.{Bytes, roomOf}
-use Rattle.records.specs.Records.{nodeOf, nodeIn}
+use Rattle.records.specs.Records.{nodeOf}
 use Rattle.graph.specs.Graphs.{Work, work, graphOf, capacityOf, Held, Operation, Refines, AddsEdge}
-use Rattle.graph.specs.GraphLaws.{sized-refl, sized-places, count-nodes, graph-node}
+use Rattle.graph.specs.GraphLaws.{sized-refl, sized-places, count-nodes, graph-set, held-set}
 use Rattle.graph.specs.RefineLaws.{refines-answer, refines-as, refines-held, refines-then, refines-short}
 use Rattle.records.specs.declared.Node as D
 use Rattle.graph.specs.declared.Counts.{Counts}
 use Rattle.graph.specs.declared.Area.{Area}
 use Rattle.graph.specs.declared.Step.{Step}
 use Rattle.graph.specs.declared.Step.the-variants.{Done, Full}
-use Rattle.rowset.specs.Value.{valueOf}
 use Rattle.steps.specs.Steps.{Holds, AddsBelow, addChild, addLapsed}
-use Rattle.tableau.specs.Contracts.{lacks, puts, PutAsks, PutGives, JudgeAsks, JudgeGives}
+use Rattle.tableau.specs.Contracts.{lacks, puts, Below, PutAsks, PutGives, JudgeAsks, JudgeGives}
 
 -- ---- the places
 
@@ -65,11 +66,11 @@ module _ {ws : List ℕ} {n e a : Bytes} {c : Counts} {m p ρ : ℕ} {s : RowSet
     pub clean : clash P s ≡ false
     pub finished : unfinished (P .table) s ≡ false
 
-  -- and l is what is lacking, with b for nothing
-  pub record Weighed (l : RowSet) (b : Bool) : Type 0 where
+  -- and b says whether something is lacking, along a code that is ρ's turned round
+  pub record Weighed (ι : ℕ) (b : Bool) : Type 0 where
     pub finished : Finished
-    pub is : l ≡ lacked
-    pub test : b ≡ eqb l empty
+    pub turned : lacking P s ι (setOf n (nodeSize * p)) ≡ lacked
+    pub test : b ≡ not (eqb lacked empty)
 
   -- and nothing is lacking
   pub record Complete : Type 0 where
@@ -105,14 +106,14 @@ module _ {ws : List ℕ} {n e a : Bytes} {c : Counts} {m p ρ : ℕ} {s : RowSet
   child {n′} {e′} {r} q B = subst (λ (u : Node). Refines w c r (work n′ e′ a) (addChild m u)) q (B a (A .held))
 
   module _ {b : Bool} (hb : b ≡ clash P s) where
-    pub put-clashes : b ≡ true → (v : D.Node) → nodeOf v ≡ below p ρ s unsat unlinked
-        → {n′ e′ : Bytes} {r : Step} → AddsBelow n n′ e e′ c r (addChild m (nodeOf v)) → PutGives ws (work n e a) c m p ρ s r (work n′ e′ a)
-    put-clashes q v hv B = fueled (λ f few. refines-as (child hv B) (put-clash P cap f m p ρ s g (sym hb ∙ q)))
+    pub put-clashes : b ≡ true → (v : D.Node) → Below v p ρ unsat
+        → {n′ e′ : Bytes} {r : Step} → AddsBelow n n′ e e′ c r (addChild m (nodeOf s v)) → PutGives ws (work n e a) c m p ρ s r (work n′ e′ a)
+    put-clashes q v hv B = fueled (λ f few. refines-as (child (hv s) B) (put-clash P cap f m p ρ s g (sym hb ∙ q)))
 
     module _ (q : b ≡ false) {d : Bool} (hd : d ≡ unfinished (P .table) s) where
-      pub put-waits : d ≡ true → (v : D.Node) → nodeOf v ≡ below p ρ s unset unlinked
-          → {n′ e′ : Bytes} {r : Step} → AddsBelow n n′ e e′ c r (addChild m (nodeOf v)) → PutGives ws (work n e a) c m p ρ s r (work n′ e′ a)
-      put-waits u v hv B = fueled (λ f few. refines-as (child hv B) (put-unfinished P cap f m p ρ s g (sym hb ∙ q) (sym hd ∙ u)))
+      pub put-waits : d ≡ true → (v : D.Node) → Below v p ρ unset
+          → {n′ e′ : Bytes} {r : Step} → AddsBelow n n′ e e′ c r (addChild m (nodeOf s v)) → PutGives ws (work n e a) c m p ρ s r (work n′ e′ a)
+      put-waits u v hv B = fueled (λ f few. refines-as (child (hv s) B) (put-unfinished P cap f m p ρ s g (sym hb ∙ q) (sym hd ∙ u)))
 
       pub put-finished : d ≡ false → Finished
       put-finished u = record { clean = sym hb ∙ q; finished = sym hd ∙ u }
@@ -126,28 +127,28 @@ module _ {ws : List ℕ} {n e a : Bytes} {c : Counts} {m p ρ : ℕ} {s : RowSet
         none ι (subst (λ (σ : ℕ). 32 ≤ σ) (sym (H .other (omega arith))) (omega arith)) ∙ sym (none (inverse ρ) (inverse-high ρ (omega arith)))
   ]
 
-  -- with the state above as it was loaded
-  pub put-weighed : Finished → (v : D.Node) → nodeOf v ≡ nodeIn n p → {ι : ℕ} → Turned ρ ι → {l : RowSet} → l ≡ lacking P s ι (valueOf (v .rows))
-      → {b : Bool} → b ≡ eqb l empty → Weighed l b
-  put-weighed F v hv hι hl hb = record {
-    finished = F;
-    is = hl ∙ turned-lacks hι (valueOf (v .rows)) ∙ ap (λ (u : Node). lacking P s (inverse ρ) (u .rows)) (hv ∙ sym (graph-node w c p above-there));
-    test = hb;
-  }
+  -- against the set of the state above, where it stands
+  pub put-weighed : Finished → {ι : ℕ} → Turned ρ ι → {b : Bool} → b ≡ not (eqb (lacking P s ι (setOf n (nodeSize * p))) empty) → Weighed ι b
+  put-weighed F {ι} hι hb =
+      let is : lacking P s ι (setOf n (nodeSize * p)) ≡ lacked =
+      turned-lacks hι (setOf n (nodeSize * p)) ∙ ap (λ (q : RowSet). lacking P s (inverse ρ) q) (sym (graph-set w c p above-there)) in
+      record { finished = F; turned = is; test = hb ∙ ap (λ (q : RowSet). not (eqb q empty)) is }
+
+  -- where that stands
+  pub put-above : nodeSize * p + setSize ≤ length n
+  put-above = held-set (A .held) above-there
 
 -- ---- a finished set
 
-module _ {ws : List ℕ} {n e a : Bytes} {c : Counts} {m p ρ : ℕ} {s : RowSet} {A : PutAsks ws (work n e a) c m p ρ s} {l : RowSet} {b : Bool} (W : Weighed A l b) where
-  tested : {v : Bool} → b ≡ v → eqb (lacked A) empty ≡ v
-  tested q = ap (λ (x : RowSet). eqb x empty) (sym (W .is)) ∙ sym (W .test) ∙ q
+module _ {ws : List ℕ} {n e a : Bytes} {c : Counts} {m p ρ : ℕ} {s : RowSet} {A : PutAsks ws (work n e a) c m p ρ s} {ι : ℕ} {b : Bool} (W : Weighed A ι b) where
+  pub put-lapses : b ≡ true → {l : RowSet} → l ≡ lacking (P A) s ι (setOf n (nodeSize * p)) → {w′ : Work} {r : Step} → Refines (work n e a) c r w′ (addLapsed m p ρ s l)
+      → PutGives ws (work n e a) c m p ρ s r w′
+  put-lapses q hl {w′} {r} B = fueled A (λ f few.
+      refines-as (subst (λ (x : RowSet). Refines (w A) c r w′ (addLapsed m p ρ s x)) (hl ∙ W .turned) B)
+      (put-lapsed (P A) (cap A) f m p ρ s (g A) (W .finished .clean) (W .finished .finished) (not-true (eqb (lacked A) empty) (sym (W .test) ∙ q))))
 
-  pub put-lapses : b ≡ false → {w′ : Work} {r : Step} → Refines (work n e a) c r w′ (addLapsed m p ρ s l) → PutGives ws (work n e a) c m p ρ s r w′
-  put-lapses q {w′} {r} B = fueled A (λ f few.
-      refines-as (subst (λ (x : RowSet). Refines (w A) c r w′ (addLapsed m p ρ s x)) (W .is) B)
-      (put-lapsed (P A) (cap A) f m p ρ s (g A) (W .finished .clean) (W .finished .finished) (tested q)))
-
-  pub put-complete : b ≡ true → Complete A
-  put-complete q = record { finished = W .finished; nothing = tested q }
+  pub put-complete : b ≡ false → Complete A
+  put-complete q = record { finished = W .finished; nothing = not-false (eqb (lacked A) empty) (sym (W .test) ∙ q) }
 
 -- ---- nothing is lacking: the special node
 

@@ -2,12 +2,12 @@
 --
 -- In order: what the call is about; the loop's invariant (`Turn`); its start; alternatives that were there stay where they are; the end;
 -- the next alternative (`Chosen`, `Joined`), and its put.
--- Assumes nothing.
 use mathlib.Core.Path.{_≡_, sym, ap, _∙_, subst}
 use mathlib.Core.List.{List, [], _∷_, List·Memᴰ}
 use mathlib.Core.Logic.{_⊎_, inl}
 use Prim.Native.Nat.{ℕ, _+_, _-_, _*_, _≤_, _<_}
 use native.Mathlib.Omega.{arith}
+use lib.ListN.{length}
 use Rattle.concepts.specs.RowSet.{RowSet, union}
 use Rattle.procedure.specs.Problem.{Problem}
 use Rattle.procedure.specs.Graph.{lapsed, Node, Graph, Capacity, Result, reached, nodeAt, children, alternativesOf, setLink}
@@ -20,20 +20,19 @@ use Rattle.procedure.proofs.Invariant.{QuietBut}
 use Rattle.procedure.proofs.Linked.{PutPre, PutPost, Alternated, alternated-none, alternate-pre, alternate-fewer, alternate-done}
 use Rattle.procedure.proofs.Put.{within-right}
 use Rattle.procedure.proofs.Fit.{Anyone, pre-anyone, PutFit, JudgeFit}
-use Rattle.words.specs.Sizes.{nodeSize, alternativeSize, mostRecords}
+use Rattle.words.specs.Sizes.{nodeSize, alternativeSize, setSize, mostRecords}
+use Rattle.inplace.specs.Widths.{setOf}
 use Rattle.problem.specs.Decoded.{problemOf}
 use Rattle.records.specs.Areas.{Bytes, roomOf}
-use Rattle.records.specs.Records.{nodeOf, nodeIn}
+use Rattle.records.specs.Records.{nodeOf, IsNode}
 use Rattle.graph.specs.Graphs.{Work, work, graphOf, capacityOf, Held, Sized, Refines, Changes, ChangesNodes, WithAlternatives}
 use Rattle.graph.specs.Graphs.{alternativesFrom, AmongAlternatives, Walks, IsNextAlternative}
-use Rattle.graph.specs.GraphLaws.{sized-refl, sized-trans, sized-places, count-nodes, graph-node, held-most}
+use Rattle.graph.specs.GraphLaws.{sized-refl, sized-trans, sized-places, count-nodes, graph-node, graph-set, held-most, held-set, held-alternative}
 use Rattle.graph.specs.SearchLaws.{alternatives-all, alternatives-kept, among-alternatives-same, next-alternative-same}
 use Rattle.graph.specs.RefineLaws.{refines-answer, refines-as, refines-short, refines-changes, changes-both, Course, course-start, course-next, course-short, course-end}
 use Rattle.graph.specs.declared.NextAlternative.{NextAlternative}
 use Rattle.graph.specs.declared.NextAlternative.the-variants as Next
 use Rattle.records.specs.declared.Node as D
-use Rattle.rowset.specs.Value.{valueOf}
-use Rattle.rowset.specs.declared.RowSet as Rows
 use Rattle.steps.specs.Tables.{Judges, JudgesAs}
 use Rattle.graph.specs.declared.Counts.{Counts}
 use Rattle.graph.specs.declared.Area.{Area}
@@ -141,7 +140,7 @@ module _ {ws : List ℕ} {w : Work} {c : Counts} {z y : ℕ} {n′ e′ a′ : B
   pub record Joined (j : ℕ) (v : D.Node) (σ : RowSet) : Type 0 where
     pub set : RowSet
     pub chosen : Chosen j set
-    pub node : nodeAt (g A) z ≡ nodeOf v
+    pub node : nodeAt (g A) z ≡ nodeOf (nodeAt (g A) z .rows) v
     pub join : σ ≡ union set (nodeAt (g A) y .rows)
 
   -- what the step to the next alternative asks
@@ -161,19 +160,19 @@ module _ {ws : List ℕ} {w : Work} {c : Counts} {z y : ℕ} {n′ e′ a′ : B
 
   -- what the step says of the next alternative
   abbrev Tells : NextAlternative → Type 0
-  Tells v = WithAlternatives n′ a′ c (λ u. AmongAlternatives u y i → IsNextAlternative v i (c .alternatives) (alternativesFrom u y) (AmongAlternatives u y))
+  Tells v = WithAlternatives n′ a′ c (λ u. AmongAlternatives u y i → IsNextAlternative a′ v i (c .alternatives) (alternativesFrom u y) (AmongAlternatives u y))
 
   module _ {v : NextAlternative} (W : Tells v) where
     -- the alternatives of the start stand where they stood
-    told : {u : NextAlternative} → v ≡ u → IsNextAlternative u i (c .alternatives) (alternativesFrom (g A) y) (AmongAlternatives (g A) y)
+    told : {u : NextAlternative} → v ≡ u → IsNextAlternative a′ u i (c .alternatives) (alternativesFrom (g A) y) (AmongAlternatives (g A) y)
     told ev =
         let (more, q) = t .alternates .grows .alternatives in
         let same = alternatives-kept w (work n′ e′ a′) (so-far .grown) more q in
-        subst (λ (u : NextAlternative). IsNextAlternative u i (c .alternatives) (alternativesFrom (g A) y) (AmongAlternatives (g A) y)) ev
-        (next-alternative-same (g A) (graphOf (work n′ e′ a′) c) y i (c .alternatives) same v
+        subst (λ (u : NextAlternative). IsNextAlternative a′ u i (c .alternatives) (alternativesFrom (g A) y) (AmongAlternatives (g A) y)) ev
+        (next-alternative-same (g A) (graphOf (work n′ e′ a′) c) y i (c .alternatives) a′ same v
         (W e′ d (so-far .held) (so-far .grown) (among-alternatives-same (graphOf (work n′ e′ a′) c) (g A) y i (sym same) (t .among))))
 
-    pub turn-next : {j : ℕ} {b : Rows.RowSet} → v ≡ Next.At j b → Chosen j (valueOf b)
+    pub turn-next : {j : ℕ} → v ≡ Next.At j → Chosen j (setOf a′ (alternativeSize * j))
     turn-next ev = let (l, m, q, o) = told ev in record { from = l; below = m; here = q; among = o }
 
     none-left : v ≡ Next.End → alternativesFrom (g A) y i ≡ []
@@ -207,13 +206,28 @@ module _ {ws : List ℕ} {n e a : Bytes} {c : Counts} {z y : ℕ} {n′ e′ a�
   pub turn-less : c .alternatives - (j + 1) < c .alternatives - i
   turn-less = omega (arith, p .from, p .below)
 
-  pub turn-joined : (v u : D.Node) → nodeOf v ≡ nodeIn n z → nodeOf u ≡ nodeIn n y → {σ : RowSet} → σ ≡ union b (valueOf (u .rows)) → Joined t j v σ
-  turn-joined v u hv hu eσ = record {
-    set = b;
-    chosen = p;
-    node = graph-node (work n e a) c z (omega (arith, J (A t) .there, count-nodes (work n e a) c)) ∙ sym hv;
-    join = eσ ∙ ap (λ (q : Node). union b (q .rows)) (hu ∙ sym (graph-node (work n e a) c y (linked-there (A t .linked))));
-  }
+  -- the set of state y stands where it stood
+  state-set : setOf n′ (nodeSize * y) ≡ nodeAt (g (A t)) y .rows
+  state-set =
+      let l = linked-there (A t .linked) in
+      sym (graph-set (work n′ e′ a′) d y (omega (arith, so-far t .grown .nodes)))
+      ∙ ap (λ (q : Node). q .rows) (t .alternates .kept y (omega (arith, count-nodes (work n e a) c)))
+
+  pub turn-joined : (v : D.Node) → IsNode n z v → {σ : RowSet} → σ ≡ union b (setOf n′ (nodeSize * y)) → Joined t j v σ
+  turn-joined v hv eσ =
+      let l : z < c .nodes = omega (arith, J (A t) .there, count-nodes (work n e a) c) in
+      record {
+        set = b;
+        chosen = p;
+        node = graph-node (work n e a) c z l ∙ sym hv ∙ ap (λ (q : RowSet). nodeOf q v) (sym (graph-set (work n e a) c z l));
+        join = eσ ∙ ap (union b) state-set;
+      }
+
+  -- where both sets stand
+  pub turn-sets-inside : (alternativeSize * j + setSize ≤ length a′) × (nodeSize * y + setSize ≤ length n′)
+  turn-sets-inside =
+      let l = linked-there (A t .linked) in
+      (held-alternative (so-far t .held) (omega (arith, p .below, so-far t .grown .alternatives)), held-set (so-far t .held) (omega (arith, so-far t .grown .nodes)))
 
 -- ---- its put
 

@@ -1,14 +1,10 @@
 // The tableau over lent areas (01, The procedure).
 //
 // In order: putting a set; judging a node; the alternatives of a small state. They call each other: the rows missing from the set fall.
-ghost use mathlib.Core.Path.{_≡_};
-ghost use Rattle.procedure.specs.Graph as Graph;
-ghost use Rattle.procedure.specs.Tableau as Tableau;
 ghost use Rattle.records.specs.Codes.{statusOf};
-ghost use Rattle.records.specs.Records.{nodeOf};
 ghost use Rattle.graph.specs.Graphs.{work};
-ghost use Rattle.rowset.specs.Value.{valueOf};
-ghost use Rattle.tableau.specs.Contracts.{PutAsks, PutGives, JudgeAsks, JudgeGives, LinkedAsks, SmallAsks, SmallGives};
+ghost use Rattle.inplace.specs.Widths.{setOf};
+ghost use Rattle.tableau.specs.Contracts.{Below, PutAsks, PutGives, JudgeAsks, JudgeGives, LinkedAsks, SmallAsks, SmallGives};
 use graph::Counts;
 use graph::NextAlternative;
 use graph::Step;
@@ -16,16 +12,18 @@ use graph::add_edge;
 use graph::next_alternative;
 use graph::set_link;
 use graph::set_status;
+use inplace::SET_BYTES;
+use inplace::SET_WORDS;
 use problem::inverse;
 use records::Link;
 use records::Node;
 use records::Status;
+use records::alternative_set;
 use records::load_node;
-use rowset::RowSet;
-use rowset::is_empty;
-use rowset::union;
+use records::node_set;
 use settests::clash;
 use settests::lacking;
+use settests::lacks;
 use settests::unfinished;
 use steps::add_child;
 use steps::add_lapsed;
@@ -33,12 +31,11 @@ use steps::judge_branch;
 use steps::judge_state;
 use steps::link_special;
 
-// A node with this place, set and status, and no link.
-fn below(p: u16, role: u8, s: RowSet, status: Status) -> Node
-    ensures { λ r. ⌜ nodeOf r ≡ Tableau.below p role (valueOf s) (statusOf status) Graph.unlinked ⌝ }
+// A node with this place and status, and no link; with any set.
+fn below(p: u16, role: u8, status: Status) -> Node
+    ensures { λ r. ⌜ Below r p role (statusOf status) ⌝ }
 {
     Node {
-        rows: s,
         status,
         is_state: false,
         pst: p,
@@ -57,23 +54,24 @@ pub fn put(
     m: u16,
     p: u16,
     role: u8,
-    s: RowSet,
+    s: &[u8; SET_BYTES],
 ) -> Step
-    requires { ⌜ PutAsks (now problem) (work (now nodes) (now edges) (now alternatives)) c m p role (valueOf s) ⌝ }
-    ensures { λ r. ⌜ PutGives (now (problem .entry))
-        (work (now (nodes .entry)) (now (edges .entry)) (now (alternatives .entry))) c m p role (valueOf s) r (work (now (nodes .exit)) (now (edges .exit)) (now (alternatives .exit))) ⌝ }
+    requires { ⌜ PutAsks (now problem) (work (now nodes) (now edges) (now alternatives)) c m p role (setOf (now s) 0) ⌝ }
+    ensures { λ r. ⌜ PutGives (now (problem .entry)) (work (now (nodes .entry)) (now (edges .entry)) (now (alternatives .entry))) c m p role (setOf (now (s .entry)) 0)
+        r (work (now (nodes .exit)) (now (edges .exit)) (now (alternatives .exit))) ⌝ }
 {
-    if clash(problem, s) {
-        return add_child(nodes, edges, c, m, below(p, role, s, Status::Unsat));
+    if clash(problem, s, 0) {
+        return add_child(nodes, edges, c, m, s, below(p, role, Status::Unsat));
     }
-    if unfinished(problem, s) {
-        return add_child(nodes, edges, c, m, below(p, role, s, Status::Unset));
+    if unfinished(problem, s, 0) {
+        return add_child(nodes, edges, c, m, s, below(p, role, Status::Unset));
     }
-    let above = load_node(nodes, p as usize);
-    let set = above.rows;
-    let lacked = lacking(problem, s, inverse(role), set);
-    if !is_empty(lacked) {
-        return add_lapsed(nodes, edges, alternatives, c, m, p, role, s, lacked);
+    let above = node_set(p);
+    let back = inverse(role);
+    if lacks(problem, s, 0, back, nodes, above) {
+        let mut lacked = [0u8; SET_BYTES];
+        lacking(problem, s, 0, back, nodes, above, &mut lacked, 0);
+        return add_lapsed(nodes, edges, alternatives, c, m, p, role, s, &lacked);
     }
     let z = c.nodes;
     match link_special(nodes, edges, c, p, role, s) {
@@ -169,24 +167,18 @@ fn put_alternatives(
         (work (now (nodes .entry)) (now (edges .entry)) (now (alternatives .entry))) c z y r (work (now (nodes .exit)) (now (edges .exit)) (now (alternatives .exit))) ⌝ }
 {
     let node = load_node(nodes, z as usize);
-    let state = load_node(nodes, y as usize);
-    let set = state.rows;
     let mut cur = c;
     let mut i: usize = 0;
     loop {
-        let NextAlternative::At { index, rows: extra } = next_alternative(
-            nodes,
-            alternatives,
-            c,
-            y,
-            i,
-        ) else {
+        let NextAlternative::At(index) = next_alternative(nodes, alternatives, c, y, i) else {
             set_link(nodes, cur, z as usize, Link::Lapsed);
             judge_branch(nodes, edges, cur, z);
             return Step::Done(cur);
         };
         i = index + 1;
-        let joined = union(extra, set);
+        let mut joined = [0u8; SET_BYTES];
+        inplace::copy(&mut joined, 0, alternatives, alternative_set(index), SET_WORDS);
+        inplace::join(&mut joined, 0, nodes, node_set(y), SET_WORDS);
         match put(
             problem,
             nodes,
@@ -196,7 +188,7 @@ fn put_alternatives(
             z,
             node.pst,
             node.prl,
-            joined,
+            &joined,
         ) {
             Step::Full(area) => return Step::Full(area),
             Step::Done(next) => cur = next,

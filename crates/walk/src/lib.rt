@@ -29,6 +29,7 @@ use records::Link;
 use records::Status;
 use records::is_open;
 use records::load_node;
+use records::node_set;
 use settests::Exist;
 use settests::next_exist;
 
@@ -173,8 +174,7 @@ fn walk_rows(
     ensures { λ r. ⌜ Contracts.RowsGives (now (problem .entry)) (nodesEdges (now (nodes .entry)) (now (edges .entry))) c s d r (nodesEdges (now (nodes .exit)) (now (edges .exit))) ⌝ }
 {
     let x = load_state(nodes, d as usize);
-    let state = load_node(nodes, x as usize);
-    let set = state.rows;
+    let set = node_set(x);
     let mut cur = s;
     let mut k: usize = 0;
     let mut i: usize = 0;
@@ -183,7 +183,7 @@ fn walk_rows(
             row,
             role,
             argument: _,
-        } = next_exist(problem, set, k)
+        } = next_exist(problem, nodes, set, k)
         else {
             return cur;
         };

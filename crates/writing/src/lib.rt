@@ -23,16 +23,6 @@ use rowset::RowSet;
 use rowset::SET_BYTES;
 use words::put2;
 
-// The set of element d as the procedure placed it: that of the state for which it stands.
-fn set_of(nodes: &[u8], d: usize) -> RowSet
-    requires { ⌜ Fits nodeSize (now nodes) d × Fits nodeSize (now nodes) (stateIn (now nodes) d) ⌝ }
-    ensures { λ r. ⌜ valueOf r ≡ Writing.setIn (now (nodes .entry)) d ⌝ }
-{
-    let y = load_state(nodes, d) as usize;
-    let state = load_node(nodes, y);
-    state.rows
-}
-
 // Writes the names of each element where its rows will stand: a name holds "where the procedure placed its kind 1 row in the state's set".
 fn write_names(problem: &[u64], nodes: &[u8], count: usize, elements: &mut [u8])
     requires { ⌜ Decoded (now problem) × Writing.ElementsAsk (now nodes) count (now elements) ⌝ }
@@ -40,8 +30,8 @@ fn write_names(problem: &[u64], nodes: &[u8], count: usize, elements: &mut [u8])
 {
     let mut d = 0;
     while d < count {
-        let placed = set_of(nodes, d);
-        rowset::put(elements, SET_BYTES * d, settests::names(problem, placed));
+        let placed = node_set(load_state(nodes, d));
+        write_number(elements, SET_BYTES * d, settests::names(problem, nodes, placed));
         d += 1;
     }
 }
