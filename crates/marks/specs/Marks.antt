@@ -2,7 +2,6 @@
 -- each state, and the links in the order in which they are written. Laws are in MarkLaws.
 --
 -- In order: where marks may stand; a state's number, an element's state; a link; the example that they hold.
--- Assumes nothing.
 use mathlib.Core.List.{map}
 use Prim.Native.Nat.{ℕ}
 use Rattle.concepts.specs.Lists.{range}
@@ -10,48 +9,36 @@ use Rattle.meaning.specs.Given.{RoleLink}
 use Rattle.procedure.specs.Example.{Example}
 use Rattle.words.specs.Sizes.{nodeSize, edgeSize}
 use Rattle.records.specs.Areas.{Bytes, field, Beside}
+use Rattle.records.specs.Layout.{nodeExtent, numberAt, placedAt, nodeChains, edgeExtent, markFromAt, markRoleAt, markToAt, edgeChains}
 use Rattle.records.specs.Records.{nodeIn}
 use Rattle.marks.specs.declared.LinkMark.{LinkMark}
 
--- ---- where marks may stand
-
--- the bytes of a node's record that are for marks: from here on, and as far as here; likewise of an edge's
-abbrev pub nodeMarks : ℕ
-nodeMarks = 16
-
-abbrev pub nodeMarksEnd : ℕ
-nodeMarksEnd = 20
-
-abbrev pub edgeMarks : ℕ
-edgeMarks = 4
-
-abbrev pub edgeMarksEnd : ℕ
-edgeMarksEnd = 10
+-- ---- where marks may stand: between what is the graph's own and the chains
 
 -- nodes n became n′, edges e became e′: all is kept but marks
 abbrev pub NodesMarked : Bytes → Bytes → Type 0
-NodesMarked n n′ = Beside nodeSize nodeMarks nodeMarksEnd n n′
+NodesMarked n n′ = Beside nodeSize nodeExtent nodeChains n n′
 
 abbrev pub EdgesMarked : Bytes → Bytes → Type 0
-EdgesMarked e e′ = Beside edgeSize edgeMarks edgeMarksEnd e e′
+EdgesMarked e e′ = Beside edgeSize edgeExtent edgeChains e e′
 
 -- ---- the marks
 
--- 0, or one more than the number of the element that stands for state y: bytes 16 and 17 of node record y
+-- 0, or one more than the number of the element that stands for state y: in node record y
 unfoldable pub numberIn : Bytes → ℕ → ℕ
-numberIn n y = field nodeSize n y 16 2
+numberIn n y = field nodeSize n y numberAt 2
 
--- the state for which element d stands: bytes 18 and 19 of node record d
+-- the state for which element d stands: in node record d
 unfoldable pub stateIn : Bytes → ℕ → ℕ
-stateIn n d = field nodeSize n d 18 2
+stateIn n d = field nodeSize n d placedAt 2
 
 -- the link that a value of the code means
 abbrev pub roleLinkOf : LinkMark → RoleLink
 roleLinkOf l = record { from = l .from; role = l .role; to = l .to }
 
--- link k: bytes 4 to 9 of edge record k
+-- link k: in edge record k
 unfoldable pub roleLinkIn : Bytes → ℕ → RoleLink
-roleLinkIn e k = record { from = field edgeSize e k 4 2; role = field edgeSize e k 6 2; to = field edgeSize e k 8 2 }
+roleLinkIn e k = record { from = field edgeSize e k markFromAt 2; role = field edgeSize e k markRoleAt 2; to = field edgeSize e k markToAt 2 }
 
 -- ---- the example
 

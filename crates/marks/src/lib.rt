@@ -10,6 +10,11 @@ ghost use Rattle.marks.specs.Marked.{NumberStored, StateStored, LinkStor
 use graph::Counts;
 use records::EDGE_BYTES;
 use records::NODE_BYTES;
+use records::layout::MARK_FROM_AT;
+use records::layout::MARK_ROLE_AT;
+use records::layout::MARK_TO_AT;
+use records::layout::NUMBER_AT;
+use records::layout::PLACED_AT;
 use words::get2;
 use words::put2;
 
@@ -26,23 +31,12 @@ pub struct LinkMark {
     pub to: u16,
 }
 
-// Where the marks stand in a record: a state's number, an element's state, and a link's from, role and to.
-const NUMBER: usize = 16;
-
-const STATE: usize = 18;
-
-const FROM: usize = 4;
-
-const ROLE: usize = 6;
-
-const TO: usize = 8;
-
 // 0, or one more than the number of the element that stands for state y.
 pub fn load_number(nodes: &[u8], y: usize) -> u16
     requires { ⌜ Fits nodeSize (now nodes) y ⌝ }
     ensures { λ r. ⌜ r ≡ numberIn (now (nodes .entry)) y ⌝ }
 {
-    get2(nodes, NODE_BYTES * y + NUMBER)
+    get2(nodes, NODE_BYTES * y + NUMBER_AT)
 }
 
 // Gives state y the number v.
@@ -50,7 +44,7 @@ pub fn store_number(nodes: &mut [u8], y: usize, v: u16)
     requires { ⌜ Fits nodeSize (now nodes) y ⌝ }
     ensures { λ _. ⌜ NumberStored (now (nodes .entry)) (now (nodes .exit)) y v ⌝ }
 {
-    put2(nodes, NODE_BYTES * y + NUMBER, v);
+    put2(nodes, NODE_BYTES * y + NUMBER_AT, v);
 }
 
 // The state for which element d stands.
@@ -58,7 +52,7 @@ pub fn load_state(nodes: &[u8], d: usize) -> u16
     requires { ⌜ Fits nodeSize (now nodes) d ⌝ }
     ensures { λ r. ⌜ r ≡ stateIn (now (nodes .entry)) d ⌝ }
 {
-    get2(nodes, NODE_BYTES * d + STATE)
+    get2(nodes, NODE_BYTES * d + PLACED_AT)
 }
 
 // Lets element d stand for state y.
@@ -66,7 +60,7 @@ pub fn store_state(nodes: &mut [u8], d: usize, y: u16)
     requires { ⌜ Fits nodeSize (now nodes) d ⌝ }
     ensures { λ _. ⌜ StateStored (now (nodes .entry)) (now (nodes .exit)) d y ⌝ }
 {
-    put2(nodes, NODE_BYTES * d + STATE, y);
+    put2(nodes, NODE_BYTES * d + PLACED_AT, y);
 }
 
 // Link k.
@@ -76,9 +70,9 @@ pub fn load_role_link(edges: &[u8], k: usize) -> LinkMark
 {
     let at = EDGE_BYTES * k;
     LinkMark {
-        from: get2(edges, at + FROM),
-        role: get2(edges, at + ROLE),
-        to: get2(edges, at + TO),
+        from: get2(edges, at + MARK_FROM_AT),
+        role: get2(edges, at + MARK_ROLE_AT),
+        to: get2(edges, at + MARK_TO_AT),
     }
 }
 
@@ -88,9 +82,9 @@ pub fn store_role_link(edges: &mut [u8], k: usize, l: LinkMark)
     ensures { λ _. ⌜ LinkStored (now (edges .entry)) (now (edges .exit)) k (roleLinkOf l) ⌝ }
 {
     let at = EDGE_BYTES * k;
-    put2(edges, at + FROM, l.from);
-    put2(edges, at + ROLE, l.role);
-    put2(edges, at + TO, l.to);
+    put2(edges, at + MARK_FROM_AT, l.from);
+    put2(edges, at + MARK_ROLE_AT, l.role);
+    put2(edges, at + MARK_TO_AT, l.to);
 }
 
 // No state has a number.

@@ -1,5 +1,4 @@
 -- `marks::clear_numbers` meets its contract: the invariant is that the states below `y` have no number.
--- Assumes nothing.
 use Prim.Native.Nat.{_-_, _≤_}
 use native.Mathlib.Omega.{arith}
 use borrow.Author.Needs.{needs}
@@ -27,7 +26,8 @@ clear-numbers-spec =
     (λ c κs. let s : At tie.Start = search in let l : At tie.At-loop = search in cleared-fits (l .loop .inv .1) (s .pre) (omega arith))
     -- y += 1, the loop again
     (λ c. omega arith) (λ c. omega arith)
-    (λ c. let l : At tie.At-loop = search in let w : At tie.After-store-number = search in (omega arith, cleared-more (l .loop .inv .1) (w .store-number .ensures)))
+    (λ c. let l : At tie.At-loop = search in let w : At tie.After-store-number = search in
+    (omega arith, cleared-more (l .loop .inv .1) (w .store-number .ensures)))
     -- the end
     (λ c. c .before .loop .inv .1 .beside .long)
     (λ c. let l = c .before .loop in cleared-all (l .inv .1) (l .inv .0) (omega arith)))

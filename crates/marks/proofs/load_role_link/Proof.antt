@@ -1,5 +1,4 @@
 -- `marks::load_role_link` meets its contract: it reads the bytes that hold the link.
--- Assumes nothing.
 use borrow.Author.Needs.{needs}
 use Rattle.marks.specs.Marks.{roleLinkIn}
 use Rattle.marks.proofs.load_role_link.Statement.{statement}
@@ -15,7 +14,7 @@ load-role-link-spec =
     (tie.spec
     -- EDGE_BYTES * k
     (λ c. search needs)
-    -- get2(edges, at + FROM), get2(edges, at + ROLE), get2(edges, at + TO)
+    -- get2(edges, at + MARK_FROM_AT), get2(edges, at + MARK_ROLE_AT), get2(edges, at + MARK_TO_AT)
     (λ c. search needs) (λ c κs. search needs)
     (λ c. search needs) (λ c κs. search needs)
     (λ c. search needs) (λ c κs. search needs)

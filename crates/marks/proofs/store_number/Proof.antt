@@ -1,5 +1,4 @@
 -- `marks::store_number` meets its contract: it writes the bytes that hold the number.
--- Assumes nothing.
 use borrow.Author.Needs.{needs}
 use Rattle.marks.specs.MarkLaws.{number-stored}
 use Rattle.marks.proofs.store_number.Statement.{statement}
@@ -8,7 +7,7 @@ use Rattle.marks.proofs.store_number.Tie as tie
 pub store-number-spec : {M : Type 1} → statement M
 store-number-spec =
     tie.close (tie.spec
-    -- put2(nodes, NODE_BYTES * y + NUMBER, v)
+    -- put2(nodes, NODE_BYTES * y + NUMBER_AT, v)
     (λ c. search needs) (λ c. search needs) (λ c κs. search needs)
     -- the end
     (λ c. search needs)

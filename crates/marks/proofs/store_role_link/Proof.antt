@@ -1,5 +1,4 @@
 -- `marks::store_role_link` meets its contract: it writes the bytes that hold the link.
--- Assumes nothing.
 use borrow.Author.Needs.{needs}
 use Rattle.marks.specs.MarkLaws.{link-stored}
 use Rattle.marks.proofs.store_role_link.Statement.{statement}
@@ -10,7 +9,7 @@ store-role-link-spec =
     tie.close (tie.spec
     -- EDGE_BYTES * k
     (λ c. search needs)
-    -- put2(edges, at + FROM, l.from), put2(edges, at + ROLE, l.role), put2(edges, at + TO, l.to)
+    -- put2(edges, at + MARK_FROM_AT, l.from), put2(edges, at + MARK_ROLE_AT, l.role), put2(edges, at + MARK_TO_AT, l.to)
     (λ c. search needs) (λ c κs. search needs)
     (λ c. search needs) (λ c κs. search needs)
     (λ c. search needs) (λ c κs. search needs)
