@@ -1,135 +1,115 @@
+-- `settests::join_box` meets its contract: the invariant of both loops is that the set so far and the arguments of the rows left make the whole set.
+-- That of the inner loop is of the set and the rows where this loop begins.
+use mathlib.Core.Path.{_≡_, refl, ap, _∙_}
+use mathlib.Core.List.{List}
+use Prim.Native.Nat.{ℕ, _-_}
+use native.Mathlib.Omega.{arith}
+use lib.ListN.{length}
+use Rattle.concepts.specs.Inclusion.{narrower}
+use Rattle.concepts.specs.RowSet.{RowSet, union, fromList}
+use Rattle.procedure.specs.SetTests.{box}
+use Rattle.words.specs.Sizes.{setWords}
+use Rattle.words.specs.WordLaws.{length-putLe}
+use Rattle.inplace.specs.Widths.{setOf}
+use Rattle.problem.specs.Decoded.{tableOf, problemOf, universal}
+use Rattle.settests.specs.MaskLoops.{wordOf, leftOver, Loop, loop-begins, loop-passes, loop-ends, loop-also, NextRow, next-row, loop-after}
+use Rattle.settests.specs.AnswerLaws.{leftParts, gather-more, gather-none, box-masked}
+use borrow.Author.Needs.{needs}
 use Rattle.settests.proofs.join_box.Statement.{statement}
 use Rattle.settests.proofs.join_box.Tie as tie
-use Rattle.settests.proofs.join_box.Reads as reads
-use Rattle.settests.proofs.join_box.Lts as lts
-use Rattle.inplace.proofs.insert.Reads as insert-reads
-use Rattle.inplace.proofs.word.Reads as word-reads
-use Rattle.problem.proofs.left_at.Reads as left-at-reads
-use Rattle.problem.proofs.universal.Reads as universal-reads
-use Rattle.problem.proofs.words_used.Reads as words-used-reads
+
+-- the loop goes over the rows along the role
+abbrev Along : List ℕ → ℕ → List ℕ → ℕ → ℕ → (RowSet → Type 0) → ℕ → ℕ → Type 0
+Along problem mask s at role = Loop problem (universal (narrower (tableOf problem)) role) mask s at
+
+-- the set so far and the arguments of the rows x are the first set and what is to join it
+abbrev Gathered : List ℕ → List ℕ → ℕ → RowSet → List ℕ → RowSet → Type 0
+Gathered problem out₀ to joined out x = (length out ≡ length out₀) × (union (setOf out to) (leftParts (tableOf problem) x) ≡ union (setOf out₀ to) joined)
 
 abbrev Inv-loop2 : tie.InvT-loop2
-Inv-loop2 problem s at role out₀ to mask n j m₀ out m = ?
+Inv-loop2 problem s at role out₀ to mask n j m₀ out m =
+    Along problem mask s at role (Gathered problem out₀ to (leftParts (tableOf problem) (leftOver problem mask s at j m₀)) out) j m
 
 abbrev μ-loop2 : tie.MeasureT-loop2
-μ-loop2 problem s at role out₀ to mask n j m₀ out m = ?
+μ-loop2 problem s at role out₀ to mask n j m₀ out m = m
 
 abbrev Inv-loop : tie.InvT-loop
-Inv-loop problem s at role out₀ to mask n j₀ out j = ?
+Inv-loop problem s at role out₀ to mask n j₀ out j =
+    Along problem mask s at role (Gathered problem out₀ to (fromList (box (problemOf problem) (setOf s at) role)) out) j (wordOf problem mask s at j)
 
 abbrev μ-loop : tie.MeasureT-loop
-μ-loop problem s at role out₀ to mask n j₀ out j = ?
+μ-loop problem s at role out₀ to mask n j₀ out j = n - j
 
--- src/lib.rt:104:9
-universal-requires : tie.Need-universal-requires Inv-loop2 μ-loop2 Inv-loop μ-loop
-universal-requires c κs = ?
-
--- src/lib.rt:105:9
-words-used-requires : tie.Need-words-used-requires Inv-loop2 μ-loop2 Inv-loop μ-loop
-words-used-requires c κs = ?
-
--- src/lib.rt:107:5
 loop-holds : tie.Need-loop-holds Inv-loop2 μ-loop2 Inv-loop μ-loop
-loop-holds c = ?
+loop-holds c =
+    let known = c .before .before .before in
+    let s : tie.Start Inv-loop2 μ-loop2 Inv-loop μ-loop = search in
+    let a = s .args in
+    let mask = c .before .universal .ensures in
+    loop-begins record {
+      decoded = s .pre .0;
+      masking = mask;
+      words = λ i. omega (arith, known .before .shared-slice-known .given i);
+      bytes = λ i. omega (arith, known .shared-slice-known2 .given i);
+      room = s .pre .1;
+    } (refl, ap (union (setOf (a .out .now) (a .to))) (box-masked (problemOf (a .problem .now)) (setOf (a .s .now) (a .at)) (a .role) (mask .picked)))
 
--- src/lib.rt:108:21
-word-requires : tie.Need-word-requires Inv-loop2 μ-loop2 Inv-loop μ-loop
-word-requires c κs = ?
-
--- src/lib.rt:108:46
-add-m : tie.Need-add-m Inv-loop2 μ-loop2 Inv-loop μ-loop
-add-m c = ?
-
--- src/lib.rt:108:38
-mul-m : tie.Need-mul-m Inv-loop2 μ-loop2 Inv-loop μ-loop
-mul-m c = ?
-
--- src/lib.rt:108:38
-shared-slice-read-m : tie.Need-shared-slice-read-m Inv-loop2 μ-loop2 Inv-loop μ-loop
-shared-slice-read-m c = ?
-
--- src/lib.rt:109:9
 loop2-holds : tie.Need-loop2-holds Inv-loop2 μ-loop2 Inv-loop μ-loop
-loop2-holds c = ?
+loop2-holds c = rw (c .before .word .ensures) (loop-also (c .before .before .before .loop .inv) (refl, refl))
 
--- src/lib.rt:110:50
-mul-left-at : tie.Need-mul-left-at Inv-loop2 μ-loop2 Inv-loop μ-loop
-mul-left-at c = ?
+-- a row of word j
+abbrev Row : Type 0
+Row = tie.In-loop2 Inv-loop2 μ-loop2 Inv-loop μ-loop
 
--- src/lib.rt:110:59
-cast-left-at : tie.Need-cast-left-at Inv-loop2 μ-loop2 Inv-loop μ-loop
-cast-left-at c = ?
+next : (c : Row) → NextRow (c .before .loop2 .inv)
+next c = next-row (c .before .loop2 .inv) (omega arith) (c .loop2-test .taken)
 
--- src/lib.rt:110:50
-add-left-at : tie.Need-add-left-at Inv-loop2 μ-loop2 Inv-loop μ-loop
-add-left-at c = ?
-
--- src/lib.rt:110:17
-left-at-requires : tie.Need-left-at-requires Inv-loop2 μ-loop2 Inv-loop μ-loop
-left-at-requires c κs = ?
-
--- src/lib.rt:111:13
 insert-requires : tie.Need-insert-requires Inv-loop2 μ-loop2 Inv-loop μ-loop
-insert-requires c κs = ?
+insert-requires c κs = omega arith
 
--- src/lib.rt:112:22
-sub-m : tie.Need-sub-m Inv-loop2 μ-loop2 Inv-loop μ-loop
-sub-m c = ?
-
--- src/lib.rt:109:9
-loop2-less : tie.Need-loop2-less Inv-loop2 μ-loop2 Inv-loop μ-loop
-loop2-less c = ?
-
--- src/lib.rt:109:9
 loop2-again : tie.Need-loop2-again Inv-loop2 μ-loop2 Inv-loop μ-loop
-loop2-again c = ?
+loop2-again c =
+    let i : Row = search in
+    let s : tie.Start Inv-loop2 μ-loop2 Inv-loop μ-loop = search in
+    let read : tie.After-left-at Inv-loop2 μ-loop2 Inv-loop μ-loop = search in
+    let put : tie.After-insert Inv-loop2 μ-loop2 Inv-loop μ-loop = search in
+    let l = i .before .loop2 in
+    let (long, whole) = l .inv .midway .holds in
+    let t = next i in
+    loop-after (l .inv) t (
+      ap length (put .insert .ensures .0) ∙ (simp length-putLe) ∙ long,
+      gather-more (tableOf (s .args .problem .now)) (t .lowest .low) (t .inside) (read .left-at .ensures .0) (setOf (l .out) (s .args .to))
+          (put .insert .ensures .1 setWords (read .left-at .ensures .1)) ∙ whole,
+    )
 
--- src/lib.rt:114:9
-add-j : tie.Need-add-j Inv-loop2 μ-loop2 Inv-loop μ-loop
-add-j c = ?
-
--- src/lib.rt:107:5
-loop-less : tie.Need-loop-less Inv-loop2 μ-loop2 Inv-loop μ-loop
-loop-less c = ?
-
--- src/lib.rt:107:5
 loop-again : tie.Need-loop-again Inv-loop2 μ-loop2 Inv-loop μ-loop
-loop-again c = ?
+loop-again c =
+    let l : tie.At-loop Inv-loop2 μ-loop2 Inv-loop μ-loop = search in
+    let read : tie.After-word Inv-loop2 μ-loop2 Inv-loop μ-loop = search in
+    let inner = c .before .loop2 .inv in
+    let (long, whole) = l .loop .inv .midway .holds in
+    let (kept, more) = inner .midway .holds in
+    loop-passes (loop-also inner (kept ∙ long, (rw (read .word .ensures) at more) ∙ whole)) (c .loop2-test .left)
 
--- src/lib.rt:98:1
-same-length : tie.Need-same-length Inv-loop2 μ-loop2 Inv-loop μ-loop
-same-length c = ?
-
--- src/lib.rt:98:1
 returns : tie.Need-returns Inv-loop2 μ-loop2 Inv-loop μ-loop
-returns c = ?
+returns c =
+    let s : tie.Start Inv-loop2 μ-loop2 Inv-loop μ-loop = search in
+    let l = c .before .loop in
+    let (long, whole) = loop-ends (l .inv) (omega arith) in
+    (long, gather-none (tableOf (s .args .problem .now)) (setOf (l .out) (s .args .to)) ∙ whole)
 
 pub join-box-spec : {M : Type 1} → statement M
 join-box-spec =
-    tie.close
-    (tie.spec
-    Inv-loop2
-    μ-loop2
-    Inv-loop
-    μ-loop
-    universal-requires
-    words-used-requires
-    loop-holds
-    word-requires
-    add-m
-    mul-m
-    shared-slice-read-m
-    loop2-holds
-    mul-left-at
-    cast-left-at
-    add-left-at
-    left-at-requires
-    insert-requires
-    sub-m
-    loop2-less
-    loop2-again
-    add-j
-    loop-less
-    loop-again
-    same-length
-    returns)
+    tie.close (tie.spec
+    Inv-loop2 μ-loop2 Inv-loop μ-loop
+    -- universal(problem, role), words_used(problem)
+    (λ c κs. search needs) (λ c κs. search needs) loop-holds
+    -- word(s, at, j) & problem[mask + j]
+    (λ c κs. omega arith) (λ c. omega arith) (λ c. omega arith) (λ c. omega arith) loop2-holds
+    -- left_at(problem, 64 * j + u64::trailing_zeros(m) as usize), insert(out, to, left)
+    (λ c. omega arith) (λ c. let t = next c in omega arith) (λ c. let t = next c in omega arith)
+    (λ c κs. (c .before .loop2 .inv .reading .decoded, next c .below)) insert-requires
+    -- m & (m - 1), and the inner loop again
+    (λ c. let t = next (search) in omega arith) (λ c. next (search) .lowest .less) loop2-again
+    -- j + 1, and the loop again
+    (λ c. omega arith) (λ c. omega arith) loop-again (λ c. c .before .loop .inv .midway .holds .0) returns)

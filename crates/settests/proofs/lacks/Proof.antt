@@ -1,135 +1,121 @@
+-- `settests::lacks` meets its contract: the invariant of both loops is that what the set above lacks of the arguments of the rows left is what it lacks of all.
+use mathlib.Core.Path.{_≡_, sym, ap, _∙_}
+use mathlib.Core.Bool.{not}
+use mathlib.Core.List.{List}
+use Prim.Native.Nat.{ℕ, _-_}
+use native.Mathlib.Omega.{arith}
+use lib.Dec.{eqb}
+use borrow.Author.Tests.{not-true, not-false}
+use Rattle.concepts.specs.Inclusion.{narrower}
+use Rattle.concepts.specs.RowSet.{RowSet, empty, minus}
+use Rattle.procedure.specs.SetTests.{lacking}
+use Rattle.words.specs.Sizes.{setWords}
+use Rattle.inplace.specs.Widths.{setOf}
+use Rattle.problem.specs.Decoded.{tableOf, problemOf, universal}
+use Rattle.settests.specs.MaskLoops.{wordOf, Loop, loop-begins, loop-passes, loop-ends, NextRow, next-row, loop-after}
+use Rattle.settests.specs.AnswerLaws.{leftParts, lacks-here, lacks-later, lacks-none, box-masked, minus-lacking}
+use borrow.Author.Needs.{needs}
 use Rattle.settests.proofs.lacks.Statement.{statement}
 use Rattle.settests.proofs.lacks.Tie as tie
-use Rattle.settests.proofs.lacks.Reads as reads
-use Rattle.settests.proofs.lacks.Lts as lts
-use Rattle.inplace.proofs.mem.Reads as mem-reads
-use Rattle.inplace.proofs.word.Reads as word-reads
-use Rattle.problem.proofs.left_at.Reads as left-at-reads
-use Rattle.problem.proofs.universal.Reads as universal-reads
-use Rattle.problem.proofs.words_used.Reads as words-used-reads
+
+-- the set a lacks of the arguments of the rows x what it lacks of all
+abbrev Lacked : List ℕ → List ℕ → ℕ → ℕ → RowSet → RowSet → Type 0
+Lacked problem s at role a x = minus (leftParts (tableOf problem) x) a ≡ lacking (problemOf problem) (setOf s at) role a
+
+-- the loop goes over the rows along the role
+abbrev Along : List ℕ → ℕ → List ℕ → ℕ → ℕ → RowSet → ℕ → ℕ → Type 0
+Along problem mask s at role a = Loop problem (universal (narrower (tableOf problem)) role) mask s at (Lacked problem s at role a)
 
 abbrev Inv-loop2 : tie.InvT-loop2
-Inv-loop2 problem s at role above there mask n j m₀ m = ?
+Inv-loop2 problem s at role above there mask n j m₀ m = Along problem mask s at role (setOf above there) j m
 
 abbrev μ-loop2 : tie.MeasureT-loop2
-μ-loop2 problem s at role above there mask n j m₀ m = ?
+μ-loop2 problem s at role above there mask n j m₀ m = m
 
 abbrev Inv-loop : tie.InvT-loop
-Inv-loop problem s at role above there mask n j₀ j = ?
+Inv-loop problem s at role above there mask n j₀ j = Along problem mask s at role (setOf above there) j (wordOf problem mask s at j)
 
 abbrev μ-loop : tie.MeasureT-loop
-μ-loop problem s at role above there mask n j₀ j = ?
+μ-loop problem s at role above there mask n j₀ j = n - j
 
--- src/lib.rt:124:9
-universal-requires : tie.Need-universal-requires Inv-loop2 μ-loop2 Inv-loop μ-loop
-universal-requires c κs = ?
-
--- src/lib.rt:125:9
-words-used-requires : tie.Need-words-used-requires Inv-loop2 μ-loop2 Inv-loop μ-loop
-words-used-requires c κs = ?
-
--- src/lib.rt:127:5
 loop-holds : tie.Need-loop-holds Inv-loop2 μ-loop2 Inv-loop μ-loop
-loop-holds c = ?
+loop-holds c =
+    let known = c .before .before .before in
+    let s : tie.Start Inv-loop2 μ-loop2 Inv-loop μ-loop = search in
+    let a = s .args in
+    let P = problemOf (a .problem .now) in
+    let set = setOf (a .s .now) (a .at) in
+    let above = setOf (a .above .now) (a .there) in
+    let mask = c .before .universal .ensures in
+    loop-begins record {
+      decoded = s .pre .0;
+      masking = mask;
+      words = λ i. omega (arith, known .before .shared-slice-known .given i);
+      bytes = λ i. omega (arith, known .shared-slice-known2 .given i);
+      room = s .pre .1;
+    } (ap (λ (x : RowSet). minus x above) (box-masked P set (a .role) (mask .picked)) ∙ minus-lacking P set (a .role) above)
 
--- src/lib.rt:128:21
-word-requires : tie.Need-word-requires Inv-loop2 μ-loop2 Inv-loop μ-loop
-word-requires c κs = ?
-
--- src/lib.rt:128:46
-add-m : tie.Need-add-m Inv-loop2 μ-loop2 Inv-loop μ-loop
-add-m c = ?
-
--- src/lib.rt:128:38
-mul-m : tie.Need-mul-m Inv-loop2 μ-loop2 Inv-loop μ-loop
-mul-m c = ?
-
--- src/lib.rt:128:38
-shared-slice-read-m : tie.Need-shared-slice-read-m Inv-loop2 μ-loop2 Inv-loop μ-loop
-shared-slice-read-m c = ?
-
--- src/lib.rt:129:9
 loop2-holds : tie.Need-loop2-holds Inv-loop2 μ-loop2 Inv-loop μ-loop
-loop2-holds c = ?
+loop2-holds c = rw (c .before .word .ensures) (c .before .before .before .loop .inv)
 
--- src/lib.rt:130:50
-mul-left-at : tie.Need-mul-left-at Inv-loop2 μ-loop2 Inv-loop μ-loop
-mul-left-at c = ?
+-- a row of word j
+abbrev Row : Type 0
+Row = tie.In-loop2 Inv-loop2 μ-loop2 Inv-loop μ-loop
 
--- src/lib.rt:130:59
-cast-left-at : tie.Need-cast-left-at Inv-loop2 μ-loop2 Inv-loop μ-loop
-cast-left-at c = ?
+next : (c : Row) → NextRow (c .before .loop2 .inv)
+next c = next-row (c .before .loop2 .inv) (omega arith) (c .loop2-test .taken)
 
--- src/lib.rt:130:50
-add-left-at : tie.Need-add-left-at Inv-loop2 μ-loop2 Inv-loop μ-loop
-add-left-at c = ?
-
--- src/lib.rt:130:17
-left-at-requires : tie.Need-left-at-requires Inv-loop2 μ-loop2 Inv-loop μ-loop
-left-at-requires c κs = ?
-
--- src/lib.rt:131:17
-mem-requires : tie.Need-mem-requires Inv-loop2 μ-loop2 Inv-loop μ-loop
-mem-requires c κs = ?
-
--- src/lib.rt:132:17
+-- the argument is lacked
 returns : tie.Need-returns Inv-loop2 μ-loop2 Inv-loop μ-loop
-returns c = ?
+returns c =
+    let i : Row = search in
+    let s : tie.Start Inv-loop2 μ-loop2 Inv-loop μ-loop = search in
+    let read : tie.After-left-at Inv-loop2 μ-loop2 Inv-loop μ-loop = search in
+    let test : tie.After-mem Inv-loop2 μ-loop2 Inv-loop μ-loop = search in
+    let out = sym (test .mem .ensures setWords (read .left-at .ensures .1)) ∙ not-true (test .mem .result) (c .if1 .taken) in
+    let t = next i in
+    lacks-here (tableOf (s .args .problem .now)) (t .lowest .low) (t .inside) (read .left-at .ensures .0) (setOf (s .args .above .now) (s .args .there)) out
+    ∙ ap (λ (x : RowSet). not (eqb x empty)) (i .before .loop2 .inv .midway .holds)
 
--- src/lib.rt:134:22
-sub-m : tie.Need-sub-m Inv-loop2 μ-loop2 Inv-loop μ-loop
-sub-m c = ?
-
--- src/lib.rt:129:9
-loop2-less : tie.Need-loop2-less Inv-loop2 μ-loop2 Inv-loop μ-loop
-loop2-less c = ?
-
--- src/lib.rt:129:9
+-- it is not
 loop2-again : tie.Need-loop2-again Inv-loop2 μ-loop2 Inv-loop μ-loop
-loop2-again c = ?
+loop2-again c =
+    let i : Row = search in
+    let s : tie.Start Inv-loop2 μ-loop2 Inv-loop μ-loop = search in
+    let read : tie.After-left-at Inv-loop2 μ-loop2 Inv-loop μ-loop = search in
+    let test : tie.After-mem Inv-loop2 μ-loop2 Inv-loop μ-loop = search in
+    let has = sym (test .mem .ensures setWords (read .left-at .ensures .1)) ∙ not-false (test .mem .result) (c .if1 .left) in
+    let inv = i .before .loop2 .inv in
+    let t = next i in
+    loop-after inv t
+    (lacks-later (tableOf (s .args .problem .now)) (t .lowest .low) (t .inside) (read .left-at .ensures .0) (setOf (s .args .above .now) (s .args .there)) has
+    ∙ inv .midway .holds)
 
--- src/lib.rt:136:9
-add-j : tie.Need-add-j Inv-loop2 μ-loop2 Inv-loop μ-loop
-add-j c = ?
-
--- src/lib.rt:127:5
-loop-less : tie.Need-loop-less Inv-loop2 μ-loop2 Inv-loop μ-loop
-loop-less c = ?
-
--- src/lib.rt:127:5
 loop-again : tie.Need-loop-again Inv-loop2 μ-loop2 Inv-loop μ-loop
-loop-again c = ?
+loop-again c = loop-passes (c .before .loop2 .inv) (c .loop2-test .left)
 
--- src/lib.rt:119:1
 returns-2 : tie.Need-returns-2 Inv-loop2 μ-loop2 Inv-loop μ-loop
-returns-2 c = ?
+returns-2 c =
+    let s : tie.Start Inv-loop2 μ-loop2 Inv-loop μ-loop = search in
+    let none = lacks-none (tableOf (s .args .problem .now)) (setOf (s .args .above .now) (s .args .there)) in
+    ap (λ (x : RowSet). not (eqb x empty)) (sym none ∙ loop-ends (c .before .loop .inv) (omega arith))
 
 pub lacks-spec : {M : Type 1} → statement M
 lacks-spec =
-    tie.close
-    (tie.spec
-    Inv-loop2
-    μ-loop2
-    Inv-loop
-    μ-loop
-    universal-requires
-    words-used-requires
-    loop-holds
-    word-requires
-    add-m
-    mul-m
-    shared-slice-read-m
-    loop2-holds
-    mul-left-at
-    cast-left-at
-    add-left-at
-    left-at-requires
-    mem-requires
+    tie.close (tie.spec
+    Inv-loop2 μ-loop2 Inv-loop μ-loop
+    -- universal(problem, role), words_used(problem)
+    (λ c κs. search needs) (λ c κs. search needs) loop-holds
+    -- word(s, at, j) & problem[mask + j]
+    (λ c κs. omega arith) (λ c. omega arith) (λ c. omega arith) (λ c. omega arith) loop2-holds
+    -- left_at(problem, 64 * j + u64::trailing_zeros(m) as usize), mem(above, there, left)
+    (λ c. omega arith) (λ c. let t = next c in omega arith) (λ c. let t = next c in omega arith)
+    (λ c κs. (c .before .loop2 .inv .reading .decoded, next c .below)) (λ c κs. omega arith)
+    -- return true
     returns
-    sub-m
-    loop2-less
-    loop2-again
-    add-j
-    loop-less
-    loop-again
+    -- m & (m - 1), and the inner loop again
+    (λ c. let t = next (search) in omega arith) (λ c. next (search) .lowest .less) loop2-again
+    -- j + 1, and the loop again
+    (λ c. omega arith) (λ c. omega arith) loop-again
+    -- false
     returns-2)
