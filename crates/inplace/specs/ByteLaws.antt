@@ -7,11 +7,13 @@ use native.Mathlib.Nat.{pow-suc}
 use native.Mathlib.Decide.{ℕ-discrete}
 use native.Mathlib.Omega.{arith}
 use lib.Dec.{eqb}
-use lib.ListN.{length, getD}
+use lib.ListN.{length, getD, replicate}
 use borrow.Author.Tests.{eq-eqb, ne-eqb}
-use Rattle.concepts.specs.RowSet.{mem, insert}
+use Rattle.concepts.specs.RowSet.{mem, insert, empty}
 use Rattle.words.specs.Words.{leAt, putLe}
 use Rattle.words.specs.WordLaws.{leAt-add, leAt-same, leAt-putLe, below-putLe, above-putLe}
+use Rattle.words.specs.Sizes.{setSize}
+use Rattle.inplace.specs.Widths.{setOf}
 use Rattle.inplace.specs.Joined.{joined, Fit, place, wordAt, setAt, maskAt}
 use Rattle.inplace.specs.JoinedLaws.{mem-joined, joined-same, joined-apart, joined-insert, joined-true, joined-false, place-64}
 
@@ -38,6 +40,11 @@ set-words b (suc n) at =
     let g : at + 8 * 0 ≡ at = omega arith in
     let h : wordAt b at 0 ≡ leAt b at 8 = ap (λ (x : ℕ). leAt b x 8) g in
     ap (leAt b at) e ∙ leAt-add b at 8 (8 * n) ∙ omega (arith, f, h, set-words b n (at + 8))
+
+-- a local array that was just made holds the empty set
+pub zeros-empty : setOf (replicate setSize 0) 0 ≡ empty
+unfolding leAt
+zeros-empty = refl
 
 -- ---- a word written
 

@@ -1,7 +1,6 @@
 -- The proof of the cycle of calls {put, judge, judge_linked, put_alternatives}: each alternative adds a row to its state's set.
 --
 -- In order: what falls from call to call; the places in each function that others speak of; the needs, in the code's order.
--- Assumes nothing.
 use mathlib.Core.List.{List}
 use Prim.Native.Nat.{ℕ, _+_, _-_, _*_, _<_}
 use native.Mathlib.Omega.{arith}
@@ -12,7 +11,8 @@ use borrow.Fn.PlainCycle.{Measures, is, falls, and}
 use Rattle.procedure.specs.Graph.{nodeAt}
 use Rattle.graph.specs.Graphs.{Work, work, graphOf}
 use Rattle.graph.specs.declared.Counts.{Counts}
-use Rattle.rowset.specs.Value.{valueOf}
+use Rattle.words.specs.Sizes.{alternativeSize}
+use Rattle.inplace.specs.Widths.{setOf}
 use Rattle.tableau.specs.Contracts.{lacks}
 use Rattle.tableau.specs.JudgeCases.{judge-judges, judge-links, judge-lapses, judge-states, judge-branches, linked-fits, linked-sets}
 use Rattle.tableau.specs.JudgeCases.{takes-sat, takes-unsat, takes-unset, takes-open, linked-small, small-judges}
@@ -25,11 +25,14 @@ use Rattle.records.proofs.load_node.Reads as load-node
 use Rattle.graph.proofs.next_alternative.Reads as next-alternative
 use Rattle.graph.proofs.set_link.Reads as set-link
 use Rattle.graph.proofs.set_status.Reads as set-status
-use Rattle.rowset.proofs.is_empty.Reads as is-empty
-use Rattle.rowset.proofs.union.Reads as union
+use Rattle.inplace.proofs.copy.Reads as copy
+use Rattle.inplace.proofs.join.Reads as join
+use Rattle.records.proofs.alternative_set.Reads as alternative-set
+use Rattle.records.proofs.node_set.Reads as node-set
 use Rattle.settests.proofs.clash.Reads as clash
 use Rattle.problem.proofs.inverse.Reads as inverse
 use Rattle.settests.proofs.lacking.Reads as lacking
+use Rattle.settests.proofs.lacks.Reads as lacks-reads
 use Rattle.settests.proofs.unfinished.Reads as unfinished
 use Rattle.steps.proofs.add_child.Reads as add-child
 use Rattle.steps.proofs.add_lapsed.Reads as add-lapsed
@@ -58,8 +61,8 @@ use Rattle.tableau.proofs.+judge+judge_linked+put+put_alternatives.Tie.
 abbrev lacked : List ℕ → Work → Counts → ℕ → ℕ
 lacked ws w c x = 4 * lacks ws (nodeAt (graphOf w c) x .rows)
 
-abbrev μ-put : Measures 4 put-kinds.ps ℕ
-μ-put κs a = 4 * lacks (a .0 .now) (valueOf (a .1 .1 .1 .1 .1 .1 .1 .1 .0)) + 3
+abbrev μ-put : Measures 5 put-kinds.ps ℕ
+μ-put κs a = 4 * lacks (a .0 .now) (setOf (a .1 .1 .1 .1 .1 .1 .1 .1 .0 .now) 0) + 3
 
 abbrev μ-judge : Measures 4 judge-kinds.ps ℕ
 μ-judge κs a = lacked (a .0 .now) (work (a .1 .0 .now) (a .1 .1 .0 .now) (a .1 .1 .1 .0 .now)) (a .1 .1 .1 .1 .0) (a .1 .1 .1 .1 .1 .0) + 2
@@ -82,11 +85,11 @@ linked-at t = and 4 linked-kinds.ps (is 4 linked-kinds.ps μ-linked t) linked.Pr
 abbrev linked-below : ℕ → In 4 linked-kinds.ps
 linked-below t = and 4 linked-kinds.ps (falls 4 linked-kinds.ps _<_ μ-linked t) linked.Pre
 
-abbrev put-at : ℕ → In 4 put-kinds.ps
-put-at t = and 4 put-kinds.ps (is 4 put-kinds.ps μ-put t) put.Pre
+abbrev put-at : ℕ → In 5 put-kinds.ps
+put-at t = and 5 put-kinds.ps (is 5 put-kinds.ps μ-put t) put.Pre
 
-abbrev put-below : ℕ → In 4 put-kinds.ps
-put-below t = and 4 put-kinds.ps (falls 4 put-kinds.ps _<_ μ-put t) put.Pre
+abbrev put-below : ℕ → In 5 put-kinds.ps
+put-below t = and 5 put-kinds.ps (falls 5 put-kinds.ps _<_ μ-put t) put.Pre
 
 abbrev small-at : ℕ → In 4 small-kinds.ps
 small-at t = and 4 small-kinds.ps (is 4 small-kinds.ps μ-small t) small.Pre
@@ -110,14 +113,14 @@ put-calls t = (
   add-child.Learnt,
   unfinished.Asked,
   unfinished.Learnt,
-  load-node.Asked,
-  load-node.Learnt,
+  node-set.Asked,
+  node-set.Learnt,
   inverse.Asked,
   inverse.Learnt,
+  lacks-reads.Asked,
+  lacks-reads.Learnt,
   lacking.Asked,
   lacking.Learnt,
-  is-empty.Asked,
-  is-empty.Learnt,
   add-lapsed.Asked,
   add-lapsed.Learnt,
   link-special.Asked,
@@ -138,8 +141,14 @@ small-calls t = (
   set-link.Learnt,
   judge-branch.Asked,
   judge-branch.Learnt,
-  union.Asked,
-  union.Learnt,
+  alternative-set.Asked,
+  alternative-set.Learnt,
+  copy.Asked,
+  copy.Learnt,
+  node-set.Asked,
+  node-set.Learnt,
+  join.Asked,
+  join.Learnt,
   put-below t,
   put.Post,
 )
@@ -154,29 +163,29 @@ In-linked t P = P (linked-calls t) (linked-at t) linked.Post
 
 -- ---- places in put
 
-abbrev In-put : ℕ → (put-lts.Claims → In 4 put-kinds.ps → Out 4 put-kinds.ps put-kinds.r → Type 0) → Type 0
+abbrev In-put : ℕ → (put-lts.Claims → In 5 put-kinds.ps → Out 5 put-kinds.ps put-kinds.r → Type 0) → Type 0
 In-put t P = P (put-calls t) (put-at t) put.Post
 
 abbrev begun : {t : ℕ} → In-put t put-lts.Else2 → In-put t put-lts.Start
-begun c = c .before .before .before .before .before .before .before .before
+begun c = c .before .before .before .before .before .before .before .before .before .before
 
 -- the set is finished, without a clash
 finished : (t : ℕ) (c : In-put t put-lts.Else2) → Finished (begun c .pre .1)
 finished t c = search (put-finished, needs)
 
-abbrev the-else : {t : ℕ} → In-put t put-lts.After-is-empty → In-put t put-lts.Else2
-the-else c = c .before .before .before .before .before .before
+abbrev the-else : {t : ℕ} → In-put t put-lts.After-lacks → In-put t put-lts.Else2
+the-else c = c .before .before .before .before .before
 
 -- and weighed against the state above
-weighed : (t : ℕ) (c : In-put t put-lts.After-is-empty) → Weighed (begun (the-else c) .pre .1) (valueOf (c .before .lacking .result)) (c .is-empty .result)
+weighed : (t : ℕ) (c : In-put t put-lts.After-lacks) → Weighed (begun (the-else c) .pre .1) (c .before .before .before .inverse .result) (c .lacks .result)
 weighed t c =
-    let i = c .before .before in
-    let l = i .before .before in
-    put-weighed (begun (the-else c) .pre .1) (finished t (the-else c)) (l .load-node .result) (l .load-node .ensures) (i .inverse .ensures) (search) (search)
+    let above = ap (λ (q : ℕ). setOf (begun (the-else c) .args .nodes .now) q) (c .before .before .before .before .node-set .ensures) in
+    put-weighed (begun (the-else c) .pre .1) (finished t (the-else c)) (c .before .before .before .inverse .ensures)
+    (c .lacks .ensures ∙ ap (λ (q : RowSet). not (eqb (lacking-in (begun (the-else c) .args .problem .now) (setOf (begun (the-else c) .args .s .now) 0) (c .before .before .before .inverse .result) q) empty)) above)
 
 -- and nothing is lacking
 complete : (t : ℕ) (c : In-put t put-lts.Else3) → Complete (begun (the-else (c .before)) .pre .1)
-complete t c = put-complete (weighed t (c .before)) (not-false (c .before .is-empty .result) (c .if3 .left))
+complete t c = put-complete (weighed t (c .before)) (c .if3 .left)
 
 abbrev the-link : {t : ℕ} → In-put t put-lts.After-d → In-put t put-lts.After-link-special
 the-link c = c .before .before .before .before .before .before
@@ -195,35 +204,33 @@ linked-special t c = put-links (complete t (the-complete c)) (the-link c .link-s
 -- ---- places in put_alternatives
 
 abbrev Inv-loop : small-lts.InvT-loop
-Inv-loop problem nodes₀ edges₀ alternatives₀ c z y node set cur₀ i₀ nodes edges alternatives cur i =
+Inv-loop problem nodes₀ edges₀ alternatives₀ c z y node cur₀ i₀ nodes edges alternatives cur i =
     Turn problem (work nodes₀ edges₀ alternatives₀) c z y (work nodes edges alternatives) cur i
 
 abbrev μ-loop : small-lts.MeasureT-loop
-μ-loop problem nodes₀ edges₀ alternatives₀ c z y node set cur₀ i₀ nodes edges alternatives cur i = c .alternatives - i
+μ-loop problem nodes₀ edges₀ alternatives₀ c z y node cur₀ i₀ nodes edges alternatives cur i = c .alternatives - i
 
 abbrev In-small : ℕ → (small-lts.Claims → In 4 small-kinds.ps → Out 4 small-kinds.ps small-kinds.r
     → small-lts.InvT-loop → small-lts.MeasureT-loop → Type 0) → Type 0
 In-small t P = P (small-calls t) (small-at t) small.Post Inv-loop μ-loop
 
 abbrev the-loop : {t : ℕ} → In-small t small-lts.After-index → In-small t small-lts.At-loop
-the-loop c = c .before .before .before .before .before
+the-loop c = c .before .before .before .before
 
 abbrev first : {t : ℕ} → In-small t small-lts.At-loop → In-small t small-lts.Start
-first c = c .before .before .before .before .before .before .before .before .before .before
+first c = c .before .before .before .before .before .before .before
 
 -- an alternative was found
-chosen : (t : ℕ) (c : In-small t small-lts.After-index) → Chosen (the-loop c .loop .inv) (c .index .given .0 .0) (valueOf (c .index .given .0 .1 .0))
+chosen : (t : ℕ) (c : In-small t small-lts.After-index) → Chosen (the-loop c .loop .inv) (c .index .given .0 .0) (setOf (the-loop c .loop .alternatives) (alternativeSize * c .index .given .0 .0))
 chosen t c = turn-next (the-loop c .loop .inv) (c .before .before .next-alternative .ensures) (c .index .given .1)
 
-abbrev the-index : {t : ℕ} → In-small t small-lts.After-union → In-small t small-lts.After-index
-the-index c = c .before .before
+abbrev the-index : {t : ℕ} → In-small t small-lts.After-joined5 → In-small t small-lts.After-index
+the-index c = search
 
 -- and joined to the state's set
-joined : (t : ℕ) (c : In-small t small-lts.After-union) → let l = the-loop (the-index c) in
-    Joined (l .loop .inv) (the-index c .index .given .0 .0) (l .before .before .before .before .load-node .result) (valueOf (c .union .result))
-joined t c =
-    let l = the-loop (the-index c) .before .before in
-    turn-joined (chosen t (the-index c)) _ (l .load-node2 .result) (l .before .before .load-node .ensures) (l .load-node2 .ensures) (c .union .ensures)
+joined : (t : ℕ) (c : In-small t small-lts.After-joined5) → let l = the-loop (the-index c) in
+    Joined (l .loop .inv) (the-index c .index .given .0 .0) (l .before .load-node .result) ?
+joined t c = ?
 
 -- ---- the needs, in the code's order
 
@@ -280,22 +287,24 @@ pub +judge+judge-linked+put+put-alternatives-spec : {M : Type 1} → statement M
     (λ c. search needs) (λ c. search needs) (λ c. search needs)
     (λ c. let q : In-linked t linked-lts.After-put-alternatives = search in small-judges (search (linked-small, needs)) (q .put-alternatives .ensures)))
     (λ t. put-lts.spec (put-calls t) (put-at t) put.Post
-    -- clash(rows, s)
+    -- clash(problem, s, 0)
     (λ c κs. search needs)
-    -- return add_child(.., below(..))
+    -- return add_child(.., s, below(..))
     (λ c κs. search needs) (λ c κs. search (put-adds, needs)) (λ c. search needs) (λ c. search needs)
     (λ c. search (put-clashes, needs))
-    -- unfinished(rows, s)
+    -- unfinished(problem, s, 0)
     (λ c κs. search needs)
-    -- return add_child(.., below(..))
+    -- return add_child(.., s, below(..))
     (λ c κs. search needs) (λ c κs. search (put-adds, needs)) (λ c. search needs) (λ c. search needs)
     (λ c. search (put-waits, needs))
-    -- load_node(nodes, p), lacking(..), is_empty(lacked)
-    (λ c κs. search needs) (λ c κs. search needs) (λ c κs. search needs) (λ c κs. search needs)
+    -- node_set(p), inverse(role), lacks(.., nodes, above)
+    (λ c κs. search needs) (λ c κs. search needs) (λ c κs. ?)
+    -- lacking(.., nodes, above, &mut lacked, 0)
+    (λ c. ?) (λ c κs. ?)
     -- return add_lapsed(..)
     (λ c κs. search (put-joins, needs))
     (λ c. search needs) (λ c. search needs) (λ c. search needs)
-    (λ c. let a : In-put t put-lts.After-add-lapsed = search in put-lapses (weighed t (search)) (search (not-true, needs)) (a .add-lapsed .ensures))
+    (λ c. ?)
     -- link_special(.., p, role, s)
     (λ c κs. search needs) (λ c. search needs) (λ c. search needs)
     -- judge(.., d, z)
@@ -316,9 +325,8 @@ pub +judge+judge-linked+put+put-alternatives-spec : {M : Type 1} → statement M
     (λ c. let j : In-put t put-lts.After-judge = search in let b : In-put t put-lts.After-b = search in
     put-judged (linked-special t (search)) (j .judge .ensures) (b .b .given .1) (search)))
     (λ t. small-lts.spec (small-calls t) (small-at t) small.Post Inv-loop μ-loop
-    -- load_node(nodes, z), load_node(nodes, y)
+    -- load_node(nodes, z)
     (λ c κs. search needs)
-    (λ c κs. let s : In-small t small-lts.Start = search in linked-fits (s .pre .1 .linked))
     -- loop, next_alternative(nodes, alternatives, c, y, i)
     (λ c. search (turn-start, needs))
     (λ c κs. search (turn-walks, needs))
@@ -331,17 +339,19 @@ pub +judge+judge-linked+put+put-alternatives-spec : {M : Type 1} → statement M
     (λ c. let l : In-small t small-lts.At-loop = search in let k : In-small t small-lts.After-set-link = search in
     let n : In-small t small-lts.After-next-alternative = search in let o : In-small t small-lts.After-enum-told = search in
     turn-end (l .loop .inv) (k .set-link .ensures) (n .next-alternative .ensures) (o .enum-told .given .1) (search))
-    -- i = index + 1, union(..)
+    -- i = index + 1
     (λ c. omega (arith, turn-index (chosen t (search))))
-    (λ c κs. search needs)
-    -- put(.., cur, z, ..)
-    (λ c κs. let u : In-small t small-lts.After-union = search in
-    (omega (arith, first (the-loop (the-index u)) .pre .0, turn-falls (joined t u)), turn-asks (joined t u)))
+    -- copy(&mut joined, 0, alternatives, alternative_set(index), SET_WORDS)
+    (λ c. ?) (λ c κs. ?) (λ c κs. ?)
+    -- join(&mut joined, 0, nodes, node_set(y), SET_WORDS)
+    (λ c. ?) (λ c κs. search needs) (λ c κs. ?)
+    -- put(.., cur, z, .., &joined)
+    (λ c κs. ?)
     (λ c. search needs)
     -- return Full(area)
     (λ c. search needs) (λ c. search needs) (λ c. search needs)
-    (λ c. let p : In-small t small-lts.After-put = search in turn-short (joined t (search)) (p .put .ensures) (search))
+    (λ c. ?)
     -- cur = next, and the loop again
     (λ c. search needs)
     (λ c. turn-less (chosen t (search)))
-    (λ c. let p : In-small t small-lts.After-put = search in turn-put (joined t (search)) (p .put .ensures) (c .before .next .given .1)))
+    (λ c. ?))
