@@ -259,7 +259,8 @@ pub fn store_edge(edges: &mut [u8], i: usize, d: Edge)
 // Writes the set s of the state `owner` as alternative i of the area.
 pub fn store_alternative(alternatives: &mut [u8], i: usize, s: &[u8; SET_BYTES], owner: u16)
     requires { ⌜ Fits alternativeSize (now alternatives) i ⌝ }
-    ensures { λ _. ⌜ Records.AlternativeWritten (now (alternatives .entry)) (now (alternatives .exit)) i (Records.alternativeOf (setOf (now (s .entry)) 0) owner) ⌝ }
+    ensures { λ _. ⌜ Records.AlternativeWritten (now (alternatives .entry)) (now (alternatives .exit)) i
+        (Records.alternativeOf (setOf (now (s .entry)) 0) owner) ⌝ }
 {
     let at = ALTERNATIVE_BYTES * i;
     put_set(alternatives, at, s);
@@ -285,7 +286,8 @@ pub fn is_state(nodes: &[u8], x: usize) -> bool
 // Gives node x of the area a status.
 pub fn store_status(nodes: &mut [u8], x: usize, status: Status)
     requires { ⌜ Fits nodeSize (now nodes) x ⌝ }
-    ensures { λ _. ⌜ Records.NodeWritten (now (nodes .entry)) (now (nodes .exit)) x (withStatus (Codes.statusOf status) (Records.nodeIn (now (nodes .entry)) x)) ⌝ }
+    ensures { λ _. ⌜ Records.NodeWritten (now (nodes .entry)) (now (nodes .exit)) x
+        (withStatus (Codes.statusOf status) (Records.nodeIn (now (nodes .entry)) x)) ⌝ }
 {
     put1(nodes, NODE_BYTES * x + STATUS_AT, status_code(status));
 }
