@@ -1,6 +1,7 @@
 -- A loop from word to word around one from row to row, each word's lowest row first: what holds of the rows that are left (`Midway`).
 --
--- In order: the state of such a loop; it begins with the whole set, passes a word of which nothing is left, ends with no row; its next row (`LowestOfWord`), and its state after that row.
+-- In order: the state of such a loop; it begins with the whole set, passes a word of which nothing is left, ends with no row; its next row (`LowestOfWord`),
+-- and its state after it.
 -- What is left is a set, by Pending: so a proof speaks of one set that loses its lowest row.
 use mathlib.Core.Path.{_≡_, sym, ap, subst, _∙_}
 use mathlib.Core.Bool.{true, not}
@@ -53,7 +54,7 @@ pub record LowestOfWord (f : ℕ → ℕ) (n j m : ℕ) : Type 0 where
   pub less : bitAnd m (m - 1) < m
   pub after : Midway f n (λ x. x ≡ minus (left 64 f j m n) (single (rowAt j m))) j (bitAnd m (m - 1))
 
--- what holds of the rows without it holds of those that are left after it
+-- what holds of the rows without it holds of those that are left then
 pub midway-after : {f : ℕ → ℕ} {n j m : ℕ} {P : RowSet → Type 0} → LowestOfWord f n j m → P (minus (left 64 f j m n) (single (rowAt j m)))
     → Midway f n P j (bitAnd m (m - 1))
 midway-after {P = P} row h = midway-also (row .after) (subst P (sym (row .after .holds)) h)

@@ -1,6 +1,7 @@
--- Loops over the rows that a set and a mask of a decoded problem have in common: from word to word, as far as words are in use, and in a word from the lowest row up.
+-- Loops over the rows that a set and a mask of a decoded problem have in common: from word to word, as far as words are in use, and in a word from the lowest
+-- row up.
 --
--- In order: what such a loop reads (`Reading`) and its state (`Loop`); how it begins, passes a word, ends; its next row (`NextRow`), and its state after that row.
+-- In order: what such a loop reads (`Reading`) and its state (`Loop`); how it begins, passes a word, ends; its next row (`NextRow`), and its state after it.
 use mathlib.Core.Path.{_≡_, sym, ap, subst, _∙_}
 use mathlib.Core.Bool.{Bool, true}
 use mathlib.Core.List.{List}
@@ -80,6 +81,6 @@ module _ {w : List ℕ} {p : Concept → Bool} {mask : ℕ} {b : List ℕ} {at :
           let (below, passes) = common-row (l .reading .masking) (setOf b at) k (ap (mem k) (sym (all (l .reading))) ∙ lowest .whole) in
           record { lowest = lowest; below = below; inside = omega (arith, length-tableOf w, below); passes = passes }
 
-      -- what holds of the rows without it holds of those that are left after it
+      -- what holds of the rows without it holds of those that are left then
       pub loop-after : NextRow → {Q : RowSet → Type 0} → Q (minus (leftOver w mask b at j m) (single (rowAt j m))) → Loop w p mask b at Q j (bitAnd m (m - 1))
       loop-after row h = record { reading = l .reading; midway = midway-after (row .lowest) h }

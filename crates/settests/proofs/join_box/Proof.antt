@@ -40,10 +40,20 @@ Inv-loop problem s at role out₀ to mask n j₀ out j =
 abbrev μ-loop : tie.MeasureT-loop
 μ-loop problem s at role out₀ to mask n j₀ out j = n - j
 
+-- places
+abbrev Start : Type 0
+Start = tie.Start Inv-loop2 μ-loop2 Inv-loop μ-loop
+
+abbrev Row : Type 0
+Row = tie.In-loop2 Inv-loop2 μ-loop2 Inv-loop μ-loop
+
+next : (c : Row) → NextRow (c .before .loop2 .inv)
+next c = next-row (c .before .loop2 .inv) (omega arith) (c .loop2-test .taken)
+
 loop-holds : tie.Need-loop-holds Inv-loop2 μ-loop2 Inv-loop μ-loop
 loop-holds c =
     let known = c .before .before .before in
-    let s : tie.Start Inv-loop2 μ-loop2 Inv-loop μ-loop = search in
+    let s : Start = search in
     let a = s .args in
     let mask = c .before .universal .ensures in
     loop-begins record {
@@ -57,20 +67,10 @@ loop-holds c =
 loop2-holds : tie.Need-loop2-holds Inv-loop2 μ-loop2 Inv-loop μ-loop
 loop2-holds c = rw (c .before .word .ensures) (loop-also (c .before .before .before .loop .inv) (refl, refl))
 
--- a row of word j
-abbrev Row : Type 0
-Row = tie.In-loop2 Inv-loop2 μ-loop2 Inv-loop μ-loop
-
-next : (c : Row) → NextRow (c .before .loop2 .inv)
-next c = next-row (c .before .loop2 .inv) (omega arith) (c .loop2-test .taken)
-
-insert-requires : tie.Need-insert-requires Inv-loop2 μ-loop2 Inv-loop μ-loop
-insert-requires c κs = omega arith
-
 loop2-again : tie.Need-loop2-again Inv-loop2 μ-loop2 Inv-loop μ-loop
 loop2-again c =
     let i : Row = search in
-    let s : tie.Start Inv-loop2 μ-loop2 Inv-loop μ-loop = search in
+    let s : Start = search in
     let read : tie.After-left-at Inv-loop2 μ-loop2 Inv-loop μ-loop = search in
     let put : tie.After-insert Inv-loop2 μ-loop2 Inv-loop μ-loop = search in
     let l = i .before .loop2 in
@@ -93,7 +93,7 @@ loop-again c =
 
 returns : tie.Need-returns Inv-loop2 μ-loop2 Inv-loop μ-loop
 returns c =
-    let s : tie.Start Inv-loop2 μ-loop2 Inv-loop μ-loop = search in
+    let s : Start = search in
     let l = c .before .loop in
     let (long, whole) = loop-ends (l .inv) (omega arith) in
     (long, gather-none (tableOf (s .args .problem .now)) (setOf (l .out) (s .args .to)) ∙ whole)
@@ -108,7 +108,7 @@ join-box-spec =
     (λ c κs. omega arith) (λ c. omega arith) (λ c. omega arith) (λ c. omega arith) loop2-holds
     -- left_at(problem, 64 * j + u64::trailing_zeros(m) as usize), insert(out, to, left)
     (λ c. omega arith) (λ c. let t = next c in omega arith) (λ c. let t = next c in omega arith)
-    (λ c κs. (c .before .loop2 .inv .reading .decoded, next c .below)) insert-requires
+    (λ c κs. (c .before .loop2 .inv .reading .decoded, next c .below)) (λ c κs. omega arith)
     -- m & (m - 1), and the inner loop again
     (λ c. let t = next (search) in omega arith) (λ c. next (search) .lowest .less) loop2-again
     -- j + 1, and the loop again

@@ -38,10 +38,26 @@ Inv-loop problem s at role above there mask n j₀ j = Along problem mask s at r
 abbrev μ-loop : tie.MeasureT-loop
 μ-loop problem s at role above there mask n j₀ j = n - j
 
+-- places
+abbrev Start : Type 0
+Start = tie.Start Inv-loop2 μ-loop2 Inv-loop μ-loop
+
+abbrev Row : Type 0
+Row = tie.In-loop2 Inv-loop2 μ-loop2 Inv-loop μ-loop
+
+abbrev Read : Type 0
+Read = tie.After-left-at Inv-loop2 μ-loop2 Inv-loop μ-loop
+
+abbrev Tested : Type 0
+Tested = tie.After-mem Inv-loop2 μ-loop2 Inv-loop μ-loop
+
+next : (c : Row) → NextRow (c .before .loop2 .inv)
+next c = next-row (c .before .loop2 .inv) (omega arith) (c .loop2-test .taken)
+
 loop-holds : tie.Need-loop-holds Inv-loop2 μ-loop2 Inv-loop μ-loop
 loop-holds c =
     let known = c .before .before .before in
-    let s : tie.Start Inv-loop2 μ-loop2 Inv-loop μ-loop = search in
+    let s : Start = search in
     let a = s .args in
     let P = problemOf (a .problem .now) in
     let set = setOf (a .s .now) (a .at) in
@@ -58,20 +74,13 @@ loop-holds c =
 loop2-holds : tie.Need-loop2-holds Inv-loop2 μ-loop2 Inv-loop μ-loop
 loop2-holds c = rw (c .before .word .ensures) (c .before .before .before .loop .inv)
 
--- a row of word j
-abbrev Row : Type 0
-Row = tie.In-loop2 Inv-loop2 μ-loop2 Inv-loop μ-loop
-
-next : (c : Row) → NextRow (c .before .loop2 .inv)
-next c = next-row (c .before .loop2 .inv) (omega arith) (c .loop2-test .taken)
-
 -- the argument is lacked
 returns : tie.Need-returns Inv-loop2 μ-loop2 Inv-loop μ-loop
 returns c =
     let i : Row = search in
-    let s : tie.Start Inv-loop2 μ-loop2 Inv-loop μ-loop = search in
-    let read : tie.After-left-at Inv-loop2 μ-loop2 Inv-loop μ-loop = search in
-    let test : tie.After-mem Inv-loop2 μ-loop2 Inv-loop μ-loop = search in
+    let s : Start = search in
+    let read : Read = search in
+    let test : Tested = search in
     let out = sym (test .mem .ensures setWords (read .left-at .ensures .1)) ∙ not-true (test .mem .result) (c .if1 .taken) in
     let t = next i in
     lacks-here (tableOf (s .args .problem .now)) (t .lowest .low) (t .inside) (read .left-at .ensures .0) (setOf (s .args .above .now) (s .args .there)) out
@@ -81,9 +90,9 @@ returns c =
 loop2-again : tie.Need-loop2-again Inv-loop2 μ-loop2 Inv-loop μ-loop
 loop2-again c =
     let i : Row = search in
-    let s : tie.Start Inv-loop2 μ-loop2 Inv-loop μ-loop = search in
-    let read : tie.After-left-at Inv-loop2 μ-loop2 Inv-loop μ-loop = search in
-    let test : tie.After-mem Inv-loop2 μ-loop2 Inv-loop μ-loop = search in
+    let s : Start = search in
+    let read : Read = search in
+    let test : Tested = search in
     let has = sym (test .mem .ensures setWords (read .left-at .ensures .1)) ∙ not-false (test .mem .result) (c .if1 .left) in
     let inv = i .before .loop2 .inv in
     let t = next i in
@@ -96,7 +105,7 @@ loop-again c = loop-passes (c .before .loop2 .inv) (c .loop2-test .left)
 
 returns-2 : tie.Need-returns-2 Inv-loop2 μ-loop2 Inv-loop μ-loop
 returns-2 c =
-    let s : tie.Start Inv-loop2 μ-loop2 Inv-loop μ-loop = search in
+    let s : Start = search in
     let none = lacks-none (tableOf (s .args .problem .now)) (setOf (s .args .above .now) (s .args .there)) in
     ap (λ (x : RowSet). not (eqb x empty)) (sym none ∙ loop-ends (c .before .loop .inv) (omega arith))
 

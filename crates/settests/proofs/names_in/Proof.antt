@@ -33,10 +33,20 @@ Inv-loop problem kind s at mask n names₀ j₀ names j = Loop problem (ofKind k
 abbrev μ-loop : tie.MeasureT-loop
 μ-loop problem kind s at mask n names₀ j₀ names j = n - j
 
+-- places
+abbrev Start : Type 0
+Start = tie.Start Inv-loop2 μ-loop2 Inv-loop μ-loop
+
+abbrev Row : Type 0
+Row = tie.In-loop2 Inv-loop2 μ-loop2 Inv-loop μ-loop
+
+next : (c : Row) → NextRow (c .before .loop2 .inv)
+next c = next-row (c .before .loop2 .inv) (omega arith) (c .loop2-test .taken)
+
 loop-holds : tie.Need-loop-holds Inv-loop2 μ-loop2 Inv-loop μ-loop
 loop-holds c =
     let known = c .before .before in
-    let s : tie.Start Inv-loop2 μ-loop2 Inv-loop μ-loop = search in
+    let s : Start = search in
     let mask = c .before .of-kind .ensures in
     loop-begins record {
       decoded = s .pre .0;
@@ -49,16 +59,9 @@ loop-holds c =
 loop2-holds : tie.Need-loop2-holds Inv-loop2 μ-loop2 Inv-loop μ-loop
 loop2-holds c = rw (c .before .word .ensures) (c .before .before .before .loop .inv)
 
--- a row of word j
-abbrev Row : Type 0
-Row = tie.In-loop2 Inv-loop2 μ-loop2 Inv-loop μ-loop
-
-next : (c : Row) → NextRow (c .before .loop2 .inv)
-next c = next-row (c .before .loop2 .inv) (omega arith) (c .loop2-test .taken)
-
 shl-names : tie.Need-shl-names Inv-loop2 μ-loop2 Inv-loop μ-loop
 shl-names c =
-    let s : tie.Start Inv-loop2 μ-loop2 Inv-loop μ-loop = search in
+    let s : Start = search in
     let t = next (search) in
     omega (arith, c .left-at .ensures .0, name-lt (s .pre .0) (s .args .kind) _ (s .pre .1) (t .below) (t .passes))
 
@@ -66,7 +69,7 @@ loop2-again : tie.Need-loop2-again Inv-loop2 μ-loop2 Inv-loop μ-loop
 unfolding single union
 loop2-again c =
     let i : Row = search in
-    let s : tie.Start Inv-loop2 μ-loop2 Inv-loop μ-loop = search in
+    let s : Start = search in
     let name = c .left-at .result in
     let bit : (1 * 2 ^ name) % 2 ^ 64 ≡ 2 ^ name = shl-exact 1 name 64 (omega arith) (omega (arith, shl-names c)) ∙ one-mul (2 ^ name) in
     let l = i .before .loop2 in
@@ -80,7 +83,7 @@ loop-again c = loop-passes (c .before .loop2 .inv) (c .loop2-test .left)
 
 returns : tie.Need-returns Inv-loop2 μ-loop2 Inv-loop μ-loop
 returns c =
-    let s : tie.Start Inv-loop2 μ-loop2 Inv-loop μ-loop = search in
+    let s : Start = search in
     let l = c .before .loop in
     gather-none (tableOf (s .args .problem .now)) (l .names) ∙ loop-ends (l .inv) (omega arith)
 
