@@ -9,7 +9,8 @@ returns c =
     let s : tie.Start = search in
     let rows : tie.After-join-universals = search in
     let codes : tie.After-join-narrows = search in
-    pair-chains (s .pre .0) (s .pre .1) (rows .join-universals .ensures) (codes .join-narrows .ensures)
+    let (narrow, wide, enough, in-use) = s .pre in
+    pair-chains narrow wide in-use (rows .join-universals .ensures) (codes .join-narrows .ensures)
 
 pub chain-spec : {M : Type 1} → statement M
 chain-spec =

@@ -16,14 +16,14 @@ abbrev Roles : tie.Start → Type 0
 Roles s = (partOf (s .args .out .now) (s .args .k) 1 < 32) × (partOf (s .args .out .now) (s .args .k) 2 < 32)
 
 roles : (c : tie.Then1) → Roles (c .before .before .before)
-roles c = c .before .before .before .pre .2 (omega (arith, c .if1 .taken))
+roles c = c .before .before .before .pre .3 (omega (arith, c .if1 .taken))
 
 chain-requires : tie.Need-chain-requires
 chain-requires c κs =
     let s : tie.Start = search in
     let t : tie.Then1 = search in
     let (p, q) = roles t in
-    (omega (arith, p), omega (arith, q), s .pre .1)
+    (omega (arith, p), omega (arith, q), s .pre .1, s .pre .2)
 
 chain-requires-2 : tie.Need-chain-requires-2
 chain-requires-2 c κs =
@@ -36,6 +36,7 @@ chain-requires-2 c κs =
       omega (arith, c .before .inverse .ensures .role (omega (arith, p)), inverse-low (partOf w k 1) p),
       omega (arith, c .inverse2 .ensures .role (omega (arith, q)), inverse-low (partOf w k 2) q),
       omega (arith, first .chain .kept .0, s .pre .1),
+      first .chain .ensures .in-use,
     )
 
 returns : tie.Need-returns

@@ -1,10 +1,10 @@
 -- `problem::inclusions::put_inclusions` meets its contract: the invariant is that the inclusions in the rows so far are added.
 use mathlib.Core.Path.{_≡_, refl, subst}
-use Prim.Native.Nat.{ℕ, _-_, _≤_}
+use Prim.Native.Nat.{ℕ, _-_, _≤_, _<_}
 use native.Mathlib.Omega.{arith}
 use Rattle.problem.specs.Decoded.{countOf, RowsDecoded}
 use Rattle.problem.specs.Chaining.{Included}
-use Rattle.problem.specs.ChainingLaws.{roles-at, included-more}
+use Rattle.problem.specs.ChainingLaws.{included-in-use, roles-at, included-more}
 use Rattle.problem.proofs.inclusions.put_inclusions.Statement.{statement}
 use Rattle.problem.proofs.inclusions.put_inclusions.Tie as tie
 
@@ -22,9 +22,11 @@ loop-holds c = let s : At tie.Start = search in (s .pre .0, refl, omega arith, s
 
 put-inclusion-requires : tie.Need-put-inclusion-requires Inv-loop μ-loop
 put-inclusion-requires c κs =
+    let s : At tie.Start = search in
     let i : At tie.In-loop = search in
     let (ok, n, few, so-far) = i .before .loop .inv in
-    (omega (arith, i .loop-test .taken, ok .few), omega (arith, so-far .kept .longs, ok .enough), roles-at ok (omega (arith, i .loop-test .taken)) so-far)
+    let h : i .before .loop .k < countOf (s .args .out .now) = omega (arith, i .loop-test .taken) in
+    (omega (arith, ok .few), omega (arith, so-far .kept .longs, ok .enough), included-in-use ok so-far, roles-at ok h so-far)
 
 loop-again : tie.Need-loop-again Inv-loop μ-loop
 loop-again c =
