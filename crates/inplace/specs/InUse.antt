@@ -1,14 +1,15 @@
--- The words in use: where a mask has no row beyond m words, the rows that a set and the mask have in common are those of m words.
+-- The words in use: where a mask has no row beyond m words, the rows that a set and the mask have in common are those of m words, and the words after them are empty.
 use mathlib.Core.Path.{_≡_, sym, ap, ap₂, _∙_}
 use mathlib.Core.Bool.{Bool, false, _&&_}
 use mathlib.Core.List.{List}
 use Prim.Native.Nat.{ℕ, suc, _+_, _-_, _*_, _/_, _%_, _≤_, _<_}
 use native.Mathlib.Decide.{ℕ-discrete}
 use native.Mathlib.Omega.{arith}
+use lib.Dec.{not-T}
 use lib.ListN.{getD}
-use Rattle.concepts.specs.Tests.{and-nothing}
+use Rattle.concepts.specs.Tests.{and-nothing, as-false}
 use Rattle.concepts.specs.RowSet.{mem, common}
-use Rattle.concepts.specs.RowSetLaws.{mem-common, set-ext}
+use Rattle.concepts.specs.RowSetLaws.{mem-common, mem-empty, mem-lt, set-ext}
 use Rattle.inplace.specs.Joined.{joined, Fit, wordAt, setAt, maskAt}
 use Rattle.inplace.specs.ByteLaws.{Bytes, word-fits, set-words}
 use Rattle.inplace.specs.NextLaws.{Words, row-of, joined-beyond}
@@ -39,3 +40,14 @@ pub set-in-use : (b : List ℕ) → Bytes b → (ws : List ℕ) → Words ws →
 unfolding maskAt
 set-in-use b hb ws hw at mask m n l none =
     rw (set-words b m at, set-words b n at) (common-in-use (wordAt b at) (λ (j : ℕ). getD ws (mask + j) 0) (word-fits b hb at) (λ j. hw (mask + j)) m n l none)
+
+-- a word after them
+pub mask-beyond : (ws : List ℕ) → Words ws → (at m n : ℕ) → ((k : ℕ) → 64 * m ≤ k → mem k (maskAt ws at n) ≡ false)
+    → (j : ℕ) → m ≤ j → j < n → getD ws (at + j) 0 ≡ 0
+unfolding maskAt
+mask-beyond ws hw at m n none j l h =
+    let x : ℕ = getD ws (at + j) 0 in
+    set-ext x 0 (λ i. elim (ℕ-discrete (suc i - 64) 0) [
+      | yes e ↦ sym (row-of (λ (i : ℕ). getD ws (at + i) 0) (λ i. hw (at + i)) n 0 j i h (omega arith)) ∙ none (64 * j + i) (omega arith) ∙ sym (mem-empty i)
+      | no d ↦ as-false (mem i x) (not-T (mem i x) (λ t. omega (arith, mem-lt 64 i x (hw (at + j)) t))) ∙ sym (mem-empty i)
+    ])

@@ -23,6 +23,12 @@ use Rattle.inplace.specs.ByteLaws.{Bytes, word-fits, set-words}
 abbrev pub Words : List ℕ → Type 0
 Words ws = (i : ℕ) → getD ws i 0 < 2 ^ 64
 
+pub words-set : (ws : List ℕ) → Words ws → (i v : ℕ) → i < length ws → v < 2 ^ 64 → Words (set ws i v)
+words-set ws h i v room fits j = elim (ℕ-discrete j i) [
+  | yes e ↦ rw e (rw (getD-set-same ws i v 0 room) fits)
+  | no d ↦ rw (getD-set-other ws i j v 0 d) (h j)
+]
+
 -- ---- a row of a mask
 
 pub mask-insert : (ws : List ℕ) → Words ws → (at k n v : ℕ) → k < 64 * n → at + k / 64 < length ws → v ≡ insert (k % 64) (getD ws (at + k / 64) 0)
