@@ -1,25 +1,32 @@
 -- The proof of the cycle of calls {put, judge, judge_linked, put_alternatives}: each alternative adds a row to its state's set.
 --
 -- In order: what falls from call to call; the places in each function that others speak of; the needs, in the code's order.
+use mathlib.Core.Path.{_≡_, refl, sym, ap, _∙_}
+use mathlib.Core.Bool.{not}
 use mathlib.Core.List.{List}
-use Prim.Native.Nat.{ℕ, _+_, _-_, _*_, _<_}
+use Prim.Native.Nat.{ℕ, _+_, _-_, _*_, _≤_, _<_}
 use native.Mathlib.Omega.{arith}
 use borrow.Author.Needs.{needs}
-use borrow.Author.Tests.{not-true, not-false}
+use lib.Dec.{eqb}
+use lib.ListN.{length}
 use borrow.Fn.Kinds.{In, Out}
 use borrow.Fn.PlainCycle.{Measures, is, falls, and}
+use Rattle.concepts.specs.RowSet.{RowSet, empty, union}
+use Rattle.procedure.specs.SetTests.{lacking}
 use Rattle.procedure.specs.Graph.{nodeAt}
+use Rattle.problem.specs.Decoded.{problemOf}
 use Rattle.graph.specs.Graphs.{Work, work, graphOf}
 use Rattle.graph.specs.declared.Counts.{Counts}
-use Rattle.words.specs.Sizes.{alternativeSize}
+use Rattle.words.specs.Sizes.{nodeSize, alternativeSize, setSize}
 use Rattle.inplace.specs.Widths.{setOf}
+use Rattle.inplace.specs.ByteLaws.{zeros-empty}
 use Rattle.tableau.specs.Contracts.{lacks}
 use Rattle.tableau.specs.JudgeCases.{judge-judges, judge-links, judge-lapses, judge-states, judge-branches, linked-fits, linked-sets}
 use Rattle.tableau.specs.JudgeCases.{takes-sat, takes-unsat, takes-unset, takes-open, linked-small, small-judges}
-use Rattle.tableau.specs.PutCases.{Finished, Weighed, Complete, Linked, put-adds, put-joins, put-clashes, put-waits, put-finished, put-weighed}
+use Rattle.tableau.specs.PutCases.{Finished, Weighed, Complete, Linked, put-adds, put-joins, put-clashes, put-waits, put-finished, put-weighed, put-above}
 use Rattle.tableau.specs.PutCases.{put-lapses, put-complete, put-link-short, put-links, put-judge-asks, put-judge-falls, put-judge-short, put-edge-asks, put-judged}
 use Rattle.tableau.specs.SmallCases.{Turn, Chosen, Joined, turn-start, turn-walks, turn-sets, turn-next, turn-judges, turn-end}
-use Rattle.tableau.specs.SmallCases.{turn-index, turn-less, turn-joined, turn-asks, turn-falls, turn-short, turn-put}
+use Rattle.tableau.specs.SmallCases.{turn-index, turn-less, turn-joined, turn-sets-inside, turn-asks, turn-falls, turn-short, turn-put}
 use Rattle.graph.proofs.add_edge.Reads as add-edge
 use Rattle.records.proofs.load_node.Reads as load-node
 use Rattle.graph.proofs.next_alternative.Reads as next-alternative
@@ -31,7 +38,7 @@ use Rattle.records.proofs.alternative_set.Reads as alternative-set
 use Rattle.records.proofs.node_set.Reads as node-set
 use Rattle.settests.proofs.clash.Reads as clash
 use Rattle.problem.proofs.inverse.Reads as inverse
-use Rattle.settests.proofs.lacking.Reads as lacking
+use Rattle.settests.proofs.lacking.Reads as lacking-reads
 use Rattle.settests.proofs.lacks.Reads as lacks-reads
 use Rattle.settests.proofs.unfinished.Reads as unfinished
 use Rattle.steps.proofs.add_child.Reads as add-child
@@ -119,8 +126,8 @@ put-calls t = (
   inverse.Learnt,
   lacks-reads.Asked,
   lacks-reads.Learnt,
-  lacking.Asked,
-  lacking.Learnt,
+  lacking-reads.Asked,
+  lacking-reads.Learnt,
   add-lapsed.Asked,
   add-lapsed.Learnt,
   link-special.Asked,
@@ -179,9 +186,15 @@ the-else c = c .before .before .before .before .before
 -- and weighed against the state above
 weighed : (t : ℕ) (c : In-put t put-lts.After-lacks) → Weighed (begun (the-else c) .pre .1) (c .before .before .before .inverse .result) (c .lacks .result)
 weighed t c =
-    let above = ap (λ (q : ℕ). setOf (begun (the-else c) .args .nodes .now) q) (c .before .before .before .before .node-set .ensures) in
-    put-weighed (begun (the-else c) .pre .1) (finished t (the-else c)) (c .before .before .before .inverse .ensures)
-    (c .lacks .ensures ∙ ap (λ (q : RowSet). not (eqb (lacking-in (begun (the-else c) .args .problem .now) (setOf (begun (the-else c) .args .s .now) 0) (c .before .before .before .inverse .result) q) empty)) above)
+    let s = begun (the-else c) in
+    let i = c .before .before .before in
+    let above = ap (setOf (s .args .nodes .now)) (i .before .node-set .ensures) in
+    put-weighed (s .pre .1) (finished t (the-else c)) (i .inverse .ensures)
+    (c .lacks .ensures ∙ ap (λ (q : RowSet). not (eqb (lacking (problemOf (s .args .problem .now)) (setOf (s .args .s .now) 0) (i .inverse .result) q) empty)) above)
+
+-- the set of the state above is there
+above-inside : (t : ℕ) (c : In-put t put-lts.After-node-set) → c .node-set .result + setSize ≤ length (begun (c .before) .args .nodes .now)
+above-inside t c = rw (c .node-set .ensures) (put-above (begun (c .before) .pre .1))
 
 -- and nothing is lacking
 complete : (t : ℕ) (c : In-put t put-lts.Else3) → Complete (begun (the-else (c .before)) .pre .1)
@@ -215,7 +228,7 @@ abbrev In-small : ℕ → (small-lts.Claims → In 4 small-kinds.ps → Out 4 sm
 In-small t P = P (small-calls t) (small-at t) small.Post Inv-loop μ-loop
 
 abbrev the-loop : {t : ℕ} → In-small t small-lts.After-index → In-small t small-lts.At-loop
-the-loop c = c .before .before .before .before
+the-loop c = c .before .before .before .before .before
 
 abbrev first : {t : ℕ} → In-small t small-lts.At-loop → In-small t small-lts.Start
 first c = c .before .before .before .before .before .before .before
@@ -224,12 +237,17 @@ first c = c .before .before .before .before .before .before .before
 chosen : (t : ℕ) (c : In-small t small-lts.After-index) → Chosen (the-loop c .loop .inv) (c .index .given .0 .0) (setOf (the-loop c .loop .alternatives) (alternativeSize * c .index .given .0 .0))
 chosen t c = turn-next (the-loop c .loop .inv) (c .before .before .next-alternative .ensures) (c .index .given .1)
 
-abbrev the-index : {t : ℕ} → In-small t small-lts.After-joined5 → In-small t small-lts.After-index
-the-index c = search
+-- the sets that are joined are there
+sets-inside : (t : ℕ) (c : In-small t small-lts.After-index) → let l = the-loop c .loop in
+    (alternativeSize * c .index .given .0 .0 + setSize ≤ length (l .alternatives)) × (nodeSize * first (the-loop c) .args .y + setSize ≤ length (l .nodes))
+sets-inside t c = turn-sets-inside (chosen t c)
+
+abbrev the-index : {t : ℕ} → In-small t small-lts.After-join → In-small t small-lts.After-index
+the-index c = c .before .before .before .before .before .before .before .before .before .before
 
 -- and joined to the state's set
-joined : (t : ℕ) (c : In-small t small-lts.After-joined5) → let l = the-loop (the-index c) in
-    Joined (l .loop .inv) (the-index c .index .given .0 .0) (l .before .load-node .result) ?
+joined : (t : ℕ) (c : In-small t small-lts.After-join) → let l = the-loop (the-index c) in
+    Joined (l .loop .inv) (the-index c .index .given .0 .0) (l .before .load-node .result) (setOf (c .join .last .0) 0)
 joined t c = ?
 
 -- ---- the needs, in the code's order
@@ -298,13 +316,18 @@ pub +judge+judge-linked+put+put-alternatives-spec : {M : Type 1} → statement M
     (λ c κs. search needs) (λ c κs. search (put-adds, needs)) (λ c. search needs) (λ c. search needs)
     (λ c. search (put-waits, needs))
     -- node_set(p), inverse(role), lacks(.., nodes, above)
-    (λ c κs. search needs) (λ c κs. search needs) (λ c κs. ?)
+    (λ c κs. search needs) (λ c κs. search needs)
+    (λ c κs. let s : In-put t put-lts.Start = search in (s .pre .1 .decoded, omega arith, above-inside t (search)))
     -- lacking(.., nodes, above, &mut lacked, 0)
-    (λ c. ?) (λ c κs. ?)
+    (λ c. refl)
+    (λ c κs. let s : In-put t put-lts.Start = search in (s .pre .1 .decoded, omega arith, above-inside t (search), omega arith, zeros-empty))
     -- return add_lapsed(..)
     (λ c κs. search (put-joins, needs))
     (λ c. search needs) (λ c. search needs) (λ c. search needs)
-    (λ c. ?)
+    (λ c. let a : In-put t put-lts.After-add-lapsed = search in let k : In-put t put-lts.After-lacking = search in let w : In-put t put-lts.Then3 = search in
+    let i : In-put t put-lts.After-node-set = search in let s : In-put t put-lts.Start = search in
+    put-lapses (weighed t (w .before)) (w .if3 .taken)
+    (k .lacking .ensures .1 ∙ ap (λ (q : ℕ). lacking (problemOf (s .args .problem .now)) (setOf (s .args .s .now) 0) _ (setOf (s .args .nodes .now) q)) (i .node-set .ensures)) (a .add-lapsed .ensures))
     -- link_special(.., p, role, s)
     (λ c κs. search needs) (λ c. search needs) (λ c. search needs)
     -- judge(.., d, z)
@@ -342,7 +365,7 @@ pub +judge+judge-linked+put+put-alternatives-spec : {M : Type 1} → statement M
     -- i = index + 1
     (λ c. omega (arith, turn-index (chosen t (search))))
     -- copy(&mut joined, 0, alternatives, alternative_set(index), SET_WORDS)
-    (λ c. ?) (λ c κs. ?) (λ c κs. ?)
+    (λ c. refl) (λ c κs. omega (arith, turn-index (chosen t (search)))) (λ c κs. ?)
     -- join(&mut joined, 0, nodes, node_set(y), SET_WORDS)
     (λ c. ?) (λ c κs. search needs) (λ c κs. ?)
     -- put(.., cur, z, .., &joined)
