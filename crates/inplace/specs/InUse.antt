@@ -1,4 +1,5 @@
--- The words in use: where a mask has no row beyond m words, the rows that a set and the mask have in common are those of m words, and the words after them are empty.
+-- The words in use: where a mask has no row beyond m words, the rows that a set and the mask have in common are those of m words, and the mask's words
+-- after them are empty.
 use mathlib.Core.Path.{_≡_, sym, ap, ap₂, _∙_}
 use mathlib.Core.Bool.{Bool, false, _&&_}
 use mathlib.Core.List.{List}

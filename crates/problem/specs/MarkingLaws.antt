@@ -1,6 +1,6 @@
 -- Laws of Marking.
 --
--- In order: where masks stand; the words, and every mask, after a row joined one of them (`mark-mem`); the rows of a list, one after the other; a mask that is cleared; a mask joined by another.
+-- In order: where masks stand; the words, and every mask, after a row joined one of them (`mark-mem`); a mask that is emptied; a mask joined by another.
 use mathlib.Core.Path.{_≡_, refl, sym, ap, ap₂, _∙_}
 use mathlib.Core.Bool.{Bool, true, false, _&&_, _||_, cond}
 use mathlib.Core.List.{List}
@@ -71,7 +71,7 @@ mark-mem w words enough i m k q hi hm hk = elim (ℕ-discrete m i) [
       | no g ↦ inr (omega arith)
     ]
 
--- ---- a mask that is cleared
+-- ---- a mask that is emptied
 
 pub cleared-mask : (at : ℕ) {w v : List ℕ} → Clears setWords at w v → maskOf v at ≡ empty
 unfolding maskAt

@@ -1,6 +1,7 @@
 -- Laws of Remade.
 --
--- In order: words beside a stretch, and the masks there; the table, and what is said of the rows, where the stretch has neither the single words nor the rows; words made one by one.
+-- In order: words beside a stretch, and the masks there; the table, and what is said of the rows, where the stretch has neither the counts nor the rows;
+-- words made one by one.
 use mathlib.Core.Path.{_≡_, refl, sym, ap, _∙_}
 use mathlib.Core.List.{List, map}
 use mathlib.Core.Logic.{_⊎_, inl, inr}

@@ -1,6 +1,7 @@
 // The inclusions of a problem, written into its words (02, [6]): along which roles a row reaches, and which roles are narrower than a role.
 //
-// In order: each role is narrower than itself; rows that reach along further roles, in one word of the masks and in all; further narrower roles; a pair of roles more; the inclusion in a row; all.
+// In order: each role is narrower than itself; rows that reach along further roles, in one word of the masks and in all; further narrower roles;
+// a pair of roles more; the inclusion in a row; all.
 ghost use mathlib.Core.Path.{_≡_};
 ghost use mathlib.Core.Bool.{cond};
 ghost use Prim.Native.Nat.{_≤_, _<_};
@@ -40,7 +41,8 @@ fn word_if(keep: bool, word: u64) -> u64
     if keep { word } else { 0 }
 }
 
-// Along each role that is narrower than the first, the rows of word j that reach along the second, if there are any. Each mask is written, so that the loop has no branch.
+// Along each role that is narrower than the first, the rows of word j that reach along the second, if there are any.
+// Each mask is written, so that the loop has no branch.
 fn join_word(out: &mut [u64], narrow: usize, wide: usize, j: usize)
     requires { ⌜ (narrow < 32) × (wide < 32) × (j < setWords) × (room ≤ length (now out)) ⌝ }
     ensures { λ _. ⌜ JoinsWord j 32 narrow wide (now (out .entry)) (now (out .exit)) ⌝ }

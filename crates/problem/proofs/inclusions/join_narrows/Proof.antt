@@ -57,7 +57,8 @@ join-narrows-spec =
     (λ c. let s : At tie.Start = search in omega (arith, s .pre)) (λ c. let s : At tie.Start = search in omega (arith, s .pre))
     (λ c. let s : At tie.Start = search in omega (arith, s .pre .0, s .pre .2)) loop-holds
     -- out[NARROWS + code]
-    (λ c. omega arith) (λ c. omega arith) (λ c. let s : At tie.Start = search in let l : At tie.At-loop = search in omega (arith, l .loop .inv .2 .longs, s .pre .2))
+    (λ c. omega arith) (λ c. omega arith)
+    (λ c. let s : At tie.Start = search in let l : At tie.At-loop = search in omega (arith, l .loop .inv .2 .longs, s .pre .2))
     -- known >> wide, word_if(..)
     (λ c. let s : At tie.Start = search in omega (arith, s .pre .1)) (λ c κs. search needs)
     -- out[NARROWS + code] = ..
@@ -65,6 +66,7 @@ join-narrows-spec =
     (λ c. let s : At tie.Start = search in let i : At tie.In-loop = search in let l : At tie.At-loop = search in
     omega (arith, l .loop .inv .2 .longs, s .pre .2, i .loop-test .taken))
     -- the loop again
-    (λ c. let l : At tie.In-loop = search in omega (arith, l .loop-test .taken)) (λ c. let l : At tie.In-loop = search in omega (arith, l .loop-test .taken)) loop-again
+    (λ c. let l : At tie.In-loop = search in omega (arith, l .loop-test .taken)) (λ c. let l : At tie.In-loop = search in omega (arith, l .loop-test .taken))
+    loop-again
     -- the end
     (λ c. c .before .loop .inv .2 .longs) returns)

@@ -35,7 +35,8 @@ loop-holds c =
     let s : At tie.Start = search in
     let a = s .args in
     let w = a .out .now in
-    (refl, refl, omega arith, remade-none (λ x. rolePlace x + a .j) (λ x. joining (mem x (getD w (narrowsAt + a .narrow) 0)) (getD w (rolePlace (a .wide) + a .j) 0)) w)
+    let made : ℕ → ℕ → ℕ = λ x. joining (mem x (getD w (narrowsAt + a .narrow) 0)) (getD w (rolePlace (a .wide) + a .j) 0) in
+    (refl, refl, omega arith, remade-none (λ x. rolePlace x + a .j) made w)
 
 loop-again : tie.Need-loop-again Inv-loop μ-loop
 unfolding mem union

@@ -1,4 +1,5 @@
--- `problem::inclusions::put_inclusion` meets its contract: the two roles are chained, and both turned round (`inclusion-row`); any other row adds nothing (`other-row`).
+-- `problem::inclusions::put_inclusion` meets its contract: the two roles are chained, and both turned round (`inclusion-row`);
+-- any other row adds nothing (`other-row`).
 use mathlib.Core.Path.{subst₂}
 use Prim.Native.Nat.{ℕ, _<_}
 use native.Mathlib.Omega.{arith}

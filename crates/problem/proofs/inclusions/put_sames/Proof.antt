@@ -42,4 +42,10 @@ returns c =
 pub put-sames-spec : {M : Type 1} → statement M
 put-sames-spec =
     tie.close (tie.spec
-    Inv-loop μ-loop loop-holds (λ c. omega arith) (λ c. omega arith) (λ c. omega arith) slice-write-out (λ c. omega arith) (λ c. omega arith) loop-again same-length returns)
+    Inv-loop μ-loop loop-holds
+    -- out[NARROWS + code] = 1u64 << code
+    (λ c. omega arith) (λ c. omega arith) (λ c. omega arith) slice-write-out
+    -- the loop again
+    (λ c. omega arith) (λ c. omega arith) loop-again
+    -- the end
+    same-length returns)
