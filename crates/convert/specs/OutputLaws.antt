@@ -1,7 +1,6 @@
 -- Laws of Output.
 --
 -- In order: what is known of every conversion; a file is written; a refusal is written; how much of a draft is read.
--- Assumes nothing.
 use mathlib.Core.Path.{_≡_, refl, sym, ap, _∙_}
 use mathlib.Core.Bool.{Bool, true, false, _||_}
 use mathlib.Core.List.{[], _∷_}
@@ -13,7 +12,7 @@ use lib.Seq.{take-at}
 use borrow.Author.Tests.{ltb-false}
 use Rattle.concepts.specs.Tests.{or-neither}
 use Rattle.decoding.specs.Decoding.{draftKinds}
-use Rattle.rulefile.specs.Format.{Bytes, wantedRows, RuleFile, Reading, refused, accepted}
+use Rattle.rulefile.specs.Format.{Bytes, wantedRows, mostRows, RuleFile, Reading, refused, accepted}
 use Rattle.rulefile.specs.CheckLaws.{refused-positive}
 use Rattle.run.specs.Printed.{ascii, line}
 use Rattle.run.specs.ProgramLaws.{reading-take}
@@ -40,7 +39,8 @@ conversion-sound draft room = go (draftReading draft) refl
     fits f true e = omega arith
     fits f false e =
         let bytes = length (fileBytes f) in
-        ltb-false room bytes (or-neither (ltb 4096 bytes) (ltb room bytes) (or-neither (ltb 64 (length (f .table))) (ltb 4096 bytes || ltb room bytes) e .1) .1)
+        let (few, fit) = or-neither (ltb mostRows (length (f .table))) (ltb 4096 bytes || ltb room bytes) e in
+        ltb-false room bytes (or-neither (ltb 4096 bytes) (ltb room bytes) fit .1)
 
     go : (r : Reading) → draftReading draft ≡ r → Sound room (conversionOf room r)
     go (refused n) e = refused-positive draftKinds (wantedRows draft) draft n e

@@ -2,7 +2,6 @@
 --
 -- In order: answers by their names; a draft that passed the checks; its inclusions, its rules and its wanted row, put one after the other; too many rows;
 -- the file's bytes; a file that does not fit, or does; the call.
--- Assumes nothing.
 use mathlib.Core.Path.{_≡_, refl, sym, ap, _∙_, subst}
 use mathlib.Core.Bool.{true, false, _||_}
 use mathlib.Core.List.{List, [], _∷_, List·Memᴰ}
@@ -17,7 +16,7 @@ use Rattle.concepts.specs.ListLaws.{length-map-range}
 use Rattle.concepts.specs.Begins.{begins-length}
 use Rattle.concepts.specs.Concept.{Table, conceptAt, asRule, asWanted}
 use Rattle.decoding.specs.Decoding.{draftKinds}
-use Rattle.rulefile.specs.Format.{Bytes, ruleCount, rule, rules, wantedRows, RuleFile, contents, refused, accepted}
+use Rattle.rulefile.specs.Format.{Bytes, ruleCount, rule, rules, wantedRows, mostRows, mostRules, RuleFile, contents, refused, accepted}
 use Rattle.rulefile.specs.Read.{Laid}
 use Rattle.rulefile.specs.CheckLaws.{accepted-contents, accepted-passed}
 use Rattle.rulefile.specs.FormatLaws.{Admitted, contents-admitted}
@@ -33,7 +32,7 @@ use Rattle.drafts.specs.Promise.{Promise}
 use Rattle.drafts.proofs.Kept.{conversion-refused, conversion-accepted, promise-kept}
 use Rattle.normalize.specs.Words.{rowIn, rowsIn}
 use Rattle.normalize.specs.WordLaws.{own-parts, length-rowsIn, conceptAt-rowsIn}
-use Rattle.normalize.specs.Shapes.{tableOf}
+use Rattle.normalize.specs.Shapes.{tableOf, slots, noPlace}
 use Rattle.normalize.specs.ShapeLaws.{draft-parted, draft-ordered, draft-rows}
 use Rattle.normalize.specs.Contracts.{Draft, ListAsks, ListGives, KeepAsks, KeepGives}
 use Rattle.normalize.specs.PutCases.{remembers-none}
@@ -75,11 +74,11 @@ module _ {b : Bytes} {l : Layout} (L : Laid draftKinds b l) where
   abbrev kitPlaces : PutList
   kitPlaces = putList (tableOf b) (wantedRows b) (rulePlaces .rows)
 
-  pub inclusions-asks : (ws : List ℕ) → length ws ≡ 64 → KeepAsks b (l .rows) ws
+  pub inclusions-asks : (ws : List ℕ) → length ws ≡ mostRows → KeepAsks b (l .rows) ws
   inclusions-asks ws words = record { draft = laid-draft; rows = ap (λ (x : Layout). x .rows) (laid-placed L .layout); size = words }
 
-  module _ {list : List ℕ} (is-rules : list ≡ rules b) {ws : List ℕ} {n₀ : ℕ} (I : KeepGives b ws n₀) (places : List ℕ) (room : length places ≡ 64) where
-    pub rules-asks : ListAsks b list (replicate 128 255) ws n₀ places
+  module _ {list : List ℕ} (is-rules : list ≡ rules b) {ws : List ℕ} {n₀ : ℕ} (I : KeepGives b ws n₀) (places : List ℕ) (room : length places ≡ mostRules) where
+    pub rules-asks : ListAsks b list (replicate slots noPlace) ws n₀ places
     rules-asks = record {
       draft = laid-draft;
       listed = λ k m. omega (arith, laid-admitted .wellFormed .ruleRows k (subst (λ (ks : List ℕ). List·Memᴰ k ks) is-rules m), draft-rows laid-draft);
@@ -93,10 +92,10 @@ module _ {b : Bytes} {l : Layout} (L : Laid draftKinds b l) where
     rules-put = rw (is-rules, I .rows)
 
     -- too many rows
-    pub rules-full : {memo′ ws′ places′ : List ℕ} → ListGives b list ws n₀ memo′ ws′ places places′ Full → 64 < length (result b .table)
+    pub rules-full : {memo′ ws′ places′ : List ℕ} → ListGives b list ws n₀ memo′ ws′ places places′ Full → mostRows < length (result b .table)
     unfolding normalized
     rules-full G =
-        let long : 64 < length (rulePlaces .rows) = rw rules-put at (G .got) in
+        let long : mostRows < length (rulePlaces .rows) = rw rules-put at (G .got) in
         omega (arith, begins-length (rulePlaces .rows) (kitPlaces .rows) (putList-grown (tableOf b) (draft-ordered laid-draft) (wantedRows b) (rulePlaces .rows) .more))
 
     module _ {memo′ ws′ places′ : List ℕ} {n : ℕ} (G : ListGives b list ws n₀ memo′ ws′ places places′ (Rows n)) {kit : List ℕ} (is-kit : kit ≡ wantedRows b) where
@@ -113,7 +112,7 @@ module _ {b : Bytes} {l : Layout} (L : Laid draftKinds b l) where
       kit-put : putList (tableOf b) kit (rowsIn ws′ n) ≡ kitPlaces
       kit-put = rw (is-kit, G .got .rows, rules-put)
 
-      pub kit-full : {memo″ ws″ wanted′ : List ℕ} → ListGives b kit ws′ n memo″ ws″ (0 ∷ []) wanted′ Full → 64 < length (result b .table)
+      pub kit-full : {memo″ ws″ wanted′ : List ℕ} → ListGives b kit ws′ n memo″ ws″ (0 ∷ []) wanted′ Full → mostRows < length (result b .table)
       unfolding normalized
       kit-full F = rw kit-put at (F .got)
 
@@ -145,9 +144,9 @@ module _ {b : Bytes} {l : Layout} (L : Laid draftKinds b l) {before : Bytes} whe
       let large : conversion b (length before) ≡ refusedWith 12 = conversion-laid L (length before) ∙ rw h in
       record { numbersAre = ap numbers (sym large); areaIs = ap (λ (c : Conversion). areaAfter c before) (sym large) }
 
-  pub too-many : 64 < length (result b .table) → Converts b before (refusedNumbers 12) before
+  pub too-many : mostRows < length (result b .table) → Converts b before (refusedNumbers 12) before
   unfolding tooLarge
-  too-many h = refused-large (rw (lt-ltb 64 (length (result b .table)) h))
+  too-many h = refused-large (rw (lt-ltb mostRows (length (result b .table)) h))
 
 -- ---- the file's bytes
 
@@ -156,7 +155,7 @@ module _ {b : Bytes} {l : Layout} {ws : List ℕ} {n : ℕ} {list : List ℕ} {w
   f = result b
 
   -- its parts are small
-  pub finish-small : (l .text ≤ length b) × (l .text ≤ 4096) × (l .rules ≤ 64) × (n ≤ 64)
+  pub finish-small : (l .text ≤ length b) × (l .text ≤ 4096) × (l .rules ≤ mostRules) × (n ≤ mostRows)
   finish-small =
       let P = laid-placed (A .laid) in
       (omega (arith, whole P), omega (arith, whole P), rw (P .layout) (P .parts .fewRules), A .held .few)
@@ -203,7 +202,7 @@ module _ {b : Bytes} {l : Layout} {ws : List ℕ} {n : ℕ} {list : List ℕ} {w
   -- the code's tests are those of the definition
   tests : (room : ℕ) (size : ℕ) → size ≡ length (fileBytes f) → tooLarge room f ≡ (ltb 4096 size || ltb room size)
   unfolding tooLarge
-  tests room size e = rw (row-count, le-ltb 64 n (A .held .few), e)
+  tests room size e = rw (row-count, le-ltb mostRows n (A .held .few), e)
 
   pub finish-refused : {before : Bytes} {size : ℕ} → size ≡ l .text + 4 * n + l .rules + 8 → (ltb 4096 size || ltb (length before) size) ≡ true
       → Converts b before (refusedNumbers 12) before

@@ -9,12 +9,13 @@ ghost use Rattle.converter.specs.Contracts.{numbersOf, refusedNumbers, F
 use decoding::DRAFT_KINDS;
 use encoder::write_file;
 use normalize::Listed;
-use normalize::MOST_ROWS;
 use normalize::NO_PLACE;
 use normalize::SLOTS;
 use normalize::keep_inclusions;
 use normalize::put_list;
 use rulefile::Layout;
+use rulefile::MOST_ROWS;
+use rulefile::MOST_RULES;
 use rulefile::Outcome;
 use rulefile::read;
 use rulefile::rules_of;
@@ -34,9 +35,7 @@ const TOO_LARGE: u32 = 12;
 
 const LONGEST: usize = 4096;
 
-// The most rules, the bytes of a row and of the trailer.
-const MOST_RULES: usize = 64;
-
+// The bytes of a row and of the trailer.
 const ROW: usize = 4;
 
 const TRAILER: usize = 8;

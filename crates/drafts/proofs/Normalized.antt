@@ -2,7 +2,6 @@
 --
 -- In order: the rules and the wanted rows, put one list after the other behind the inclusions; the places are rows, and no inclusions (`normalized-writable`);
 -- each is needed, and means what it meant (`normalized-keeps`).
--- Assumes nothing.
 use mathlib.Core.Path.{_≡_, refl, sym, _∙_, subst}
 use mathlib.Core.Bool.{false, not, _||_}
 use mathlib.Core.List.{List, List·Memᴰ}
@@ -19,7 +18,7 @@ use Rattle.concepts.specs.Begins.{Begins, begins-refl, begins-trans}
 use Rattle.concepts.specs.Concept.{Concept, atomic, Table, conceptAt, Ordered, isInclusion, NoInclusion, Serves, asArgument, asRule, asWanted}
 use Rattle.meaning.specs.Meaning.{World}
 use Rattle.decoding.specs.RowParts.{inRange}
-use Rattle.rulefile.specs.Format.{RuleFile}
+use Rattle.rulefile.specs.Format.{mostRows, RuleFile}
 use Rattle.rulefile.specs.FormatLaws.{Admitted}
 use Rattle.drafts.specs.Normalize.{asIs, stands, Put, put, PutList, putList, inclusionRows, normalized}
 use Rattle.drafts.specs.Encoding.{fileBytes}
@@ -123,11 +122,11 @@ module _ (draft : RuleFile) (A : Admitted draft) where
   unfolding normalized tooLarge
   normalized-writable one room e =
       let f = normalized draft in
-      let (fewRows, bytes) = or-neither (ltb 64 (length (f .table))) (ltb 4096 (length (fileBytes f)) || ltb room (length (fileBytes f))) e in
+      let (fewRows, bytes) = or-neither (ltb mostRows (length (f .table))) (ltb 4096 (length (fileBytes f)) || ltb room (length (fileBytes f))) e in
       let (short, fits) = or-neither (ltb 4096 (length (fileBytes f))) (ltb room (length (fileBytes f))) bytes in
       record {
         sound = sound;
-        fewRows = ltb-false 64 (length (f .table)) fewRows;
+        fewRows = ltb-false mostRows (length (f .table)) fewRows;
         fewRules = omega (arith, R .count, A .fewRules);
         ruleRows = place-listed t ordered (draft .tbox) (rules .places) (kit .rows) rule-settled (R .count);
         oneWanted = K .count ∙ one;

@@ -1,13 +1,12 @@
 -- The whole conversion: from the bytes of a draft and the lent area to the answer and the area afterwards (02, [1]).
 --
 -- In order: what comes of a draft; its numbers; the area afterwards.
--- Assumes nothing.
 use mathlib.Core.Bool.{Bool, true, false, _||_}
 use Prim.Native.Nat.{ℕ}
 use lib.Dec.{ltb}
 use lib.ListN.{length}
 use Rattle.decoding.specs.Decoding.{draftKinds}
-use Rattle.rulefile.specs.Format.{Bytes, RuleFile, Reading, refused, accepted, readingOf}
+use Rattle.rulefile.specs.Format.{Bytes, mostRows, RuleFile, Reading, refused, accepted, readingOf}
 use Rattle.words.specs.Words.{overwrite}
 use Rattle.drafts.specs.Normalize.{normalized}
 use Rattle.drafts.specs.Encoding.{fileBytes}
@@ -24,7 +23,7 @@ pub data Conversion : Type 0 where
 
 -- "if the result needs more than 64 rows, more than 4,096 bytes or more than the area"
 unfoldable pub tooLarge : ℕ → RuleFile → Bool
-tooLarge room f = ltb 64 (length (f .table)) || (ltb 4096 (length (fileBytes f)) || ltb room (length (fileBytes f)))
+tooLarge room f = ltb mostRows (length (f .table)) || (ltb 4096 (length (fileBytes f)) || ltb room (length (fileBytes f)))
 
 unfoldable pub writtenOr : Bool → RuleFile → Conversion
 writtenOr true f = refusedWith 12

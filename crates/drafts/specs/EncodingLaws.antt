@@ -4,7 +4,6 @@
 -- where each part stands, of any file (`trailerByte-fileBytes`, `firstRow-fileBytes`, `rowBytes-fileBytes`, `rule-fileBytes`);
 -- of a file that is `Writable`: its rows are decoded to themselves (`decode-fileBytes`), each check passes (`badLength-fileBytes` to `passed-fileBytes`),
 -- the bytes hold the file (`contents-fileBytes`), so it reads as it was written (`written-back`).
--- Assumes nothing.
 use mathlib.Core.Path.{_≡_, refl, sym, ap, _∙_}
 use mathlib.Core.Bool.{Bool, false, not}
 use mathlib.Core.List.{List, [], _∷_, _++_, append-assoc}
@@ -24,7 +23,8 @@ use Rattle.concepts.specs.Concept.{atomic, Table, conceptAt, arguments, isInclu
 use Rattle.decoding.specs.Decoding.{ruleKinds, decode, malformed, conceptOf}
 use Rattle.decoding.specs.RowPartLaws.{row-parts, decode-own}
 use Rattle.rulefile.specs.Format.{Bytes, trailerByte, firstRow, rowCount, ruleCount, wantedRow, wantedRows, rowByte, rule, conceptIn, RuleFile, contents, accepted, reading}
-use Rattle.rulefile.specs.Format.{badLength, badMark, badCounts, badPlace, badRow, badArgument, someRow, sameRow, repeated, badRule, inclusionAt, inclusionNamed, inclusionServes, checks}
+use Rattle.rulefile.specs.Format.{mostRows, mostRules, badLength, badMark, badCounts, badPlace, badRow, badArgument}
+use Rattle.rulefile.specs.Format.{someRow, sameRow, repeated, badRule, inclusionAt, inclusionNamed, inclusionServes, checks}
 use Rattle.rulefile.specs.Checks.{refusesAt, PassedAll}
 use Rattle.rulefile.specs.CheckLaws.{reading-accepted}
 use Rattle.drafts.specs.Normalize.{sameRow as sameParts}
@@ -156,7 +156,7 @@ module _ (f : RuleFile) (W : Writable f) where
   unfolding badCounts
   badCounts-fileBytes =
       rw (rowCount-fileBytes f, ruleCount-fileBytes f, ne-eqb (length (f .table)) 0 (λ e. omega (arith, wanted-lt)))
-      (rw (le-ltb 64 (length (f .table)) (W .fewRows), le-ltb 64 (length (f .tbox)) (W .fewRules)))
+      (rw (le-ltb mostRows (length (f .table)) (W .fewRows), le-ltb mostRules (length (f .tbox)) (W .fewRules)))
 
   badPlace-fileBytes : badPlace (fileBytes f) ≡ false
   unfolding badPlace

@@ -1,5 +1,4 @@
 -- What makes a file one that reads as it was written: no inclusion is an argument, the rows, and the whole.
--- Assumes nothing.
 use mathlib.Core.Path.{_≡_}
 use mathlib.Core.Bool.{false}
 use mathlib.Core.List.{List·Memᴰ}
@@ -8,7 +7,7 @@ use lib.Dec.{T}
 use lib.ListN.{length}
 use Rattle.concepts.specs.Concept.{Table, conceptAt, arguments, Ordered, NoInclusion, Serves, Normal}
 use Rattle.decoding.specs.RowParts.{inRange}
-use Rattle.rulefile.specs.Format.{RuleFile}
+use Rattle.rulefile.specs.Format.{mostRows, mostRules, RuleFile}
 use Rattle.drafts.specs.Normalize.{sameRow}
 use Rattle.drafts.specs.Encoding.{fileBytes}
 
@@ -26,8 +25,8 @@ pub record Sound (t : Table) : Type 0 where
 
 pub record Writable (f : RuleFile) : Type 0 where
   pub sound : Sound (f .table)
-  pub fewRows : length (f .table) ≤ 64
-  pub fewRules : length (f .tbox) ≤ 64
+  pub fewRows : length (f .table) ≤ mostRows
+  pub fewRules : length (f .tbox) ≤ mostRules
   pub ruleRows : (k : ℕ) → List·Memᴰ k (f .tbox) → k < length (f .table)
   pub oneWanted : length (f .wanted) ≡ 1
   pub wantedRows : (k : ℕ) → List·Memᴰ k (f .wanted) → k < length (f .table)

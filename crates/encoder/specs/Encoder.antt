@@ -2,13 +2,12 @@
 --
 -- In order: a word's bytes, and those of the first words; the trailer; the whole; what the writers ask; how far one has come.
 -- A row comes as a word of 32 bits that holds its four bytes.
--- Assumes nothing.
 use mathlib.Core.Path.{_≡_}
 use mathlib.Core.List.{List, [], _∷_, _++_}
 use Prim.Native.Nat.{ℕ, zero, suc, _+_, _*_, _/_, _%_, _≤_, _<_}
 use lib.ListN.{length, getD}
 use lib.Seq.{sets}
-use Rattle.rulefile.specs.Format.{Bytes}
+use Rattle.rulefile.specs.Format.{Bytes, mostRows, mostRules}
 
 -- ---- the bytes
 
@@ -46,8 +45,8 @@ pub record TrailerAsks (area : Bytes) (at first count rules : ℕ) : Type 0 wher
 -- the words are there, each number of the trailer fits its bytes, and the area has room for the file
 pub record FileAsks (area text : Bytes) (written : List ℕ) (count : ℕ) (rules : Bytes) : Type 0 where
   pub held : count ≤ length written
-  pub fewRows : count ≤ 64
-  pub fewRules : length rules ≤ 64
+  pub fewRows : count ≤ mostRows
+  pub fewRules : length rules ≤ mostRules
   pub shortText : length text ≤ 4096
   pub room : length text + 4 * count + length rules + 8 ≤ length area
 

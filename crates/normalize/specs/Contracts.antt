@@ -1,7 +1,6 @@
 -- What the functions that put rows ask and give. Laws are in PutCases and ListCases.
 --
 -- In order: a draft; places that are remembered; a row that is shared; a row with all that it needs; a list of rows; the inclusions.
--- Assumes nothing.
 use mathlib.Core.Path.{_≡_}
 use mathlib.Core.List.{List, List·Memᴰ}
 use Prim.Native.Nat.{ℕ, _≤_, _<_}
@@ -9,7 +8,7 @@ use lib.ListN.{length, getD, take}
 use Rattle.concepts.specs.Begins.{Begins}
 use Rattle.concepts.specs.Concept.{Table, NoInclusion}
 use Rattle.decoding.specs.Decoding.{draftKinds}
-use Rattle.rulefile.specs.Format.{Bytes, rowCount, wantedRows}
+use Rattle.rulefile.specs.Format.{Bytes, rowCount, wantedRows, mostRows}
 use Rattle.rulefile.specs.Checks.{PassedAll}
 use Rattle.drafts.specs.Normalize as Normalize
 use Rattle.drafts.specs.Normalize.{Sign, stands, share, put, PutList, putList, inclusionRows}
@@ -18,7 +17,7 @@ use Rattle.normalize.specs.declared.Placement.the-variants.{At, Full}
 use Rattle.normalize.specs.declared.Listed.{Listed}
 use Rattle.normalize.specs.declared.Listed.the-variants as Listed
 use Rattle.normalize.specs.Words.{Own, rowIn, rowsIn, Held}
-use Rattle.normalize.specs.Shapes.{tableOf, slotOf}
+use Rattle.normalize.specs.Shapes.{tableOf, slots, noPlace, slotOf}
 
 -- ---- a draft that passed all checks
 
@@ -32,8 +31,8 @@ abbrev pub Settled : Bytes → Sign → ℕ → Table → ℕ → Type 0
 Settled b s k out place = (u : Table) → Begins out u → put (tableOf b) s k u ≡ stands u place
 
 pub record Remembers (b : Bytes) (out : Table) (memo : List ℕ) : Type 0 where
-  pub size : length memo ≡ 128
-  pub settled : (k : ℕ) (s : Sign) → k < rowCount b → getD memo (slotOf k s) 0 < 255 → Settled b s k out (getD memo (slotOf k s) 0)
+  pub size : length memo ≡ slots
+  pub settled : (k : ℕ) (s : Sign) → k < rowCount b → getD memo (slotOf k s) 0 < noPlace → Settled b s k out (getD memo (slotOf k s) 0)
 
 -- ---- a row that is shared
 
@@ -50,7 +49,7 @@ pub record Stands (p : Normalize.Put) (ws : List ℕ) (place n : ℕ) : Type 0 w
 -- or there are more rows than a file can have
 abbrev pub Gives : Normalize.Put → List ℕ → Placement → Type 0
 Gives p ws (At place n) = Stands p ws place n
-Gives p ws Full = 64 < length (p .rows)
+Gives p ws Full = mostRows < length (p .rows)
 
 pub record SharesRow (ws : List ℕ) (n w : ℕ) (ws′ : List ℕ) (r : Placement) : Type 0 where
   pub size : length ws′ ≡ length ws
@@ -71,8 +70,8 @@ Still b memo ws (At place n) = Remembers b (rowsIn ws n) memo
 Still b memo ws Full = Unit {0}
 
 pub record PutGives (b : Bytes) (ws : List ℕ) (n k : ℕ) (s : Sign) (memo′ ws′ : List ℕ) (r : Placement) : Type 0 where
-  pub memoSize : length memo′ ≡ 128
-  pub size : length ws′ ≡ 64
+  pub memoSize : length memo′ ≡ slots
+  pub size : length ws′ ≡ mostRows
   pub gives : Gives (put (tableOf b) s k (rowsIn ws n)) ws′ r
   pub still : Still b memo′ ws′ r
 
@@ -94,11 +93,11 @@ pub record ListStands (b : Bytes) (q : PutList) (count : ℕ) (memo ws places : 
 
 abbrev pub ListGot : Bytes → PutList → ℕ → List ℕ → List ℕ → List ℕ → Listed → Type 0
 ListGot b q count memo ws places (Listed.Rows n) = ListStands b q count memo ws places n
-ListGot b q count memo ws places Listed.Full = 64 < length (q .rows)
+ListGot b q count memo ws places Listed.Full = mostRows < length (q .rows)
 
 pub record ListGives (b list ws : List ℕ) (n : ℕ) (memo′ ws′ places places′ : List ℕ) (r : Listed) : Type 0 where
-  pub memoSize : length memo′ ≡ 128
-  pub size : length ws′ ≡ 64
+  pub memoSize : length memo′ ≡ slots
+  pub size : length ws′ ≡ mostRows
   pub placeSize : length places′ ≡ length places
   pub got : ListGot b (putList (tableOf b) list (rowsIn ws n)) (length list) memo′ ws′ places′ r
 
@@ -107,7 +106,7 @@ pub record ListGives (b list ws : List ℕ) (n : ℕ) (memo′ ws′ places plac
 pub record KeepAsks (b : Bytes) (count : ℕ) (ws : List ℕ) : Type 0 where
   pub draft : Draft b
   pub rows : count ≡ rowCount b
-  pub size : length ws ≡ 64
+  pub size : length ws ≡ mostRows
 
 -- the first n words hold those among the first k rows
 pub record Kept (b : Bytes) (k : ℕ) (ws : List ℕ) (n : ℕ) : Type 0 where

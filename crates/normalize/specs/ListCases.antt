@@ -1,7 +1,6 @@
 -- The ways through the loop that puts a list of rows, on plain values.
 --
 -- In order: how far the loop has come (`Course`); its start; the next row; a turn; a turn that finds no place; its end.
--- Assumes nothing.
 use mathlib.Core.Path.{_≡_, refl, sym, ap, _∙_}
 use mathlib.Core.List.{List, [], _∷_, _++_, append-nil, append-assoc}
 use Prim.Native.Nat.{ℕ, suc, _+_, _≤_, _<_}
@@ -12,6 +11,7 @@ use lib.Seq.{drop-cons, take-suc-set}
 use Rattle.concepts.specs.ListLaws.{getD-mem}
 use Rattle.concepts.specs.Begins.{begins-length}
 use Rattle.concepts.specs.Concept.{Table}
+use Rattle.rulefile.specs.Format.{mostRows}
 use Rattle.drafts.specs.Normalize as Normalize
 use Rattle.drafts.specs.Normalize.{asIs, put, putList}
 use Rattle.drafts.specs.PutListLaws.{putList-grown}
@@ -85,7 +85,7 @@ module _ {b list memo₀ ws₀ : List ℕ} {n₀ : ℕ} {places₀ : List ℕ} (
         pub course-full : PutGives b ws n k asIs memo′ ws′ Full → ListGives b list ws₀ n₀ memo′ ws′ places₀ places Listed.Full
         course-full G =
             let more = putList-grown t (draft-ordered (A .draft)) (drop (suc i) list) (p .rows) .more in
-            let long : 64 < length (putList t (drop (suc i) list) (p .rows) .rows) = omega (arith, G .gives, begins-length (p .rows) _ more) in
+            let long : mostRows < length (putList t (drop (suc i) list) (p .rows) .rows) = omega (arith, G .gives, begins-length (p .rows) _ more) in
             record { memoSize = G .memoSize; size = G .size; placeSize = C .placeSize; got = rw (sym rest-rows ∙ C .rows) at long }
 
     -- ---- the end

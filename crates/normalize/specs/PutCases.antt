@@ -2,7 +2,6 @@
 --
 -- In order: answers by their names; a row that is shared (`share-there`, `share-next`, `share-none`); a row that is remembered, or is put and then remembered (`known-case`, `new-case`); a row that is
 -- not remembered, by what becomes of it: literal, other, over one row, over two.
--- Assumes nothing.
 use mathlib.Core.Path.{_≡_, refl, sym, ap, _∙_, subst}
 use mathlib.Core.Bool.{true, false}
 use mathlib.Core.List.{List, [], _∷_, _++_, List·Memᴰ}
@@ -14,7 +13,7 @@ use lib.Seq.{getD-set-same, getD-set-other}
 use Rattle.concepts.specs.Begins.{Begins, begins-refl, begins-trans, begins-length}
 use Rattle.concepts.specs.Concept.{Concept, Table, conceptAt, arguments}
 use Rattle.decoding.specs.RowParts.{ofParts}
-use Rattle.rulefile.specs.Format.{Bytes, rowCount}
+use Rattle.rulefile.specs.Format.{Bytes, rowCount, mostRows}
 use Rattle.drafts.specs.Normalize as Normalize
 use Rattle.drafts.specs.Normalize.{Sign, other, stands, share, putShape, put}
 use Rattle.drafts.specs.ShareLaws.{placeOf-at, placeOf-nowhere, share-found, share-new, share-gives}
@@ -26,7 +25,7 @@ use Rattle.normalize.specs.declared.Placement.{Placement}
 use Rattle.normalize.specs.declared.Placement.the-variants.{At, Full}
 use Rattle.normalize.specs.Words.{rowIn, rowsIn, Held, Finds}
 use Rattle.normalize.specs.WordLaws.{IsRow, length-rowsIn, rowsIn-more, held-more, found-none, found-row}
-use Rattle.normalize.specs.Shapes.{shapeOf, tableOf, ShapeAt, slotOf}
+use Rattle.normalize.specs.Shapes.{shapeOf, tableOf, ShapeAt, slots, noPlace, slotOf}
 use Rattle.normalize.specs.ShapeLaws.{draft-parted, draft-ordered, draft-idle}
 use Rattle.normalize.specs.Contracts.{Settled, Remembers, ShareAsks, Gives, SharesRow, PutAsks, Still, PutGives}
 
@@ -61,7 +60,7 @@ module _ {ws : List ℕ} {n w r : ℕ} (A : ShareAsks ws n w) (F : Finds ws n w 
         share-new (rowIn w) out (placeOf-nowhere (rowIn w) out (λ j h. found-none (A .held) (A .own) F j (omega (arith, length-rowsIn ws n))))
 
     -- it becomes the next row
-    pub share-next : n < 64 → SharesRow ws n w (set ws n w) (At n (n + 1))
+    pub share-next : n < mostRows → SharesRow ws n w (set ws n w) (At n (n + 1))
     share-next h = record {
       size = length-set ws n w;
       gives = record {
@@ -72,7 +71,7 @@ module _ {ws : List ℕ} {n w r : ℕ} (A : ShareAsks ws n w) (F : Finds ws n w 
     }
 
     -- there is no place for it
-    pub share-none : 64 ≤ n → SharesRow ws n w ws Full
+    pub share-none : mostRows ≤ n → SharesRow ws n w ws Full
     share-none h = record {
       size = refl;
       gives = rw new-row (omega (arith, length-append out (rowIn w ∷ []), length-rowsIn ws n));
@@ -85,13 +84,13 @@ module _ {b : Bytes} where
   remembers-grown {t} {u} R more = record { size = R .size; settled = λ k s h l v c. R .settled k s h l v (begins-trans t u v more c) }
 
   -- nothing is remembered at first
-  pub remembers-none : (t : Table) → rowCount b ≤ 64 → Remembers b t (replicate 128 255)
+  pub remembers-none : (t : Table) → rowCount b ≤ mostRows → Remembers b t (replicate slots noPlace)
   remembers-none t few = record {
     size = refl;
-    settled = λ k s h l. absurd (omega (arith, getD-replicate {A = ℕ} 128 (slotOf k s) 255 0 (slot-lt k s (omega arith))));
+    settled = λ k s h l. absurd (omega (arith, getD-replicate {A = ℕ} slots (slotOf k s) noPlace 0 (slot-lt k s (omega arith))));
   }
     where
-      slot-lt : (k : ℕ) (s : Sign) → k < 64 → slotOf k s < 128
+      slot-lt : (k : ℕ) (s : Sign) → k < mostRows → slotOf k s < slots
       slot-lt k true h = omega arith
       slot-lt k false h = omega arith
 
@@ -106,7 +105,7 @@ module _ {b : Bytes} {memo ws : List ℕ} {n k : ℕ} (A : PutAsks b memo ws n k
   target = put (tableOf b) s k (rowsIn ws n)
 
   -- the place is known
-  pub known-case : {place : ℕ} → place ≡ getD memo (slotOf k s) 0 → place < 255 → PutGives b ws n k s memo ws (At place n)
+  pub known-case : {place : ℕ} → place ≡ getD memo (slotOf k s) 0 → place < noPlace → PutGives b ws n k s memo ws (At place n)
   known-case {place} e h =
       let known : put (tableOf b) s k (rowsIn ws n) ≡ stands (rowsIn ws n) (getD memo (slotOf k s) 0) =
       A .remembered .settled k s (A .row) (omega arith) (rowsIn ws n) (begins-refl (rowsIn ws n)) in
@@ -131,7 +130,7 @@ module _ {b : Bytes} {memo ws : List ℕ} {n k : ℕ} (A : PutAsks b memo ws n k
         inside true = omega (arith, G .memoSize, A .row, draft-parted (A .draft) .fewRows)
         inside false = omega (arith, G .memoSize, A .row, draft-parted (A .draft) .fewRows)
 
-    settled-all : (j : ℕ) (z : Sign) → j < rowCount b → getD (set memo′ (slotOf k s) place) (slotOf j z) 0 < 255
+    settled-all : (j : ℕ) (z : Sign) → j < rowCount b → getD (set memo′ (slotOf k s) place) (slotOf j z) 0 < noPlace
         → Settled b z j (rowsIn ws′ n′) (getD (set memo′ (slotOf k s) place) (slotOf j z) 0)
     settled-all j z h l = elim (ℕ-discrete (slotOf j z) (slotOf k s)) [
       | yes e ↦
@@ -252,7 +251,7 @@ module _ {b : Bytes} {memo ws : List ℕ} {n k : ℕ} (A : PutAsks b memo ws n k
     module _ {memo′ ws′ : List ℕ} {i n′ : ℕ} (G : PutGives b ws n l z memo′ ws′ (At i n′)) where
       pub second-full : {memo″ ws″ : List ℕ} → PutGives b ws′ n′ j y memo″ ws″ Full → PutGives b ws n k s memo″ ws″ Full
       second-full F =
-          let long : 64 < length (second .rows) = rw (G .gives .rows) at (F .gives) in
+          let long : mostRows < length (second .rows) = rw (G .gives .rows) at (F .gives) in
           record { memoSize = F .memoSize; size = F .size; gives = omega (arith, begins-length (second .rows) _ second-more); still = tt }
 
       pub binary-ends : {memo″ ws″ : List ℕ} {h n″ w : ℕ} → PutGives b ws′ n′ j y memo″ ws″ (At h n″) → IsRow w (ofParts kind 0 i h) → {ws‴ : List ℕ} {r : Placement}

@@ -1,7 +1,6 @@
 -- What becomes of a row, as the code tells it: by kinds and bytes. Laws are in ShapeLaws.
 --
 -- In order: a shape of the code as one of the definitions, and its kind; the kind that is written; a shape by a row's four bytes; where a place is remembered.
--- Assumes nothing.
 use mathlib.Core.Path.{_≡_}
 use mathlib.Core.Bool.{not, cond, _||_}
 use mathlib.Core.Logic.{_⊎_}
@@ -10,7 +9,7 @@ use lib.Dec.{eqb, leb}
 use Rattle.concepts.specs.Concept.{Table, conceptAt}
 use Rattle.decoding.specs.Decoding.{draftKinds}
 use Rattle.decoding.specs.RowParts.{ofParts}
-use Rattle.rulefile.specs.Format.{Bytes, contents}
+use Rattle.rulefile.specs.Format.{Bytes, mostRows, contents}
 use Rattle.drafts.specs.Normalize as Normalize
 use Rattle.drafts.specs.Normalize.{Sign, literal, other, unary, binary, shape}
 use Rattle.normalize.specs.declared.Shape.{Shape}
@@ -66,6 +65,14 @@ formOf kind role left right s =
     (binary (λ (i j : ℕ). ofParts (writtenKind kind s) 0 i j) s left s right))))
 
 -- ---- where the place of a row, or of its opposite, is remembered
+
+-- so many places: two for each row that a draft has at most
+abbrev pub slots : ℕ
+slots = 2 * mostRows
+
+-- what stands there before a place is known
+abbrev pub noPlace : ℕ
+noPlace = 255
 
 abbrev pub slotOf : ℕ → Sign → ℕ
 slotOf k s = cond s (2 * k) (2 * k + 1)

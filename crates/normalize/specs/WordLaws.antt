@@ -2,7 +2,6 @@
 --
 -- In order: a row as a word, and back (`rowIn-packed`), by its kind (`literal-row`, `modal-row`, `pair-row`, `inclusion-row`), and its bytes (`own-parts`); equal words are
 -- equal rows (`own-same`); the rows in words (`conceptAt-rowsIn`, `rowsIn-more`, `held-more`); the first equal word is the first equal row (`found-row`, `found-none`).
--- Assumes nothing.
 use mathlib.Core.Path.{_≡_, refl, sym, ap, _∙_}
 use mathlib.Core.Bool.{Bool, true, false, cond}
 use mathlib.Core.List.{List, [], _∷_, _++_}
@@ -19,6 +18,7 @@ use Rattle.concepts.specs.ListLaws.{length-map-range, getD-map-range, range-mem
 use Rattle.concepts.specs.Concept.{Concept, atomic, negated, conj, disj, univ, exist, inclusion, neg, impl, Table, conceptAt, roleOf}
 use Rattle.decoding.specs.RowParts.{kindOf, leftOf, rightOf, ofParts}
 use Rattle.decoding.specs.RowPartLaws.{kindOf-lt}
+use Rattle.rulefile.specs.Format.{mostRows}
 use Rattle.drafts.specs.Normalize.{sameRow}
 use Rattle.drafts.specs.ShareLaws.{equalAt, sameRow-path, sameRow-refl}
 use Rattle.normalize.specs.Words.{wordOf, rowIn, Own, rowsIn, Held, Finds}
@@ -133,7 +133,7 @@ rowsIn-more ws n w h =
     (map-same (λ (i : ℕ). rowIn (getD (set ws n w) i 0)) (λ (i : ℕ). rowIn (getD ws i 0)) (range 0 n)
     (λ i m. ap rowIn (getD-set-other ws n i w 0 (λ e. omega (arith, range-mem 0 n i m .1))))))
 
-pub held-more : (ws : List ℕ) (n w : ℕ) → Held ws n → n < 64 → Own w → Held (set ws n w) (n + 1)
+pub held-more : (ws : List ℕ) (n w : ℕ) → Held ws n → n < mostRows → Own w → Held (set ws n w) (n + 1)
 held-more ws n w H h o = record {
   size = length-set ws n w ∙ H .size;
   few = omega arith;

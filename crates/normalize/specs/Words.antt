@@ -1,7 +1,6 @@
 -- Written rows as words: each word is a row's four bytes, low byte first. Laws are in WordLaws.
 --
 -- In order: a row as a word, and back; the rows at the start of a list of words; the first equal word.
--- Assumes nothing.
 use mathlib.Core.Path.{_≡_}
 use mathlib.Core.List.{List, map}
 use Prim.Native.Nat.{ℕ, _+_, _*_, _/_, _%_, _≤_, _<_}
@@ -9,6 +8,7 @@ use lib.ListN.{length, getD}
 use Rattle.concepts.specs.Lists.{range}
 use Rattle.concepts.specs.Concept.{Concept, Table, roleOf}
 use Rattle.decoding.specs.RowParts.{kindOf, leftOf, rightOf, ofParts}
+use Rattle.rulefile.specs.Format.{mostRows}
 
 -- ---- a row
 
@@ -28,10 +28,10 @@ Own w = wordOf (rowIn w) ≡ w
 unfoldable pub rowsIn : List ℕ → ℕ → Table
 rowsIn ws n = map (λ (i : ℕ). rowIn (getD ws i 0)) (range 0 n)
 
--- the first n of 64 words are rows
+-- there is a word for each row that a file has at most, and the first n are rows
 pub record Held (ws : List ℕ) (n : ℕ) : Type 0 where
-  pub size : length ws ≡ 64
-  pub few : n ≤ 64
+  pub size : length ws ≡ mostRows
+  pub few : n ≤ mostRows
   pub own : (i : ℕ) → i < n → Own (getD ws i 0)
 
 -- ---- the first of n words that is equal to w, or n

@@ -6,10 +6,11 @@ ghost use mathlib.Core.Path.{_≡_};
 ghost use Prim.Native.Nat.{_+_, _*_, _≤_, _<_};
 ghost use lib.ListN.{length};
 ghost use Rattle.concepts.specs.Concept.{NoInclusion};
-ghost use Rattle.rulefile.specs.Format.{rowCount};
+ghost use Rattle.rulefile.specs.Format.{rowCount, mostRows};
 ghost use Rattle.normalize.specs.Words.{Finds};
-ghost use Rattle.normalize.specs.Shapes.{tableOf, writtenKind, ShapeAt, slotOf};
+ghost use Rattle.normalize.specs.Shapes.{tableOf, writtenKind, ShapeAt, slots, slotOf};
 ghost use Rattle.normalize.specs.Contracts.{Draft, ShareAsks, SharesRow, PutAsks, PutGives, ListAsks, ListGives, KeepAsks, Kept, KeepGives};
+use rulefile::MOST_ROWS;
 use rulefile::inclusions::some_inclusion;
 use rulefile::row_byte;
 
@@ -34,11 +35,8 @@ pub enum Listed {
     Full,
 }
 
-// "more than 64 rows"
-pub const MOST_ROWS: usize = 64;
-
 // Places that are remembered: two for each row of a draft.
-pub const SLOTS: usize = 128;
+pub const SLOTS: usize = 2 * MOST_ROWS;
 
 // No place yet.
 pub const NO_PLACE: u8 = 255;
@@ -137,8 +135,8 @@ fn share(written: &mut [u32], count: usize, word: u32) -> Placement
 
 // Where the place of a row, or of its opposite, is remembered.
 fn slot(k: usize, sign: bool) -> usize
-    requires { ⌜ k < 64 ⌝ }
-    ensures { λ r. ⌜ (r ≡ slotOf k sign) × (r < 128) ⌝ }
+    requires { ⌜ k < mostRows ⌝ }
+    ensures { λ r. ⌜ (r ≡ slotOf k sign) × (r < slots) ⌝ }
 {
     if sign { 2 * k } else { 2 * k + 1 }
 }
