@@ -1,6 +1,7 @@
 -- The ways through the functions that take names for rows, on plain values.
 --
--- In order: the words of a set; names from 64 on have no say; a word of a mask; what `named` asks of it, and its loop; a word of the rows of kinds 1 and 2; all their words.
+-- In order: the words of a set; names from 64 on have no say; a word of a mask; what `named` asks of it, and its loop; a word of the rows of kinds 1 and 2;
+-- all their words.
 use mathlib.Core.Path.{_≡_, refl, sym, ap, ap₂, _∙_}
 use mathlib.Core.Bool.{Bool, true, false, not, _&&_, _||_}
 use mathlib.Core.List.{List}
@@ -86,7 +87,8 @@ mask-word {ws} {p} {at} M words {j} h i = elim (decLt i 64) [
       sym (row-of (λ (m : ℕ). getD ws (at + m) 0) (λ m. words (at + m)) setWords 0 j i h l) ∙ M .picked .rows (64 * j + i)
       ∙ ap (λ (x : Bool). x && (ltb (64 * j + i) (length (tableOf ws)) && p (conceptAt (tableOf ws) (64 * j + i)))) (sym (lt-ltb i 64 l))
   | no l ↦
-      as-false (mem i (getD ws (at + j) 0)) (not-T (mem i (getD ws (at + j) 0)) (λ m. absurd (omega (arith, mem-lt 64 i (getD ws (at + j) 0) (words (at + j)) m))))
+      as-false (mem i (getD ws (at + j) 0))
+      (not-T (mem i (getD ws (at + j) 0)) (λ m. absurd (omega (arith, mem-lt 64 i (getD ws (at + j) 0) (words (at + j)) m))))
       ∙ ap (λ (x : Bool). x && (ltb (64 * j + i) (length (tableOf ws)) && p (conceptAt (tableOf ws) (64 * j + i)))) (sym (le-ltb i 64 (omega arith)))
 ]
 
@@ -105,11 +107,13 @@ name-small (inclusion ρ σ) _ h = absurd (omega arith)
 name-small (neg l) _ h = absurd (omega arith)
 name-small (impl l r) _ h = absurd (omega arith)
 
-pub named-asks : {ws : List ℕ} → Decoded ws → {kind at : ℕ} → kind < 3 → Mask ws (ofKind kind) at → Words ws → {j : ℕ} → j < setWords → NamedAsks ws j (getD ws (at + j) 0)
+pub named-asks : {ws : List ℕ} → Decoded ws → {kind at : ℕ} → kind < 3 → Mask ws (ofKind kind) at → Words ws → {j : ℕ} → j < setWords
+    → NamedAsks ws j (getD ws (at + j) 0)
 unfolding ofKind
 named-asks {ws} D {kind} {at} few M words {j} h = record {
   inside = λ i m. row i m .0;
-  small = λ i m. let (below, is) = row i m in name-small (conceptAt t (64 * j + i)) (word-parts (D .rows) (64 * j + i) below .in-range) (omega (arith, eqb-true _ kind is));
+  small = λ i m. let (below, is) = row i m in name-small (conceptAt t (64 * j + i)) (word-parts (D .rows) (64 * j + i) below .in-range)
+      (omega (arith, eqb-true _ kind is));
 }
   where
     t : Table
@@ -146,15 +150,18 @@ module _ {t : Table} {j names rows : ℕ} where
     still-inside i h = A .inside i (and-true (mem i m) (not (eqb i k)) (sym (left-over i) ∙ h) .0)
 
     -- row k is asked now, and any other row as before
-    asked-now : {x : Bool} → x ≡ isNamed t j names k → (i : ℕ) (b : Bool) → eqb i k ≡ b → ((b && x) || mem i passed) ≡ ((mem i rows && not (mem i r)) && isNamed t j names i)
+    asked-now : {x : Bool} → x ≡ isNamed t j names k → (i : ℕ) (b : Bool) → eqb i k ≡ b
+        → ((b && x) || mem i passed) ≡ ((mem i rows && not (mem i r)) && isNamed t j names i)
     asked-now hx i false e =
-        A .is i ∙ ap (λ (y : Bool). (mem i rows && not y) && isNamed t j names i) (sym (left-over i ∙ ap (λ (z : Bool). mem i m && not z) e ∙ and-all (mem i m)))
+        A .is i ∙ ap (λ (y : Bool). (mem i rows && not y) && isNamed t j names i)
+        (sym (left-over i ∙ ap (λ (z : Bool). mem i m && not z) e ∙ and-all (mem i m)))
     asked-now {x} hx i true e =
         let here : i ≡ k = eqb-true i k e in
         let there : mem i m ≡ true = ap (λ (n : ℕ). mem n m) here ∙ low .member in
         let was : mem i passed ≡ false = A .is i ∙ rw there (ap (λ (y : Bool). y && isNamed t j names i) (and-nothing (mem i rows))) in
         let gone : mem i r ≡ false = left-over i ∙ ap (λ (z : Bool). mem i m && not z) e ∙ and-nothing (mem i m) in
-        ap (λ (y : Bool). x || y) was ∙ or-nothing x ∙ hx ∙ ap (isNamed t j names) (sym here) ∙ sym (ap₂ (λ (y z : Bool). (y && not z) && isNamed t j names i) (A .inside i there) gone)
+        ap (λ (y : Bool). x || y) was ∙ or-nothing x ∙ hx ∙ ap (isNamed t j names) (sym here)
+        ∙ sym (ap₂ (λ (y z : Bool). (y && not z) && isNamed t j names i) (A .inside i there) gone)
 
     pub asking-in : {x : Bool} → x ≡ isNamed t j names k → x ≡ true → {more : ℕ} → more ≡ insert k passed → Asking t j names rows more r
     asking-in hx hv e = record {
@@ -167,17 +174,20 @@ module _ {t : Table} {j names rows : ℕ} where
     pub asking-out : {x : Bool} → x ≡ isNamed t j names k → x ≡ false → {more : ℕ} → more ≡ passed → Asking t j names rows more r
     asking-out hx hv e = record {
       inside = still-inside;
-      is = λ i. ap (mem i) e ∙ ap (λ (y : Bool). y || mem i passed) (sym (ap (λ (z : Bool). eqb i k && z) hv ∙ and-nothing (eqb i k))) ∙ asked-now hx i (eqb i k) refl;
+      is = λ i. ap (mem i) e ∙ ap (λ (y : Bool). y || mem i passed) (sym (ap (λ (z : Bool). eqb i k && z) hv ∙ and-nothing (eqb i k)))
+          ∙ asked-now hx i (eqb i k) refl;
     }
 
   pub asking-all : {passed m : ℕ} → Asking t j names rows passed m → m ≡ empty → Named t j names rows passed
   asking-all A e = record {
-    is = λ i. A .is i ∙ ap (λ (y : Bool). (mem i rows && not y) && isNamed t j names i) (ap (mem i) e ∙ mem-empty i) ∙ ap (λ (y : Bool). y && isNamed t j names i) (and-all (mem i rows));
+    is = λ i. A .is i ∙ ap (λ (y : Bool). (mem i rows && not y) && isNamed t j names i) (ap (mem i) e ∙ mem-empty i)
+        ∙ ap (λ (y : Bool). y && isNamed t j names i) (and-all (mem i rows));
   }
 
 -- ---- a word of the rows of kinds 1 and 2
 
-literal-parts : (names : RowSet) (c : Concept) → ((ofKind 1 c && mem (leftOf c) names) || (ofKind 2 c && not (ofKind 2 c && mem (leftOf c) names))) ≡ literal names c
+literal-parts : (names : RowSet) (c : Concept)
+    → ((ofKind 1 c && mem (leftOf c) names) || (ofKind 2 c && not (ofKind 2 c && mem (leftOf c) names))) ≡ literal names c
 unfolding ofKind kindOf leftOf
 literal-parts names (atomic a) = or-nothing (mem a names)
 literal-parts names (negated a) = refl
@@ -217,7 +227,8 @@ literals-word {ws} {a} {n} MA MN words {j} h {names} {passed} {failed} PA PN =
         let is = mask-word MN words h i in
         mem-minus i negatives failed ∙ ap₂ (λ (x y : Bool). x && not y) is (PN .is i ∙ ap (λ (x : Bool). x && mem (leftOf (concept i)) names) is)
 
-    within : (x y : Bool) (c : Concept) → (((x && (y && ofKind 1 c)) && mem (leftOf c) names) || ((x && (y && ofKind 2 c)) && not ((x && (y && ofKind 2 c)) && mem (leftOf c) names)))
+    within : (x y : Bool) (c : Concept)
+        → (((x && (y && ofKind 1 c)) && mem (leftOf c) names) || ((x && (y && ofKind 2 c)) && not ((x && (y && ofKind 2 c)) && mem (leftOf c) names)))
         ≡ (x && (y && literal names c))
     within false y c = refl
     within true false c = refl
@@ -228,7 +239,8 @@ literals-word {ws} {a} {n} MA MN words {j} h {names} {passed} {failed} PA PN =
 pub literals-written : {ws : List ℕ} → Decoded ws → (b : List ℕ) → Bytes b → (at : ℕ) {names : ℕ} → names ≡ wordAt b at 0
     → putWords b at (wordIn (literalRows (tableOf ws) names)) setWords ≡ putLe b at setSize (literalRows (tableOf ws) (setOf b at))
 literals-written {ws} D b bytes at {names} e =
-    put-words setWords b at (wordIn rows) (wordIn-fits rows) ∙ ap (putLe b at setSize) (joined-wordIn rows setWords beyond ∙ literalRows-low D names (setOf b at) low)
+    put-words setWords b at (wordIn rows) (wordIn-fits rows)
+    ∙ ap (putLe b at setSize) (joined-wordIn rows setWords beyond ∙ literalRows-low D names (setOf b at) low)
   where
     rows : RowSet
     rows = literalRows (tableOf ws) names

@@ -145,7 +145,8 @@ pub fn cut(b: &mut [u8], at: usize, c: &[u8], there: usize, n: usize)
 // Writes the other set in the place of the set of n words.
 pub fn copy(b: &mut [u8], at: usize, c: &[u8], there: usize, n: usize)
     requires { ⌜ (at + 8 * n ≤ length (now b)) × (there + 8 * n ≤ length (now c)) ⌝ }
-    ensures { λ _. ⌜ now (b .exit) ≡ putLe (now (b .entry)) at (8 * n) (setAt (now (c .entry)) there n) ⌝ }
+    ensures { λ _. ⌜ (now (b .exit) ≡ putLe (now (b .entry)) at (8 * n) (setAt (now (c .entry)) there n))
+        × (setAt (now (b .exit)) at n ≡ setAt (now (c .entry)) there n) ⌝ }
 {
     let mut j: usize = 0;
     while j < n {

@@ -21,7 +21,8 @@ abbrev word : List ℕ → ℕ → ℕ → ℕ
 word problem names = wordIn (literalRows (tableOf problem) names)
 
 abbrev Inv-loop : tie.InvT-loop
-Inv-loop problem elements₀ at names j₀ elements j = (j ≤ setWords) × (length elements ≡ length elements₀) × (elements ≡ putWords elements₀ at (word problem names) j)
+Inv-loop problem elements₀ at names j₀ elements j =
+    (j ≤ setWords) × (length elements ≡ length elements₀) × (elements ≡ putWords elements₀ at (word problem names) j)
 
 abbrev μ-loop : tie.MeasureT-loop
 μ-loop problem elements₀ at names j₀ elements j = setWords - j

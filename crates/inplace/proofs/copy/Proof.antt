@@ -6,8 +6,9 @@ use native.Mathlib.Omega.{arith}
 use lib.ListN.{length}
 use Rattle.words.specs.Words.{putLe}
 use Rattle.words.specs.WordLaws.{length-putLe}
-use Rattle.inplace.specs.Joined.{wordAt, putWords}
-use Rattle.inplace.specs.WriteLaws.{put-words-more, put-copy}
+use Rattle.inplace.specs.Joined.{wordAt, setAt, putWords}
+use Rattle.inplace.specs.ByteLaws.{Bytes}
+use Rattle.inplace.specs.WriteLaws.{put-words-more, set-put, set-fits, put-copy}
 use Rattle.inplace.proofs.copy.Statement.{statement}
 use Rattle.inplace.proofs.copy.Tie as tie
 
@@ -46,8 +47,10 @@ returns c =
     let known = c .before .before in
     let a = known .before .before .args in
     let e : l .j ≡ a .n = omega arith in
-    l .inv .2 ∙ ap (putWords (a .b .now) (a .at) (wordAt (a .c .now) (a .there))) e
-    ∙ put-copy (a .b .now) (a .c .now) (λ i. omega (arith, known .before .slice-known .given i)) (λ i. omega (arith, known .shared-slice-known .given i)) (a .at) (a .there) (a .n)
+    let hb : Bytes (a .b .now) = λ i. omega (arith, known .before .slice-known .given i) in
+    let hc : Bytes (a .c .now) = λ i. omega (arith, known .shared-slice-known .given i) in
+    let put = l .inv .2 ∙ ap (putWords (a .b .now) (a .at) (wordAt (a .c .now) (a .there))) e ∙ put-copy (a .b .now) (a .c .now) hb hc (a .at) (a .there) (a .n) in
+    (put, ap (λ (x : List ℕ). setAt x (a .at) (a .n)) put ∙ set-put (a .b .now) (a .at) (a .n) (setAt (a .c .now) (a .there) (a .n)) (omega arith) (set-fits (a .c .now) hc (a .there) (a .n)))
 
 pub copy-spec : {M : Type 1} → statement M
 copy-spec =

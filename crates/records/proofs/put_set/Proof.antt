@@ -11,7 +11,7 @@ returns c =
     let s : tie.Start = search in
     let k : tie.After-shared-slice-known = search in
     let w : tie.After-copy = search in
-    (w .copy .ensures, leAt-lt (s .args .s .now) (λ i. omega (arith, k .shared-slice-known .given i)) 0 setSize)
+    (w .copy .ensures .0, leAt-lt (s .args .s .now) (λ i. omega (arith, k .shared-slice-known .given i)) 0 setSize)
 
 pub put-set-spec : {M : Type 1} → statement M
 put-set-spec =
