@@ -1,6 +1,11 @@
 // The tableau over lent areas (01, The procedure).
 //
 // In order: putting a set; judging a node; the alternatives of a small state. They call each other: the rows missing from the set fall.
+ghost use mathlib.Core.Path.{_≡_};
+ghost use Prim.Native.Nat.{_+_, _*_, _≤_, _<_};
+ghost use lib.ListN.{length};
+ghost use Rattle.concepts.specs.RowSet.{union};
+ghost use Rattle.words.specs.Sizes.{nodeSize, alternativeSize, setSize, mostRecords};
 ghost use Rattle.records.specs.Codes.{statusOf};
 ghost use Rattle.graph.specs.Graphs.{work};
 ghost use Rattle.inplace.specs.Widths.{setOf};
@@ -14,6 +19,8 @@ use graph::set_link;
 use graph::set_status;
 use inplace::SET_BYTES;
 use inplace::SET_WORDS;
+use inplace::copy;
+use inplace::join;
 use problem::inverse;
 use records::Link;
 use records::Node;
@@ -152,6 +159,15 @@ fn judge_linked(
     }
 }
 
+// The set of alternative i joined to the set of node y, in an array that is lent.
+fn join_alternative(nodes: &[u8], y: u16, alternatives: &[u8], i: usize, out: &mut [u8; SET_BYTES])
+    requires { ⌜ (nodeSize * y + setSize ≤ length (now nodes)) × (i < mostRecords) × (alternativeSize * i + setSize ≤ length (now alternatives)) ⌝ }
+    ensures { λ _. ⌜ setOf (now (out .exit)) 0 ≡ union (setOf (now (alternatives .entry)) (alternativeSize * i)) (setOf (now (nodes .entry)) (nodeSize * y)) ⌝ }
+{
+    copy(out, 0, alternatives, alternative_set(i), SET_WORDS);
+    join(out, 0, nodes, node_set(y), SET_WORDS);
+}
+
 // Puts the alternatives of the small state y, each joined to its set, under node z, which lapses and is judged by its children.
 fn put_alternatives(
     problem: &[u64],
@@ -177,8 +193,7 @@ fn put_alternatives(
         };
         i = index + 1;
         let mut joined = [0u8; SET_BYTES];
-        inplace::copy(&mut joined, 0, alternatives, alternative_set(index), SET_WORDS);
-        inplace::join(&mut joined, 0, nodes, node_set(y), SET_WORDS);
+        join_alternative(nodes, y, alternatives, index, &mut joined);
         match put(
             problem,
             nodes,

@@ -31,7 +31,11 @@ fn write_names(problem: &[u64], nodes: &[u8], count: usize, elements: &mut [u8])
     let mut d = 0;
     while d < count {
         let placed = node_set(load_state(nodes, d));
-        write_number(elements, SET_BYTES * d, settests::names(problem, nodes, placed));
+        write_number(
+            elements,
+            SET_BYTES * d,
+            settests::names(problem, nodes, placed),
+        );
         d += 1;
     }
 }

@@ -32,9 +32,6 @@ use Rattle.records.proofs.load_node.Reads as load-node
 use Rattle.graph.proofs.next_alternative.Reads as next-alternative
 use Rattle.graph.proofs.set_link.Reads as set-link
 use Rattle.graph.proofs.set_status.Reads as set-status
-use Rattle.inplace.proofs.copy.Reads as copy
-use Rattle.inplace.proofs.join.Reads as join
-use Rattle.records.proofs.alternative_set.Reads as alternative-set
 use Rattle.records.proofs.node_set.Reads as node-set
 use Rattle.settests.proofs.clash.Reads as clash
 use Rattle.problem.proofs.inverse.Reads as inverse
@@ -47,6 +44,7 @@ use Rattle.steps.proofs.judge_branch.Reads as judge-branch
 use Rattle.steps.proofs.judge_state.Reads as judge-state
 use Rattle.steps.proofs.link_special.Reads as link-special
 use Rattle.tableau.proofs.below.Reads as below
+use Rattle.tableau.proofs.join_alternative.Reads as join-alternative
 use Rattle.tableau.proofs.judge.Reads as judge
 use Rattle.tableau.proofs.judge.Kinds as judge-kinds
 use Rattle.tableau.proofs.judge_linked.Reads as linked
@@ -148,14 +146,8 @@ small-calls t = (
   set-link.Learnt,
   judge-branch.Asked,
   judge-branch.Learnt,
-  alternative-set.Asked,
-  alternative-set.Learnt,
-  copy.Asked,
-  copy.Learnt,
-  node-set.Asked,
-  node-set.Learnt,
-  join.Asked,
-  join.Learnt,
+  join-alternative.Asked,
+  join-alternative.Learnt,
   put-below t,
   put.Post,
 )
@@ -242,13 +234,16 @@ sets-inside : (t : ℕ) (c : In-small t small-lts.After-index) → let l = the-l
     (alternativeSize * c .index .given .0 .0 + setSize ≤ length (l .alternatives)) × (nodeSize * first (the-loop c) .args .y + setSize ≤ length (l .nodes))
 sets-inside t c = turn-sets-inside (chosen t c)
 
-abbrev the-index : {t : ℕ} → In-small t small-lts.After-join → In-small t small-lts.After-index
-the-index c = c .before .before .before .before .before .before .before .before .before .before
+abbrev the-index : {t : ℕ} → In-small t small-lts.After-join-alternative → In-small t small-lts.After-index
+the-index c = c .before .before .before .before .before
 
 -- and joined to the state's set
-joined : (t : ℕ) (c : In-small t small-lts.After-join) → let l = the-loop (the-index c) in
-    Joined (l .loop .inv) (the-index c .index .given .0 .0) (l .before .load-node .result) (setOf (c .join .last .0) 0)
-joined t c = ?
+joined : (t : ℕ) (c : In-small t small-lts.After-join-alternative) → let l = the-loop (the-index c) in
+    Joined (l .loop .inv) (the-index c .index .given .0 .0) (l .before .load-node .result) (setOf (c .join-alternative .last .1 .1 .1 .1 .0) 0)
+joined t c =
+    let i = the-index c in
+    let l = the-loop i in
+    turn-joined (chosen t i) (l .before .load-node .result) (l .before .load-node .ensures) (c .join-alternative .ensures)
 
 -- ---- the needs, in the code's order
 
@@ -325,9 +320,11 @@ pub +judge+judge-linked+put+put-alternatives-spec : {M : Type 1} → statement M
     (λ c κs. search (put-joins, needs))
     (λ c. search needs) (λ c. search needs) (λ c. search needs)
     (λ c. let a : In-put t put-lts.After-add-lapsed = search in let k : In-put t put-lts.After-lacking = search in let w : In-put t put-lts.Then3 = search in
-    let i : In-put t put-lts.After-node-set = search in let s : In-put t put-lts.Start = search in
+    let s = begun (the-else (w .before)) in let i = w .before .before .before .before in
     put-lapses (weighed t (w .before)) (w .if3 .taken)
-    (k .lacking .ensures .1 ∙ ap (λ (q : ℕ). lacking (problemOf (s .args .problem .now)) (setOf (s .args .s .now) 0) _ (setOf (s .args .nodes .now) q)) (i .node-set .ensures)) (a .add-lapsed .ensures))
+    (k .lacking .ensures .1
+    ∙ ap (λ (q : ℕ). lacking (problemOf (s .args .problem .now)) (setOf (s .args .s .now) 0) (i .inverse .result) (setOf (s .args .nodes .now) q)) (i .before .node-set .ensures))
+    (a .add-lapsed .ensures))
     -- link_special(.., p, role, s)
     (λ c κs. search needs) (λ c. search needs) (λ c. search needs)
     -- judge(.., d, z)
@@ -364,17 +361,16 @@ pub +judge+judge-linked+put+put-alternatives-spec : {M : Type 1} → statement M
     turn-end (l .loop .inv) (k .set-link .ensures) (n .next-alternative .ensures) (o .enum-told .given .1) (search))
     -- i = index + 1
     (λ c. omega (arith, turn-index (chosen t (search))))
-    -- copy(&mut joined, 0, alternatives, alternative_set(index), SET_WORDS)
-    (λ c. refl) (λ c κs. omega (arith, turn-index (chosen t (search)))) (λ c κs. ?)
-    -- join(&mut joined, 0, nodes, node_set(y), SET_WORDS)
-    (λ c. ?) (λ c κs. search needs) (λ c κs. ?)
+    -- join_alternative(nodes, y, alternatives, index, &mut joined)
+    (λ c κs. let i : In-small t small-lts.After-index = search in let (a, n) = sets-inside t i in (n, omega (arith, turn-index (chosen t i)), a))
     -- put(.., cur, z, .., &joined)
-    (λ c κs. ?)
+    (λ c κs. let u : In-small t small-lts.After-join-alternative = search in
+    (omega (arith, first (the-loop (the-index u)) .pre .0, turn-falls (joined t u)), turn-asks (joined t u)))
     (λ c. search needs)
     -- return Full(area)
     (λ c. search needs) (λ c. search needs) (λ c. search needs)
-    (λ c. ?)
+    (λ c. let p : In-small t small-lts.After-put = search in turn-short (joined t (search)) (p .put .ensures) (search))
     -- cur = next, and the loop again
     (λ c. search needs)
     (λ c. turn-less (chosen t (search)))
-    (λ c. ?))
+    (λ c. let p : In-small t small-lts.After-put = search in turn-put (joined t (search)) (p .put .ensures) (c .before .next .given .1)))
