@@ -1,7 +1,6 @@
 -- The cases from a run to its verdict, on plain values.
 --
 -- In order: no place; the root, loaded at the end, and what it says; a verdict that is known.
--- Assumes nothing.
 use mathlib.Core.Path.{_≡_, sym, ap, _∙_, subst}
 use mathlib.Core.Bool.{Bool, true, false}
 use mathlib.Core.List.{List}
@@ -16,7 +15,7 @@ use Rattle.problem.specs.Decoded.{problemOf, Decoded}
 use Rattle.problem.specs.DecodedLaws.{decoded-posed}
 use Rattle.records.specs.Areas.{Bytes, Fits}
 use Rattle.records.specs.Codes.{statusOf}
-use Rattle.records.specs.Records.{nodeOf, nodeIn}
+use Rattle.records.specs.Records.{nodeIn, IsNode}
 use Rattle.records.specs.declared.Node as D
 use Rattle.graph.specs.Graphs.{Work, work, graphOf, capacityOf}
 use Rattle.graph.specs.GraphLaws.{held-node, count-nodes, graph-node}
@@ -45,7 +44,7 @@ module _ {ws : List ℕ} {w : Work} {z : Step} {n e a : Bytes} (R : RunGives ws 
     verdict-fits = held-node (refines-held (refines-answer R er)) root-there
 
     -- the root was loaded, and says "can" or does not
-    module _ {b : Bool} (d : D.Node) (loaded : nodeOf d ≡ nodeIn n 0) (hb : b ≡ goodRoot (statusOf (d .status))) where
+    module _ {b : Bool} (d : D.Node) (loaded : IsNode n 0 d) (hb : b ≡ goodRoot (statusOf (d .status))) where
       says : {v : Bool} → b ≡ v → EndsWith ws w c (work n e a) v
       says hv = record {
         ran = sym (refines-answer R er .meets);

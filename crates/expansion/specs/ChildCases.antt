@@ -1,12 +1,11 @@
 -- The ways to put the children of a node, on plain values.
 --
 -- In order: the put of a set made of the node's own; a conjunction (`Both`), or none; a disjunction (`Either`), with two puts, or none; a state; the root.
--- Assumes nothing.
 use mathlib.Core.Path.{_≡_, refl, sym, ap, _∙_, subst}
 use mathlib.Core.List.{List}
 use mathlib.Core.Logic.{_≢_}
 use mathlib.Core.Option.{Option, some}
-use Prim.Native.Nat.{ℕ, zero, suc, _<_}
+use Prim.Native.Nat.{ℕ, zero, suc, _*_, _<_}
 use Rattle.concepts.specs.RowSet.{RowSet, insert, union}
 use Rattle.procedure.specs.SetTests.{lowestConj, lowestDisj}
 use Rattle.procedure.specs.SetTestLaws.{lowestConj-lt, lowestDisj-lt}
@@ -15,10 +14,11 @@ use Rattle.procedure.specs.Tableau.{noRole, put, putKit, putSuccessors, expandS
 use Rattle.procedure.specs.TableauLaws.{expand-conj}
 use Rattle.procedure.proofs.ExpandFit.{conj-puts, disj-puts, kit-puts}
 use Rattle.problem.specs.Decoded.{tableOf, problemOf, rulesOf, wantedOf}
+use Rattle.words.specs.Sizes.{nodeSize}
 use Rattle.records.specs.Areas.{Bytes}
-use Rattle.records.specs.Records.{nodeOf, nodeIn}
+use Rattle.records.specs.Records.{nodeOf, IsNode}
 use Rattle.records.specs.declared.Node as D
-use Rattle.rowset.specs.Value.{width, valueOf}
+use Rattle.inplace.specs.Widths.{width, setOf}
 use Rattle.settests.specs.Answers.{foundOf}
 use Rattle.settests.specs.declared.Found.{Found}
 use Rattle.settests.specs.declared.Found.the-variants as Found
@@ -31,13 +31,13 @@ use Rattle.graph.specs.declared.Step.{Step}
 use Rattle.graph.specs.declared.Step.the-variants.{Done, Full}
 use Rattle.tableau.specs.Contracts.{PutAsks, PutGives}
 use Rattle.expansion.specs.Contracts.{ExpandAsks, DisjAsks, StateAsks, KitGives, SuccessorsGives, StateGives, DisjGives, ConjGives}
-use Rattle.expansion.specs.PutCases.{P, cap, g, row-fits, Now, now-start, growing-start, MayPut, expand-loaded, now-asks, now-gives, now-put}
+use Rattle.expansion.specs.PutCases.{P, cap, g, row-fits, Now, now-start, growing-start, MayPut, expand-loaded, expand-set, now-asks, now-gives, now-put}
 
 -- ---- the put of a set that f makes of the node's own; the node was loaded as v
 
-module _ {ws : List ℕ} {w : Work} {c : Counts} {x : ℕ} {A : ExpandAsks ws w c x} (v : D.Node) (loaded : nodeAt (graphOf w c) x ≡ nodeOf v)
+module _ {ws : List ℕ} {w : Work} {c : Counts} {x : ℕ} {A : ExpandAsks ws w c x} {s : RowSet} (v : D.Node) (loaded : nodeAt (graphOf w c) x ≡ nodeOf s v)
     {w′ : Work} {d : Counts} (N : Now A w′ d) (f : RowSet → RowSet)
-    (M : MayPut A (graphOf w′ d) (nodeAt (graphOf w c) x .pst) (nodeAt (graphOf w c) x .prl) (f (nodeAt (graphOf w c) x .rows))) {σ : RowSet} (eσ : σ ≡ f (valueOf (v .rows))) where
+    (M : MayPut A (graphOf w′ d) (nodeAt (graphOf w c) x .pst) (nodeAt (graphOf w c) x .prl) (f (nodeAt (graphOf w c) x .rows))) {σ : RowSet} (eσ : σ ≡ f s) where
   abbrev own : Node
   own = nodeAt (graphOf w c) x
 
@@ -55,12 +55,12 @@ module _ {ws : List ℕ} {w : Work} {c : Counts} {x : ℕ} {A : ExpandAsks ws w 
 module _ {ws : List ℕ} {n e a : Bytes} {c : Counts} {x : ℕ} (A : ExpandAsks ws (work n e a) c x) (v : D.Node) where
   -- the lowest that is unfinished is of l and r
   pub record Both (l r : ℕ) : Type 0 where
-    pub loaded : nodeAt (graphOf (work n e a) c) x ≡ nodeOf v
+    pub loaded : nodeAt (graphOf (work n e a) c) x ≡ nodeOf (setOf n (nodeSize * x)) v
     pub found : lowestConj (tableOf ws) (nodeAt (graphOf (work n e a) c) x .rows) ≡ some (l, r)
 
-  module _ (hv : nodeOf v ≡ nodeIn n x) {o : Found} (ho : foundOf o ≡ lowestConj (tableOf ws) (valueOf (v .rows))) where
+  module _ (hv : IsNode n x v) {q : ℕ} (hq : q ≡ nodeSize * x) {o : Found} (ho : foundOf o ≡ lowestConj (tableOf ws) (setOf n q)) where
     conj-lowest : {b : Found} → o ≡ b → lowestConj (tableOf ws) (nodeAt (graphOf (work n e a) c) x .rows) ≡ foundOf b
-    conj-lowest q = ap (λ (u : Node). lowestConj (tableOf ws) (u .rows)) (expand-loaded A v hv) ∙ sym ho ∙ ap foundOf q
+    conj-lowest e = ap (λ (r : RowSet). lowestConj (tableOf ws) r) (sym (expand-set A)) ∙ ap (λ (p : ℕ). lowestConj (tableOf ws) (setOf n p)) (sym hq) ∙ sym ho ∙ ap foundOf e
 
     pub both-found : {l r : ℕ} → o ≡ Found.Rows l r → Both l r
     unfolding foundOf
@@ -85,13 +85,13 @@ module _ {ws : List ℕ} {n e a : Bytes} {c : Counts} {x : ℕ} {A : ExpandAsks 
   may : MayPut A (g A) (nodeAt (g A) x .pst) (nodeAt (g A) x .prl) (insert l (insert r (nodeAt (g A) x .rows)))
   may = conj-puts (P A) (cap A) (g A) x (A .still) (A .there) (A .fresh) (l, r) (B .found)
 
-  module _ {τ σ : RowSet} (eτ : τ ≡ insert r (valueOf (v .rows))) (eσ : σ ≡ insert l τ) where
+  module _ {σ : RowSet} (eσ : σ ≡ insert l (insert r (setOf n (nodeSize * x)))) where
     pub both-asks : PutAsks ws (work n e a) c x (v .pst) (v .prl) σ
-    both-asks = set-asks v (B .loaded) (now-start A) (λ s. insert l (insert r s)) may (eσ ∙ ap (insert l) eτ)
+    both-asks = set-asks v (B .loaded) (now-start A) (λ s. insert l (insert r s)) may eσ
 
     pub both-gives : {z : Step} {w′ : Work} → PutGives ws (work n e a) c x (v .pst) (v .prl) σ z w′ → ConjGives ws (work n e a) c x z w′
     both-gives G =
-        refines-as (now-gives (now-start A) may (set-given v (B .loaded) (now-start A) (λ s. insert l (insert r s)) may (eσ ∙ ap (insert l) eτ) G) refl)
+        refines-as (now-gives (now-start A) may (set-given v (B .loaded) (now-start A) (λ s. insert l (insert r s)) may eσ G) refl)
         (expand-conj (P A) (cap A) x (g A) (l, r) (B .found))
 
 pub conj-gives : {ws : List ℕ} {w : Work} {c : Counts} {x : ℕ} → DisjAsks ws w c x → {r : Step} {w′ : Work} → DisjGives ws w c x r w′ → ConjGives ws w c x r w′
@@ -103,12 +103,12 @@ conj-gives {ws} {w} {c} {x} A G = refines-as G (ap (λ (o : Option (ℕ × ℕ))
 module _ {ws : List ℕ} {n e a : Bytes} {c : Counts} {x : ℕ} (A : DisjAsks ws (work n e a) c x) (v : D.Node) where
   -- the lowest that is unfinished is of l and r
   pub record Either (l r : ℕ) : Type 0 where
-    pub loaded : nodeAt (graphOf (work n e a) c) x ≡ nodeOf v
+    pub loaded : nodeAt (graphOf (work n e a) c) x ≡ nodeOf (setOf n (nodeSize * x)) v
     pub found : lowestDisj (tableOf ws) (nodeAt (graphOf (work n e a) c) x .rows) ≡ some (l, r)
 
-  module _ (hv : nodeOf v ≡ nodeIn n x) {o : Found} (ho : foundOf o ≡ lowestDisj (tableOf ws) (valueOf (v .rows))) where
+  module _ (hv : IsNode n x v) {q : ℕ} (hq : q ≡ nodeSize * x) {o : Found} (ho : foundOf o ≡ lowestDisj (tableOf ws) (setOf n q)) where
     disj-lowest : {b : Found} → o ≡ b → lowestDisj (tableOf ws) (nodeAt (graphOf (work n e a) c) x .rows) ≡ foundOf b
-    disj-lowest q = ap (λ (u : Node). lowestDisj (tableOf ws) (u .rows)) (expand-loaded (A .node) v hv) ∙ sym ho ∙ ap foundOf q
+    disj-lowest e = ap (λ (r : RowSet). lowestDisj (tableOf ws) r) (sym (expand-set (A .node))) ∙ ap (λ (p : ℕ). lowestDisj (tableOf ws) (setOf n p)) (sym hq) ∙ sym ho ∙ ap foundOf e
 
     pub either-found : {l r : ℕ} → o ≡ Found.Rows l r → Either l r
     unfolding foundOf
@@ -149,7 +149,7 @@ module _ {ws : List ℕ} {n e a : Bytes} {c : Counts} {x : ℕ} {A : DisjAsks ws
   may-left : MayPut N (g N) (nodeAt (g N) x .pst) (nodeAt (g N) x .prl) (insert l (nodeAt (g N) x .rows))
   may-left = disj-puts (P N) (cap N) (g N) x (N .still) (N .there) (N .fresh) (l, r) (E .found) (g N) (growing-start N) .0
 
-  module _ {σ : RowSet} (eσ : σ ≡ insert l (valueOf (v .rows))) where
+  module _ {σ : RowSet} (eσ : σ ≡ insert l (setOf n (nodeSize * x))) where
     pub left-asks : PutAsks ws (work n e a) c x (v .pst) (v .prl) σ
     left-asks = set-asks v (E .loaded) (now-start N) (insert l) may-left eσ
 
@@ -164,7 +164,7 @@ module _ {ws : List ℕ} {n e a : Bytes} {c : Counts} {x : ℕ} {A : DisjAsks ws
       left-done er = record { left = now-gives (now-start N) may-left left-given er; now = now-put (now-start N) may-left left-given er }
 
 module _ {ws : List ℕ} {n e a : Bytes} {c : Counts} {x : ℕ} {A : DisjAsks ws (work n e a) c x} {v : D.Node} {l r : ℕ} {E : Either A v l r}
-    {w₁ : Work} {d : Counts} (S : Second E w₁ d) {τ : RowSet} (eτ : τ ≡ insert r (valueOf (v .rows))) where
+    {w₁ : Work} {d : Counts} (S : Second E w₁ d) {τ : RowSet} (eτ : τ ≡ insert r (setOf n (nodeSize * x))) where
   may-right : MayPut (N E) (graphOf w₁ d) (nodeAt (g (N E)) x .pst) (nodeAt (g (N E)) x .prl) (insert r (nodeAt (g (N E)) x .rows))
   may-right =
       let B = A .node in
@@ -201,15 +201,12 @@ module _ {ws : List ℕ} {w : Work} {c : Counts} {x : ℕ} (A : StateAsks ws w c
 
 -- ---- what the root puts
 
-module _ {ws : List ℕ} {w : Work} {c : Counts} (A : StateAsks ws w c 0) {ω τ σ : RowSet} (eω : ω ≡ wantedOf ws) (eτ : τ ≡ rulesOf ws) (eσ : σ ≡ union ω τ) where
+module _ {ws : List ℕ} {w : Work} {c : Counts} (A : StateAsks ws w c 0) {σ : RowSet} (kit-is : σ ≡ union (wantedOf ws) (rulesOf ws)) where
   abbrev R : ExpandAsks ws w c 0
   R = A .disj .node
 
   abbrev kit : RowSet
   kit = union (wantedOf ws) (rulesOf ws)
-
-  kit-is : σ ≡ kit
-  kit-is = eσ ∙ ap (λ (s : RowSet). union s τ) eω ∙ ap (union (wantedOf ws)) eτ
 
   kit-may : MayPut R (graphOf w c) 0 noRole kit
   kit-may = kit-puts (P R) (cap R) (g R) 0 (R .still) (R .there) (R .fresh) (A .disj .noConj) (A .noDisj) refl

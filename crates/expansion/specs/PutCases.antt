@@ -1,27 +1,26 @@
 -- The puts of one expansion, whatever their sets: the graph in between (`Now`), what a put may rely on, the graph after it.
--- Assumes nothing.
 use mathlib.Core.Path.{_≡_, sym, ap, _∙_, subst}
 use mathlib.Core.List.{List}
-use Prim.Native.Nat.{ℕ, suc, _<_}
+use Prim.Native.Nat.{ℕ, suc, _+_, _*_, _≤_, _<_}
 use native.Mathlib.Omega.{arith}
 use lib.ListN.{length}
 use Rattle.concepts.specs.RowSet.{RowSet}
 use Rattle.concepts.specs.RowSetLaws.{missing-all}
 use Rattle.procedure.specs.Problem.{Problem}
-use Rattle.procedure.specs.Graph.{Graph, Capacity, Result, nodeAt}
+use Rattle.procedure.specs.Graph.{Node, Graph, Capacity, Result, nodeAt}
 use Rattle.procedure.specs.GraphLaws.{Sure}
 use Rattle.procedure.specs.Tableau.{put}
 use Rattle.procedure.proofs.Fit.{PutFit}
 use Rattle.procedure.proofs.ExpandFit as E
-use Rattle.words.specs.Sizes.{nodeSize}
+use Rattle.words.specs.Sizes.{nodeSize, setSize}
 use Rattle.problem.specs.Decoded.{tableOf, problemOf}
 use Rattle.problem.specs.DecodedLaws.{length-tableOf}
 use Rattle.records.specs.Areas.{Bytes, Fits}
-use Rattle.records.specs.Records.{nodeOf, nodeIn}
+use Rattle.records.specs.Records.{nodeOf, IsNode}
 use Rattle.records.specs.declared.Node as D
-use Rattle.rowset.specs.Value.{width}
+use Rattle.inplace.specs.Widths.{width, setOf}
 use Rattle.graph.specs.Graphs.{Work, work, graphOf, capacityOf, Held, Sized, Refines}
-use Rattle.graph.specs.GraphLaws.{sized-refl, sized-trans, sized-places, count-nodes, graph-node, held-node}
+use Rattle.graph.specs.GraphLaws.{sized-refl, sized-trans, sized-places, count-nodes, graph-node, graph-set, held-node, held-set}
 use Rattle.graph.specs.RefineLaws.{refines-answer, refines-held}
 use Rattle.graph.specs.declared.Counts.{Counts}
 use Rattle.graph.specs.declared.Step.{Step}
@@ -73,8 +72,27 @@ module _ {ws : List ℕ} {n e a : Bytes} {c : Counts} {x : ℕ} (A : ExpandAsks 
   pub expand-fits : Fits nodeSize n x
   expand-fits = held-node (A .held) (there A)
 
-  pub expand-loaded : (v : D.Node) → nodeOf v ≡ nodeIn n x → nodeAt (graphOf (work n e a) c) x ≡ nodeOf v
+  pub expand-loaded : (v : D.Node) → IsNode n x v → nodeAt (graphOf (work n e a) c) x ≡ nodeOf (setOf n (nodeSize * x)) v
   expand-loaded v hv = graph-node (work n e a) c x (there A) ∙ sym hv
+
+  -- its set, where it stands
+  pub expand-set : setOf n (nodeSize * x) ≡ nodeAt (graphOf (work n e a) c) x .rows
+  expand-set = sym (graph-set (work n e a) c x (there A))
+
+  pub expand-inside : nodeSize * x + setSize ≤ length n
+  expand-inside = held-set (A .held) (there A)
+
+-- ---- between two puts its set stands where it stood
+
+module _ {ws : List ℕ} {w : Work} {c : Counts} {x : ℕ} {A : ExpandAsks ws w c x} {w′ : Work} {d : Counts} (N : Now A w′ d) where
+  there-still : x < d .nodes
+  there-still = omega (arith, N .growing .grows .longer, A .there, count-nodes w′ d)
+
+  pub now-set : setOf (w′ .nodes) (nodeSize * x) ≡ nodeAt (graphOf w c) x .rows
+  now-set = sym (graph-set w′ d x there-still) ∙ ap (λ (v : Node). v .rows) (N .growing .kept x (A .there))
+
+  pub now-inside : nodeSize * x + setSize ≤ length (w′ .nodes)
+  now-inside = held-set (N .held) there-still
 
 -- ---- a put
 

@@ -1,7 +1,14 @@
 // The expansion of a node over lent areas (01, The procedure).
 //
 // In order: what the root puts; what another state puts; the children of a state, of a node without an unfinished kind 3 row, of any node; the whole expansion.
+ghost use mathlib.Core.Path.{_≡_};
 ghost use mathlib.Core.Logic.{_≢_};
+ghost use Prim.Native.Nat.{_+_, _≤_, _<_};
+ghost use lib.ListN.{length};
+ghost use Rattle.concepts.specs.RowSet as Set;
+ghost use Rattle.words.specs.Sizes.{setSize};
+ghost use Rattle.inplace.specs.Widths.{width, setOf};
+ghost use Rattle.problem.specs.Decoded.{rulesOf, wantedOf, Decoded};
 ghost use Rattle.graph.specs.Graphs.{work};
 ghost use Rattle.expansion.specs.Contracts.{ExpandAsks, DisjAsks, StateAsks, KitGives, SuccessorsGives, StateGives, DisjGives, ConjGives, ExpandGives};
 use graph::Counts;
@@ -27,6 +34,33 @@ use updates::update_parents;
 // "A role that no row has, turned round or not".
 const NO_ROLE: u8 = 32;
 
+// The set at a place with a row more, in an array that is lent.
+fn with_row(nodes: &[u8], set: usize, row: usize, out: &mut [u8; SET_BYTES])
+    requires { ⌜ (set + setSize ≤ length (now nodes)) × (row < width) ⌝ }
+    ensures { λ _. ⌜ setOf (now (out .exit)) 0 ≡ Set.insert row (setOf (now (nodes .entry)) set) ⌝ }
+{
+    copy(out, 0, nodes, set, SET_WORDS);
+    insert(out, 0, row);
+}
+
+// The same with two rows more.
+fn with_rows(nodes: &[u8], set: usize, left: usize, right: usize, out: &mut [u8; SET_BYTES])
+    requires { ⌜ (set + setSize ≤ length (now nodes)) × (left < width) × (right < width) ⌝ }
+    ensures { λ _. ⌜ setOf (now (out .exit)) 0 ≡ Set.insert left (Set.insert right (setOf (now (nodes .entry)) set)) ⌝ }
+{
+    with_row(nodes, set, right, out);
+    insert(out, 0, left);
+}
+
+// The wanted rows and all rules, in an array that is lent with the empty set.
+fn join_kit(problem: &[u64], out: &mut [u8; SET_BYTES])
+    requires { ⌜ Decoded (now problem) × (setOf (now out) 0 ≡ Set.empty) ⌝ }
+    ensures { λ _. ⌜ setOf (now (out .exit)) 0 ≡ Set.union (wantedOf (now (problem .entry))) (rulesOf (now (problem .entry))) ⌝ }
+{
+    join_mask(out, 0, problem, problem::wanted(problem), SET_WORDS);
+    join_mask(out, 0, problem, problem::rules(problem), SET_WORDS);
+}
+
 // Puts the wanted rows and all rules under the root.
 fn put_kit(
     problem: &[u64],
@@ -40,8 +74,7 @@ fn put_kit(
         (work (now (nodes .exit)) (now (edges .exit)) (now (alternatives .exit))) ⌝ }
 {
     let mut kit = [0u8; SET_BYTES];
-    join_mask(&mut kit, 0, problem, problem::rules(problem), SET_WORDS);
-    join_mask(&mut kit, 0, problem, problem::wanted(problem), SET_WORDS);
+    join_kit(problem, &mut kit);
     put(problem, nodes, edges, alternatives, c, 0, 0, NO_ROLE, &kit)
 }
 
@@ -120,11 +153,9 @@ fn expand_disj(
         return expand_state(problem, nodes, edges, alternatives, c, x);
     };
     let mut first = [0u8; SET_BYTES];
-    copy(&mut first, 0, nodes, set, SET_WORDS);
-    insert(&mut first, 0, left);
     let mut second = [0u8; SET_BYTES];
-    copy(&mut second, 0, nodes, set, SET_WORDS);
-    insert(&mut second, 0, right);
+    with_row(nodes, set, left, &mut first);
+    with_row(nodes, set, right, &mut second);
     match put(problem, nodes, edges, alternatives, c, x, p, role, &first) {
         Step::Full(area) => Step::Full(area),
         Step::Done(d) => put(problem, nodes, edges, alternatives, d, x, p, role, &second),
@@ -152,9 +183,7 @@ fn expand_conj(
         return expand_disj(problem, nodes, edges, alternatives, c, x);
     };
     let mut both = [0u8; SET_BYTES];
-    copy(&mut both, 0, nodes, set, SET_WORDS);
-    insert(&mut both, 0, right);
-    insert(&mut both, 0, left);
+    with_rows(nodes, set, left, right, &mut both);
     put(problem, nodes, edges, alternatives, c, x, p, role, &both)
 }
 

@@ -2,7 +2,6 @@
 --
 -- In order: the root, loaded; the loop's invariant (`Turn`); its start; the end, by the root's status or for want of a node without status;
 -- the node to expand (`Fresh`), and its expansion.
--- Assumes nothing.
 use mathlib.Core.Path.{_≡_, refl, sym, ap, _∙_, subst}
 use mathlib.Core.Bool.{Bool, true, false, not}
 use mathlib.Core.List.{List}
@@ -23,7 +22,7 @@ use Rattle.words.specs.Sizes.{nodeSize}
 use Rattle.problem.specs.Decoded.{problemOf}
 use Rattle.records.specs.Areas.{Bytes, roomOf, Fits}
 use Rattle.records.specs.Codes.{statusOf}
-use Rattle.records.specs.Records.{nodeOf, nodeIn, isUnsetAt}
+use Rattle.records.specs.Records.{nodeIn, IsNode, isUnsetAt}
 use Rattle.graph.specs.Graphs.{Work, work, graphOf, capacityOf, Held, Grown, Sized, areaOf, resultOf, WithNodes, foundOf, PassedOver}
 use Rattle.graph.specs.GraphLaws.{grown-refl, grown-trans, sized-refl, sized-trans, sized-places, count-nodes, graph-node, held-node}
 use Rattle.graph.specs.RefineLaws.{refines-answer}
@@ -45,7 +44,7 @@ statuses-fit P c g A = omega (arith, A .inv .fits, count-le (λ n. not (isUnset 
 pub record RootLive (n : Bytes) (b : Bool) : Type 0 where
   pub status : isLive (nodeIn n 0 .status) ≡ b
 
-pub root-live : {n : Bytes} {b v : Bool} (d : D.Node) → nodeOf d ≡ nodeIn n 0 → b ≡ isLive (statusOf (d .status)) → b ≡ v → RootLive n v
+pub root-live : {n : Bytes} {b v : Bool} (d : D.Node) → IsNode n 0 d → b ≡ isLive (statusOf (d .status)) → b ≡ v → RootLive n v
 root-live d hd hb hv = record { status = ap (λ (u : Node). isLive (u .status)) (sym hd) ∙ sym hb ∙ hv }
 
 -- ---- the loop's invariant

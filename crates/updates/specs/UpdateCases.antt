@@ -1,7 +1,6 @@
 -- The cases of a node that is judged again, on plain values.
 --
 -- In order: a node that is not open; one that is (`Opened`), which is judged: no place; done (`Judged`), and then still open, or settled (`Settles`), with its parents to update.
--- Assumes nothing.
 use mathlib.Core.Path.{_≡_, sym, ap, _∙_, subst}
 use mathlib.Core.Bool.{Bool, true, false}
 use mathlib.Core.List.{List}
@@ -23,7 +22,7 @@ use Rattle.words.specs.Sizes.{nodeSize}
 use Rattle.problem.specs.Decoded.{problemOf}
 use Rattle.records.specs.Areas.{Bytes, Fits}
 use Rattle.records.specs.Codes.{statusOf}
-use Rattle.records.specs.Records.{nodeOf, nodeIn}
+use Rattle.records.specs.Records.{nodeIn, IsNode}
 use Rattle.graph.specs.Graphs.{Work, work, graphOf, capacityOf, Operation, Refines}
 use Rattle.graph.specs.GraphLaws.{sized-refl, sized-places, count-nodes, graph-node, held-node}
 use Rattle.graph.specs.RefineLaws.{refines-answer, refines-as, refines-held, refines-then, refines-short, refines-none}
@@ -39,7 +38,7 @@ use Rattle.updates.specs.Contracts.{UpdateAsks, Enough, unsettled, updat
 pub record Loaded (n : Bytes) (x : ℕ) (b : Bool) : Type 0 where
   pub status : isOpen (nodeIn n x .status) ≡ b
 
-pub loaded : {n : Bytes} {x : ℕ} {b v : Bool} (d : D.Node) → nodeOf d ≡ nodeIn n x → b ≡ isOpen (statusOf (d .status)) → b ≡ v → Loaded n x v
+pub loaded : {n : Bytes} {x : ℕ} {b v : Bool} (d : D.Node) → IsNode n x d → b ≡ isOpen (statusOf (d .status)) → b ≡ v → Loaded n x v
 loaded d hd hb hv = record { status = ap (λ (u : Node). isOpen (u .status)) (sym hd) ∙ sym hb ∙ hv }
 
 -- so it is in the graph
