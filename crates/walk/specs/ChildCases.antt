@@ -1,7 +1,6 @@
 -- The cases of the search for a child and the way down, on plain values.
 --
 -- In order: the status of a node; the first child with a status (`Looking`); the child that the walk goes to; a node on the way down (`Going`).
--- Assumes nothing.
 use mathlib.Core.Path.{_≡_, sym, ap, _∙_, subst}
 use mathlib.Core.Bool.{Bool, true, false}
 use mathlib.Core.List.{List, _∷_}
@@ -19,7 +18,7 @@ use Rattle.procedure.proofs.Way.{Way, way-there, way-linked, way-child, way-des
 use Rattle.words.specs.Sizes.{nodeSize, edgeSize, mostRecords}
 use Rattle.records.specs.Areas.{Bytes, roomOf, Fits}
 use Rattle.records.specs.Codes.{statusOf, linkOf}
-use Rattle.records.specs.Records.{nodeOf, nodeIn}
+use Rattle.records.specs.Records.{IsNode}
 use Rattle.records.specs.declared.Node as D
 use Rattle.graph.specs.Graphs.{Work, graphOf, childrenFrom, AmongChildren, Walks, foundOf}
 use Rattle.graph.specs.GraphLaws.{count-nodes, graph-node, held-node, held-most}
@@ -35,12 +34,14 @@ use Rattle.walk.specs.KeptLaws.{Answer, NextChild, next-walks, next-at, 
 -- ---- the status of a node
 
 module _ {n : Bytes} {c : Counts} {y : ℕ} where
-  pub status-here : (v : D.Node) → y < c .nodes → nodeOf v ≡ nodeIn n y → StatusAt n c y (statusOf (v .status))
+  pub status-here : (v : D.Node) → y < c .nodes → IsNode n y v → StatusAt n c y (statusOf (v .status))
   status-here v h p = record { is = λ e. ap (λ (m : Node). m .status) (p ∙ sym (graph-node (nodesEdges n e) c y h)) }
 
   pub status-past : c .nodes ≤ y → StatusAt n c y unset
   status-past h = record {
-    is = λ e. ap (λ (m : Node). m .status) (sym (List·getD-eq-default (graphOf (nodesEdges n e) c .nodes) noNode (omega (arith, count-nodes (nodesEdges n e) c))));
+    is = λ e.
+        let g = graphOf (nodesEdges n e) c in
+        ap (λ (m : Node). m .status) (sym (List·getD-eq-default (g .nodes) noNode (omega (arith, count-nodes (nodesEdges n e) c))));
   }
 
 -- ---- the first child with a status
@@ -130,7 +131,8 @@ found-as : {f k : FoundNode} {o : Option ℕ} → f ≡ k → foundOf f ≡ o �
 found-as {f} {k} {o} p q = subst (λ (x : FoundNode). foundOf x ≡ o) p q
 
 module _ (g : Graph) (x : ℕ) where
-  else-open : (o : Option ℕ) → o ≡ firstChild (asked true) g x → elim o as (λ _. Option ℕ) [ some z ↦ some z | none ↦ firstChild (asked false) g x ] ≡ liveChild g x
+  else-open : (o : Option ℕ) → o ≡ firstChild (asked true) g x
+      → elim o as (λ _. Option ℕ) [ some z ↦ some z | none ↦ firstChild (asked false) g x ] ≡ liveChild g x
   unfolding liveChild
   else-open o e = ap (λ (u : Option ℕ). elim u as (λ _. Option ℕ) [ some z ↦ some z | none ↦ firstChild isOpen g x ]) e
 
@@ -173,7 +175,7 @@ module _ {w : Work} {c : Counts} {start x : ℕ} (G : Going w c start x) where
   pub record Links (f : FoundNode) : Type 0 where
     pub is : foundOf f ≡ stateOf (nodeAt (graphOf w c) x .link)
 
-  pub going-links : (v : D.Node) → nodeOf v ≡ nodeIn (w .nodes) x → {f : FoundNode} → foundOf f ≡ stateOf (linkOf (v .link)) → Links f
+  pub going-links : (v : D.Node) → IsNode (w .nodes) x v → {f : FoundNode} → foundOf f ≡ stateOf (linkOf (v .link)) → Links f
   going-links v p k = record { is = k ∙ ap (λ (m : Node). stateOf (m .link)) (p ∙ sym (graph-node w c x there)) }
 
 module _ {w : Work} {c : Counts} {start x : ℕ} {G : Going w c start x} {f : FoundNode} (S : Links G f) where

@@ -1,7 +1,6 @@
 -- What the walk of the example relies on, and what it gives.
 --
 -- In order: the areas that it looks at; the way down; the marks; meeting a state; the rows of an element; the walk.
--- Assumes nothing.
 use mathlib.Core.Path.{_≡_}
 use mathlib.Core.Bool.{Bool, cond}
 use mathlib.Core.List.{List, [], _∷_, List·Memᴰ}

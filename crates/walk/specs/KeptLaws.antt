@@ -1,11 +1,11 @@
 -- Areas that differ by marks alone hold the same graph; what is known of the graph without its alternatives.
 --
--- In order: `Kept`; the graph; a step along the children of a node (`NextChild`); a finished graph, and the example, without alternatives.
--- Assumes nothing.
-use mathlib.Core.Path.{_≡_, refl, _∙_, subst}
+-- In order: `Kept`; the graph, and the set of a node where it stands; a step along the children of a node (`NextChild`); a finished graph, and the example,
+-- without alternatives.
+use mathlib.Core.Path.{_≡_, refl, sym, ap, _∙_, subst}
 use mathlib.Core.Bool.{Bool}
 use mathlib.Core.List.{[], _∷_}
-use Prim.Native.Nat.{ℕ, _+_, _≤_, _<_}
+use Prim.Native.Nat.{ℕ, _+_, _*_, _≤_, _<_}
 use native.Mathlib.Omega.{arith}
 use Rattle.concepts.specs.Concept.{Table}
 use Rattle.procedure.specs.Problem.{Problem}
@@ -14,13 +14,14 @@ use Rattle.procedure.specs.Graph as G
 use Rattle.procedure.specs.Example.{example}
 use Rattle.procedure.specs.WalkLaws.{example-same}
 use Rattle.procedure.proofs.Finished.{Under, Finished}
-use Rattle.words.specs.Sizes.{edgeSize}
+use Rattle.words.specs.Sizes.{nodeSize, edgeSize}
+use Rattle.inplace.specs.Widths.{setOf}
 use Rattle.records.specs.Areas.{Bytes, recordsIn}
 use Rattle.records.specs.AreaLaws.{records-same, beside-refl, beside-then}
 use Rattle.records.specs.Records.{nodeIn, edgeIn, alternativeIn}
 use Rattle.records.specs.RecordLaws.{node-beside, edge-beside}
 use Rattle.graph.specs.Graphs.{Work, graphOf, Held, WithEdges, childrenFrom, AmongChildren, Walks, IsNext}
-use Rattle.graph.specs.GraphLaws.{grown-refl, held-nodes, held-edges}
+use Rattle.graph.specs.GraphLaws.{grown-refl, held-nodes, held-edges, graph-set}
 use Rattle.graph.specs.declared.Counts.{Counts}
 use Rattle.graph.specs.declared.Next.{Next}
 use Rattle.graph.specs.declared.Next.the-variants as Next
@@ -54,6 +55,9 @@ module _ {w w′ : Work} (K : Kept w w′) (c : Counts) where
       let nodes = records-same nodeIn (kept-node K) (c .nodes) in
       let edges = records-same edgeIn (edge-beside (omega arith) (K .edges)) (c .edges) in
       cc (nodes, edges, K .alternatives)
+
+  pub kept-set : (x : ℕ) → x < c .nodes → setOf (w′ .nodes) (nodeSize * x) ≡ G.nodeAt (graphOf w c) x .rows
+  kept-set x h = sym (graph-set w′ c x h) ∙ ap (λ (g : G.Graph). G.nodeAt g x .rows) kept-graph
 
   pub kept-held : {a : Bytes} → Held (beside w a) c → Held (beside w′ a) c
   kept-held h = held-edges (held-nodes h (K .nodes) (omega arith)) (K .edges) (omega arith) (omega arith)

@@ -2,7 +2,6 @@
 --
 -- In order: where a state stands by its number; what `meet` makes of a walk; one more element; a state met before; a state met first (`New`); the first
 -- state of a walk.
--- Assumes nothing.
 use mathlib.Core.Path.{_≡_, refl, sym, ap, ap₂, _∙_, subst}
 use mathlib.Core.Bool.{Bool, cond}
 use mathlib.Core.List.{List, [], _∷_, _++_, List·Memᴰ}

@@ -1,25 +1,24 @@
 -- The rows of one element walked one after another: a turn of the loop, on plain values.
 --
--- In order: what is left of the rows (`left`); the loop's invariant (`Turn`), its start; the next row (`Row`) and child (`Child`), or the end; the child met.
--- Assumes nothing.
+-- In order: what is left of the rows (`left`); the loop's invariant (`RowTurn`), its start; the next row (`Row`) and child (`Child`), or the end; the child
+-- met. The set of the state is read at its place in each turn: marks are written beside it.
 use mathlib.Core.Path.{_≡_, refl, sym, ap, ap₂, _∙_, subst}
 use mathlib.Core.List.{List, [], _∷_, map, zip, zipWith, List·Memᴰ, List·Memᴰ·head, List·Memᴰ·tail}
 use mathlib.Core.Option.{some}
-use Prim.Native.Nat.{ℕ, _+_, _-_, _≤_, _<_}
+use Prim.Native.Nat.{ℕ, _+_, _*_, _-_, _≤_, _<_}
 use native.Mathlib.Omega.{arith}
 use lib.ListN.{length, length-append}
 use Rattle.concepts.specs.Begins.{begins-length}
 use Rattle.concepts.specs.Concept.{Table}
 use Rattle.concepts.specs.RowSet.{RowSet}
-use Rattle.procedure.specs.Graph.{Node, Graph, nodeAt}
-use Rattle.procedure.specs.SetTests.{existentials}
+use Rattle.procedure.specs.Graph.{Graph, nodeAt}
 use Rattle.meaning.specs.Given.{RoleLink}
 use Rattle.procedure.specs.Example.{Walk, descend, position, meet, walkRows, rowsOf}
 use Rattle.procedure.specs.ExampleLaws.{meet-links}
 use Rattle.procedure.specs.WalkLaws.{walkRows-none, walkRows-next, walkRows-grows}
 use Rattle.procedure.proofs.Way.{Way}
-use Rattle.words.specs.Sizes.{nodeSize, edgeSize, mostRecords}
-use Rattle.rowset.specs.Value.{valueOf}
+use Rattle.words.specs.Sizes.{nodeSize, edgeSize, setSize, mostRecords}
+use Rattle.inplace.specs.Widths.{width, setOf}
 use Rattle.problem.specs.Decoded.{tableOf}
 use Rattle.problem.specs.DecodedLaws.{length-tableOf}
 use Rattle.settests.specs.Answers.{existsFrom, NextExist}
@@ -28,10 +27,8 @@ use Rattle.settests.specs.declared.Exist.{Exist}
 use Rattle.settests.specs.declared.Exist.the-variants as Exist
 use Rattle.records.specs.Areas.{Fits}
 use Rattle.records.specs.AreaLaws.{length-records}
-use Rattle.records.specs.Records.{nodeOf, nodeIn}
-use Rattle.records.specs.declared.Node as D
 use Rattle.graph.specs.Graphs.{Work, graphOf, childrenFrom, AmongChildren, Walks}
-use Rattle.graph.specs.GraphLaws.{graph-node, held-node, held-most}
+use Rattle.graph.specs.GraphLaws.{held-set, held-most}
 use Rattle.graph.specs.SearchLaws.{children-all}
 use Rattle.graph.specs.declared.Counts.{Counts}
 use Rattle.graph.specs.declared.Next.{Next}
@@ -39,51 +36,54 @@ use Rattle.graph.specs.declared.Next.the-variants as Next
 use Rattle.marks.specs.Marks.{stateIn, roleLinkIn}
 use Rattle.marks.specs.declared.Sizes.{Sizes}
 use Rattle.walk.specs.Contracts.{Holds, Kept, DescendAsks, DescendGives, walkIn, Numbered, MeetAsks, MeetGives, elementRows, RowsAsks, RowsGives}
-use Rattle.walk.specs.KeptLaws.{Answer, kept-refl, kept-trans, kept-graph, kept-holds, next-walks, next-at, next-end}
+use Rattle.walk.specs.KeptLaws.{Answer, kept-refl, kept-trans, kept-graph, kept-set, kept-holds, next-walks, next-at, next-end}
 
 -- ---- what is left
 
--- the rows of the set from row k on, with the children of x from edge i on
-abbrev pub left : Table → Graph → ℕ → RowSet → ℕ → ℕ → List (ℕ × ℕ)
-left t g x set k i = zip (map (λ (e : ℕ × ℕ). e .0) (existsFrom t set k)) (childrenFrom g x i)
+-- the existential rows of the set of x, from row k on
+abbrev existsAt : Table → Graph → ℕ → ℕ → List (ℕ × ℕ)
+existsAt t g x k = existsFrom t (nodeAt g x .rows) k
 
-module _ (t : Table) (g : Graph) (x : ℕ) (set : RowSet) where
-  left-all : set ≡ nodeAt g x .rows → left t g x set 0 0 ≡ rowsOf t g x
+-- these with the children of x, from edge i on
+abbrev pub left : Table → Graph → ℕ → ℕ → ℕ → List (ℕ × ℕ)
+left t g x k i = zip (map (λ (e : ℕ × ℕ). e .0) (existsAt t g x k)) (childrenFrom g x i)
+
+module _ (t : Table) (g : Graph) (x : ℕ) where
+  left-all : left t g x 0 0 ≡ rowsOf t g x
   unfolding rowsOf
-  left-all p =
-      ap₂ (λ (es : List (ℕ × ℕ)) (ys : List ℕ). zip (map (λ (e : ℕ × ℕ). e .0) es) ys) (existsFrom-all t set ∙ ap (existentials t) p) (children-all g x)
+  left-all = ap₂ (λ (es : List (ℕ × ℕ)) (ys : List ℕ). zip (map (λ (e : ℕ × ℕ). e .0) es) ys) (existsFrom-all t (nodeAt g x .rows)) (children-all g x)
 
   module _ (k i : ℕ) where
-    left-rowless : existsFrom t set k ≡ [] → left t g x set k i ≡ []
+    left-rowless : existsAt t g x k ≡ [] → left t g x k i ≡ []
     unfolding zip zipWith
     left-rowless p = ap (λ (es : List (ℕ × ℕ)). zip (map (λ (e : ℕ × ℕ). e .0) es) (childrenFrom g x i)) p
 
-    left-more : (ρ l y m j : ℕ) → existsFrom t set k ≡ (ρ, l) ∷ existsFrom t set m → childrenFrom g x i ≡ y ∷ childrenFrom g x j
-        → left t g x set k i ≡ (ρ, y) ∷ left t g x set m j
+    left-more : (ρ l y m j : ℕ) → existsAt t g x k ≡ (ρ, l) ∷ existsAt t g x m → childrenFrom g x i ≡ y ∷ childrenFrom g x j
+        → left t g x k i ≡ (ρ, y) ∷ left t g x m j
     unfolding zip zipWith
     left-more ρ l y m j p q = ap₂ (λ (es : List (ℕ × ℕ)) (ys : List ℕ). zip (map (λ (e : ℕ × ℕ). e .0) es) ys) p q
 
-    left-childless : (ρ l m : ℕ) → existsFrom t set k ≡ (ρ, l) ∷ existsFrom t set m → childrenFrom g x i ≡ [] → left t g x set k i ≡ []
+    left-childless : (ρ l m : ℕ) → existsAt t g x k ≡ (ρ, l) ∷ existsAt t g x m → childrenFrom g x i ≡ [] → left t g x k i ≡ []
     unfolding zip zipWith
     left-childless ρ l m p q = ap₂ (λ (es : List (ℕ × ℕ)) (ys : List ℕ). zip (map (λ (e : ℕ × ℕ). e .0) es) ys) p q
 
 -- ---- the loop's invariant
 
 -- what is left, from row k and from edge i of the children of x on, gives the whole
-pub record Turn (ws : List ℕ) (w : Work) (c : Counts) (s : Sizes) (d x : ℕ) (set : RowSet) (w′ : Work) (s′ : Sizes) (k i : ℕ) : Type 0 where
+pub record RowTurn (ws : List ℕ) (w : Work) (c : Counts) (s : Sizes) (d x : ℕ) (w′ : Work) (s′ : Sizes) (k i : ℕ) : Type 0 where
   pub asks : RowsAsks ws w c s d
   pub kept : Kept w w′
   pub inside : x < c .nodes
   pub place : i ≤ c .edges
   pub among : AmongChildren (graphOf w c) x i
   pub numbered : Numbered (w′ .nodes) c (s′ .elements)
-  pub ways : (r : ℕ × ℕ) → List·Memᴰ r (left (tableOf ws) (graphOf w c) x set k i) → (y : ℕ) × Way (graphOf w c) (r .1) y
+  pub ways : (r : ℕ × ℕ) → List·Memᴰ r (left (tableOf ws) (graphOf w c) x k i) → (y : ℕ) × Way (graphOf w c) (r .1) y
   pub rest : (v : Walk) → walkRows (graphOf w c) d (elementRows ws w c d) (walkIn w s) ≡ some v
-      → walkRows (graphOf w c) d (left (tableOf ws) (graphOf w c) x set k i) (walkIn w′ s′) ≡ some v
+      → walkRows (graphOf w c) d (left (tableOf ws) (graphOf w c) x k i) (walkIn w′ s′) ≡ some v
 
 module _ {ws : List ℕ} {w : Work} {c : Counts} {s : Sizes} {d : ℕ} (A : RowsAsks ws w c s d) where
-  pub turn-element : Fits nodeSize (w .nodes) d
-  turn-element = (omega (arith, A .element, count, A .holds .held .nodes), omega (arith, A .element, count, A .holds .held .nodes))
+  pub row-element : Fits nodeSize (w .nodes) d
+  row-element = (omega (arith, A .element, count, A .holds .held .nodes), omega (arith, A .element, count, A .holds .held .nodes))
     where
       count : s .elements ≤ c .nodes
       count =
@@ -98,15 +98,10 @@ module _ {ws : List ℕ} {w : Work} {c : Counts} {s : Sizes} {d : ℕ} (A : Rows
     there : x < c .nodes
     there = omega (arith, A .numbered .inside d (A .element))
 
-    pub turn-state : Fits nodeSize (w .nodes) x
-    turn-state = held-node (A .holds .held) there
-
-    -- with the state as it was loaded
-    pub turn-start : (v : D.Node) → nodeOf v ≡ nodeIn (w .nodes) x → Turn ws w c s d x (valueOf (v .rows)) w s 0 0
-    turn-start v q =
+    pub row-start : RowTurn ws w c s d x w s 0 0
+    row-start =
         let h = graphOf w c in
-        let f : left (tableOf ws) h x (valueOf (v .rows)) 0 0 ≡ elementRows ws w c d =
-        left-all (tableOf ws) h x (valueOf (v .rows)) (ap (λ (u : Node). u .rows) (q ∙ sym (graph-node w c x there))) ∙ ap (rowsOf (tableOf ws) h) p in
+        let f : left (tableOf ws) h x 0 0 ≡ elementRows ws w c d = left-all (tableOf ws) h x ∙ ap (rowsOf (tableOf ws) h) p in
         record {
           asks = A;
           kept = kept-refl;
@@ -120,7 +115,7 @@ module _ {ws : List ℕ} {w : Work} {c : Counts} {s : Sizes} {d : ℕ} (A : Rows
 
 -- ---- a turn
 
-module _ {ws : List ℕ} {w : Work} {c : Counts} {s : Sizes} {d x : ℕ} {set : RowSet} {w′ : Work} {s′ : Sizes} {k i : ℕ} (T : Turn ws w c s d x set w′ s′ k i) where
+module _ {ws : List ℕ} {w : Work} {c : Counts} {s : Sizes} {d x : ℕ} {w′ : Work} {s′ : Sizes} {k i : ℕ} (T : RowTurn ws w c s d x w′ s′ k i) where
   abbrev table : Table
   table = tableOf ws
 
@@ -130,14 +125,14 @@ module _ {ws : List ℕ} {w : Work} {c : Counts} {s : Sizes} {d x : ℕ} {set : 
   -- the next row
   pub record Row (row ρ l : ℕ) : Type 0 where
     pub below : row < length table
-    pub rest : existsFrom table set k ≡ (ρ, l) ∷ existsFrom table set (row + 1)
+    pub rest : existsAt table h x k ≡ (ρ, l) ∷ existsAt table h x (row + 1)
 
   -- and the next child
   pub record Child (row ρ index y : ℕ) : Type 0 where
     pub from : i ≤ index
     pub below : index < c .edges
     pub among : AmongChildren h x (index + 1)
-    pub todo : left table h x set k i ≡ (ρ, y) ∷ left table h x set (row + 1) (index + 1)
+    pub todo : left table h x k i ≡ (ρ, y) ∷ left table h x (row + 1) (index + 1)
 
   same : graphOf w′ c ≡ h
   same = kept-graph (T .kept) c
@@ -148,61 +143,71 @@ module _ {ws : List ℕ} {w : Work} {c : Counts} {s : Sizes} {d x : ℕ} {set : 
   among-now : AmongChildren (graphOf w′ c) x i
   among-now = subst (λ (u : Graph). AmongChildren u x i) (sym same) (T .among)
 
-  pub turn-walks : Walks edgeSize (w′ .nodes) (w′ .edges) (c .nodes) (c .edges) x i
-  turn-walks = next-walks holds x i (T .inside) (T .place)
+  pub row-walks : Walks edgeSize (w′ .nodes) (w′ .edges) (c .nodes) (c .edges) x i
+  row-walks = next-walks holds x i (T .inside) (T .place)
 
-  ended : left table h x set k i ≡ [] → RowsGives ws w c s d s′ w′
+  ended : left table h x k i ≡ [] → RowsGives ws w c s d s′ w′
   ended p =
       let A = T .asks in
       let f : walkRows h d [] (walkIn w′ s′) ≡ some (A .end) = ap (λ (r : List (ℕ × ℕ)). walkRows h d r (walkIn w′ s′)) (sym p) ∙ T .rest (A .end) (A .walks) in
       record { kept = T .kept; numbered = T .numbered; walked = A .walks ∙ sym f ∙ walkRows-none h d (walkIn w′ s′) }
 
-  module _ {r : Exist} (N : NextExist table set k r) where
-    pub turn-rowless : r ≡ Exist.End → RowsGives ws w c s d s′ w′
-    unfolding NextExist
-    turn-rowless q = ended (left-rowless table h x set k i (subst (λ (z : Exist). NextExist table set k z) q N))
+  -- the set at its place
+  module _ {at : ℕ} (p : at ≡ nodeSize * x) where
+    pub row-inside : at + setSize ≤ length (w′ .nodes)
+    row-inside = omega (arith, held-set (holds .held) (T .inside))
 
-    pub turn-row : {row ρ l : ℕ} → r ≡ Exist.At row ρ l → Row row ρ l
-    unfolding NextExist
-    turn-row q = let E = subst (λ (z : Exist). NextExist table set k z) q N in record { below = E .inside; rest = E .rest }
+    module _ {r : Exist} (N : NextExist table (setOf (w′ .nodes) at) k r) where
+      as-kept : (z : Exist) → r ≡ z → NextExist table (nodeAt h x .rows) k z
+      as-kept z q =
+          let e : setOf (w′ .nodes) at ≡ nodeAt h x .rows = ap (setOf (w′ .nodes)) p ∙ kept-set (T .kept) c x (T .inside) in
+          subst (λ (v : RowSet). NextExist table v k z) e (subst (NextExist table (setOf (w′ .nodes) at) k) q N)
 
-module _ {ws : List ℕ} {w : Work} {c : Counts} {s : Sizes} {d x : ℕ} {set : RowSet} {w′ : Work} {s′ : Sizes} {k i : ℕ} {T : Turn ws w c s d x set w′ s′ k i}
+      pub row-none : r ≡ Exist.End → RowsGives ws w c s d s′ w′
+      unfolding NextExist
+      row-none q = ended (left-rowless table h x k i (as-kept Exist.End q))
+
+      pub row-next : {row ρ l : ℕ} → r ≡ Exist.At row ρ l → Row row ρ l
+      unfolding NextExist
+      row-next {row} {ρ} {l} q = let E = as-kept (Exist.At row ρ l) q in record { below = E .inside; rest = E .rest }
+
+module _ {ws : List ℕ} {w : Work} {c : Counts} {s : Sizes} {d x : ℕ} {w′ : Work} {s′ : Sizes} {k i : ℕ} {T : RowTurn ws w c s d x w′ s′ k i}
     {row ρ l : ℕ} (R : Row T row ρ l) where
-  pub turn-count : row + 1 ≤ 64
-  turn-count = omega (arith, R .below, length-tableOf ws, T .asks .decoded .rows .few)
+  pub row-count : row + 1 ≤ width
+  row-count = omega (arith, R .below, length-tableOf ws, T .asks .decoded .rows .few)
 
   module _ {r : Next} (N : Answer w′ c x i r) where
-    pub turn-childless : r ≡ Next.End → RowsGives ws w c s d s′ w′
-    turn-childless q =
-        ended T (left-childless (table T) (h T) x set k i ρ l (row + 1) (R .rest)
+    pub row-childless : r ≡ Next.End → RowsGives ws w c s d s′ w′
+    row-childless q =
+        ended T (left-childless (table T) (h T) x k i ρ l (row + 1) (R .rest)
         (subst (λ (u : Graph). childrenFrom u x i ≡ []) (same T) (next-end (holds T) x i (among-now T) N q)))
 
-    pub turn-child : {index y : ℕ} → r ≡ Next.At index y → Child T row ρ index y
-    turn-child {index} {y} q =
+    pub row-child : {index y : ℕ} → r ≡ Next.At index y → Child T row ρ index y
+    row-child {index} {y} q =
         let next = next-at (holds T) x i (among-now T) N q in
         record {
           from = next .from;
           below = next .below;
           among = subst (λ (u : Graph). AmongChildren u x (index + 1)) (same T) (next .among);
-          todo = left-more (table T) (h T) x set k i ρ l y (row + 1) (index + 1) (R .rest)
+          todo = left-more (table T) (h T) x k i ρ l y (row + 1) (index + 1) (R .rest)
               (subst (λ (u : Graph). childrenFrom u x i ≡ y ∷ childrenFrom u x (index + 1)) (same T) (next .more));
         }
 
 -- ---- the child met
 
-module _ {ws : List ℕ} {w : Work} {c : Counts} {s : Sizes} {d x : ℕ} {set : RowSet} {w′ : Work} {s′ : Sizes} {k i : ℕ} {T : Turn ws w c s d x set w′ s′ k i}
+module _ {ws : List ℕ} {w : Work} {c : Counts} {s : Sizes} {d x : ℕ} {w′ : Work} {s′ : Sizes} {k i : ℕ} {T : RowTurn ws w c s d x w′ s′ k i}
     {row ρ index y : ℕ} (C : Child T row ρ index y) where
-  pub turn-index : index + 1 ≤ mostRecords
-  turn-index = omega (arith, C .below, held-most (holds T .held) .1)
+  pub row-index : index + 1 ≤ mostRecords
+  row-index = omega (arith, C .below, held-most (holds T .held) .1)
 
-  pub turn-less : c .edges - (index + 1) < c .edges - i
-  turn-less = omega (arith, C .from, C .below)
+  pub row-less : c .edges - (index + 1) < c .edges - i
+  row-less = omega (arith, C .from, C .below)
 
   abbrev more : List (ℕ × ℕ)
-  more = left (table T) (h T) x set (row + 1) (index + 1)
+  more = left (table T) (h T) x (row + 1) (index + 1)
 
-  pub turn-asks : DescendAsks w′ c y
-  turn-asks =
+  pub row-asks : DescendAsks w′ c y
+  row-asks =
       let (b, v) = T .ways (ρ, y) (subst (λ (r : List (ℕ × ℕ)). List·Memᴰ (ρ, y) r) (sym (C .todo)) (List·Memᴰ·head refl)) in
       record { holds = holds T; end = b; way = subst (λ (u : Graph). Way u y b) (sym (same T)) v }
 
@@ -219,8 +224,8 @@ module _ {ws : List ℕ} {w : Work} {c : Counts} {s : Sizes} {d x : ℕ} {set : 
         let o : z ≡ b = cc in
         subst (λ (a : ℕ). walkRows (h T) d more (meet d ρ a (walkIn w′ s′)) ≡ some v) o r
 
-    pub turn-meets : MeetAsks w′ c s′ d ρ b
-    turn-meets =
+    pub row-meets : MeetAsks w′ c s′ d ρ b
+    row-meets =
         let A = T .asks in
         let (grown, count) = walkRows-grows (h T) d more next (A .end) (goes-on (A .end) (A .walks)) in
         record {
@@ -238,8 +243,8 @@ module _ {ws : List ℕ} {w : Work} {c : Counts} {s : Sizes} {d x : ℕ} {set : 
           );
         }
 
-    pub turn-met : {w″ : Work} {r : Sizes} → MeetGives w′ c s′ d ρ b r w″ → Turn ws w c s d x set w″ r (row + 1) (index + 1)
-    turn-met M = record {
+    pub row-met : {w″ : Work} {r : Sizes} → MeetGives w′ c s′ d ρ b r w″ → RowTurn ws w c s d x w″ r (row + 1) (index + 1)
+    row-met M = record {
       asks = T .asks;
       kept = kept-trans (T .kept) (M .kept);
       inside = T .inside;

@@ -1,7 +1,6 @@
 -- The elements walked one after another: a turn of the loop, on plain values.
 --
--- In order: what the definition's walk gives (`Whole`); the loop's invariant (`Turn`); its end; a turn (`Element`); the start.
--- Assumes nothing.
+-- In order: what the definition's walk gives (`Whole`); the loop's invariant (`ElementTurn`); its end; a turn (`Element`); the start.
 use mathlib.Core.Path.{_≡_, sym, ap, _∙_, subst}
 use mathlib.Core.List.{List, map, map-map, List·Memᴰ}
 use mathlib.Core.Option.{some}
@@ -35,7 +34,8 @@ use Rattle.graph.specs.GraphLaws.{count-nodes, count-edges, graph-node}
 use Rattle.graph.specs.declared.Counts.{Counts}
 use Rattle.marks.specs.Marks.{stateIn, roleLinkIn}
 use Rattle.marks.specs.declared.Sizes.{Sizes}
-use Rattle.walk.specs.Contracts.{nodesEdges, Kept, DescendAsks, DescendGives, walkIn, Numbered, RowsAsks, RowsGives, StartAsks, StartGives, WalkAsks, WalkGives}
+use Rattle.walk.specs.Contracts.{nodesEdges, Kept, DescendAsks, DescendGives, walkIn, Numbered}
+use Rattle.walk.specs.Contracts.{RowsAsks, RowsGives, StartAsks, StartGives, WalkAsks, WalkGives}
 use Rattle.walk.specs.KeptLaws.{kept-refl, kept-trans, kept-beside, kept-node, kept-graph, kept-held, kept-holds, finished-bare, example-bare}
 
 -- ---- what the definition's walk gives
@@ -82,14 +82,14 @@ module _ {ws : List ℕ} {w : Work} {c : Counts} (A : WalkAsks ws w c) where
 -- ---- the loop's invariant
 
 -- what is left from element d on gives the whole
-pub record Turn (ws : List ℕ) (w : Work) (c : Counts) (w′ : Work) (s : Sizes) (d : ℕ) : Type 0 where
+pub record ElementTurn (ws : List ℕ) (w : Work) (c : Counts) (w′ : Work) (s : Sizes) (d : ℕ) : Type 0 where
   pub asks : WalkAsks ws w c
   pub kept : Kept w w′
   pub numbered : Numbered (w′ .nodes) c (s .elements)
   pub few : s .elements ≤ c .nodes
   pub rest : (v : Walk) → walk (tableOf ws) (graphOf w c) ≡ some v → Ends (tableOf ws) (graphOf w c) d (walkIn w′ s) v
 
-module _ {ws : List ℕ} {w : Work} {c : Counts} {w′ : Work} {s : Sizes} {d : ℕ} (T : Turn ws w c w′ s d) where
+module _ {ws : List ℕ} {w : Work} {c : Counts} {w′ : Work} {s : Sizes} {d : ℕ} (T : ElementTurn ws w c w′ s d) where
   abbrev table : Table
   table = tableOf ws
 
@@ -106,8 +106,8 @@ module _ {ws : List ℕ} {w : Work} {c : Counts} {w′ : Work} {s : Sizes} {d : 
   pub record Element : Type 0 where
     pub is : d < s .elements
 
-  pub turn-element : d < s .elements → Element
-  turn-element l = record { is = l }
+  pub element-there : d < s .elements → Element
+  element-there l = record { is = l }
 
   -- ---- the end
 
@@ -119,8 +119,8 @@ module _ {ws : List ℕ} {w : Work} {c : Counts} {w′ : Work} {s : Sizes} {d : 
       let y = stateIn (w′ .nodes) i in
       ap (λ (x : Node). x .rows) (graph-node w c y (T .numbered .inside i l) ∙ sym (kept-node (T .kept) y)))
 
-  pub turn-end : s .elements ≤ d → WalkGives ws w c s w′
-  turn-end l =
+  pub element-end : s .elements ≤ d → WalkGives ws w c s w′
+  element-end l =
       let (v, O) = whole (T .asks) in
       let p : so-far ≡ v = ends-last table h d so-far v (omega (arith, length-records stateIn (w′ .nodes) (s .elements))) (T .rest v (O .ends)) in
       record {
@@ -136,12 +136,12 @@ module _ {ws : List ℕ} {w : Work} {c : Counts} {w′ : Work} {s : Sizes} {d : 
 
 -- ---- a turn
 
-module _ {ws : List ℕ} {w : Work} {c : Counts} {w′ : Work} {s : Sizes} {d : ℕ} {T : Turn ws w c w′ s d} (E : Element T) where
-  pub turn-few : d + 1 ≤ mostRecords
-  turn-few = omega (arith, E .is, T .few, T .asks .holds .held .nodes)
+module _ {ws : List ℕ} {w : Work} {c : Counts} {w′ : Work} {s : Sizes} {d : ℕ} {T : ElementTurn ws w c w′ s d} (E : Element T) where
+  pub element-few : d + 1 ≤ mostRecords
+  element-few = omega (arith, E .is, T .few, T .asks .holds .held .nodes)
 
-  pub turn-less : c .nodes - (d + 1) < c .nodes - d
-  turn-less = omega (arith, E .is, T .few)
+  pub element-less : c .nodes - (d + 1) < c .nodes - d
+  element-less = omega (arith, E .is, T .few)
 
   -- the state for which it stands, and the rows of that
   abbrev state : ℕ
@@ -169,8 +169,8 @@ module _ {ws : List ℕ} {w : Work} {c : Counts} {w′ : Work} {s : Sizes} {d : 
       subst (Usable (h T) (T .asks .good)) p
       (O .usable (getD (v .states) d 0) (getD-mem (v .states) d 0 (omega (arith, inside, begins-length (so-far T .states) (v .states) B))))
 
-  pub turn-asks : RowsAsks ws w′ c s d
-  turn-asks =
+  pub element-asks : RowsAsks ws w′ c s d
+  element-asks =
       let A = T .asks in
       let (v, O) = whole A in
       let (u, r, F) = here v (O .ends) in
@@ -188,8 +188,8 @@ module _ {ws : List ℕ} {w : Work} {c : Counts} {w′ : Work} {s : Sizes} {d : 
         fewLinks = omega (arith, m, O .fewLinks);
       }
 
-  pub turn-walked : {w″ : Work} {r : Sizes} → RowsGives ws w′ c s d r w″ → Turn ws w c w″ r (d + 1)
-  turn-walked {w″} {r} G = record {
+  pub element-walked : {w″ : Work} {r : Sizes} → RowsGives ws w′ c s d r w″ → ElementTurn ws w c w″ r (d + 1)
+  element-walked {w″} {r} G = record {
     asks = T .asks;
     kept = kept-trans (T .kept) (G .kept);
     numbered = G .numbered;
@@ -221,18 +221,21 @@ module _ {ws : List ℕ} {n e : Bytes} {c : Counts} (A : WalkAsks ws (nodesEdges
       decoded = A .decoded;
       holds = record { alternatives = A .holds .alternatives; held = kept-held (G .kept e) c (A .holds .held) };
       good = A .good;
-      finished = subst (λ (k : Graph). Finished (problemOf ws) k (A .good)) (sym (kept-graph (kept-beside (G .kept e) (A .holds .alternatives)) c)) (A .finished);
+      finished =
+          let same = kept-graph (kept-beside (G .kept e) (A .holds .alternatives)) c in
+          subst (λ (k : Graph). Finished (problemOf ws) k (A .good)) (sym same) (A .finished);
     }
 
-    pub turn-start : Turn ws (nodesEdges n′ e) c (nodesEdges n′ e) s 0
-    turn-start = record {
+    pub element-start : ElementTurn ws (nodesEdges n′ e) c (nodesEdges n′ e) s 0
+    element-start = record {
       asks = started-asks;
       kept = kept-refl;
       numbered = G .numbered;
       few = omega (arith, D .inside, length-records stateIn n′ (s .elements), ap (λ (v : Walk). length (v .states)) (G .starts e));
       rest = λ v q.
-          let finds : descend (graphOf (nodesEdges n′ e) c) 0 ≡ some y = subst (λ (k : Graph). descend k 0 ≡ some y) (sym (kept-graph (G .kept e) c)) (D .finds) in
-          subst (λ (u : Walk). Ends (tableOf ws) (graphOf (nodesEdges n′ e) c) 0 u v) (sym (G .starts e)) (ends-start (tableOf ws) (graphOf (nodesEdges n′ e) c) y v finds q);
+          let f = graphOf (nodesEdges n′ e) c in
+          let finds : descend f 0 ≡ some y = subst (λ (k : Graph). descend k 0 ≡ some y) (sym (kept-graph (G .kept e) c)) (D .finds) in
+          subst (λ (u : Walk). Ends (tableOf ws) f 0 u v) (sym (G .starts e)) (ends-start (tableOf ws) f y v finds q);
     }
 
     pub started-gives : {r : Sizes} {w″ : Work} → WalkGives ws (nodesEdges n′ e) c r w″ → WalkGives ws (nodesEdges n e) c r w″

@@ -130,7 +130,8 @@ fn descend(nodes: &[u8], edges: &[u8], c: Counts, from: u16) -> u16
 // Meets state y from element d along the role: "a state met first gets the next number, and one link is written".
 fn meet(nodes: &mut [u8], edges: &mut [u8], c: Counts, s: Sizes, d: u16, role: u8, y: u16) -> Sizes
     requires { ⌜ Contracts.MeetAsks (nodesEdges (now nodes) (now edges)) c s d role y ⌝ }
-    ensures { λ r. ⌜ Contracts.MeetGives (nodesEdges (now (nodes .entry)) (now (edges .entry))) c s d role y r (nodesEdges (now (nodes .exit)) (now (edges .exit))) ⌝ }
+    ensures { λ r. ⌜ Contracts.MeetGives (nodesEdges (now (nodes .entry)) (now (edges .entry))) c s d role y r
+        (nodesEdges (now (nodes .exit)) (now (edges .exit))) ⌝ }
 {
     let number = load_number(nodes, y as usize);
     let elements = s.elements;
@@ -161,7 +162,7 @@ fn meet(nodes: &mut [u8], edges: &mut [u8], c: Counts, s: Sizes, d: u16, role: u
     }
 }
 
-// Walks the rows of element d with the children put for them.
+// Walks the rows of element d with the children put for them. The set of its state is read where it stands: only marks are written meanwhile.
 fn walk_rows(
     problem: &[u64],
     nodes: &mut [u8],
@@ -171,7 +172,8 @@ fn walk_rows(
     d: u16,
 ) -> Sizes
     requires { ⌜ Contracts.RowsAsks (now problem) (nodesEdges (now nodes) (now edges)) c s d ⌝ }
-    ensures { λ r. ⌜ Contracts.RowsGives (now (problem .entry)) (nodesEdges (now (nodes .entry)) (now (edges .entry))) c s d r (nodesEdges (now (nodes .exit)) (now (edges .exit))) ⌝ }
+    ensures { λ r. ⌜ Contracts.RowsGives (now (problem .entry)) (nodesEdges (now (nodes .entry)) (now (edges .entry))) c s d r
+        (nodesEdges (now (nodes .exit)) (now (edges .exit))) ⌝ }
 {
     let x = load_state(nodes, d as usize);
     let set = node_set(x);
@@ -214,7 +216,8 @@ fn start(nodes: &mut [u8], c: Counts, y: u16) -> Sizes
 // Walks the example, and keeps it in the marks.
 pub fn walk(problem: &[u64], nodes: &mut [u8], edges: &mut [u8], c: Counts) -> Sizes
     requires { ⌜ Contracts.WalkAsks (now problem) (nodesEdges (now nodes) (now edges)) c ⌝ }
-    ensures { λ r. ⌜ Contracts.WalkGives (now (problem .entry)) (nodesEdges (now (nodes .entry)) (now (edges .entry))) c r (nodesEdges (now (nodes .exit)) (now (edges .exit))) ⌝ }
+    ensures { λ r. ⌜ Contracts.WalkGives (now (problem .entry)) (nodesEdges (now (nodes .entry)) (now (edges .entry))) c r
+        (nodesEdges (now (nodes .exit)) (now (edges .exit))) ⌝ }
 {
     let first = descend(nodes, edges, c, 0);
     let mut s = start(nodes, c, first);

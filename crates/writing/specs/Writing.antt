@@ -1,7 +1,8 @@
--- What the writers of the example ask and give (01, Areas: "Two example areas take elements (8 bytes ..) and links (6 bytes ..)"; 02, [2]). Laws are in WritingLaws.
+-- What the writers of the example ask and give (01, Areas: "Two example areas take elements (8 bytes ..) and links (6 bytes ..)"; 02, [2]).
+-- Laws are in WritingLaws.
 --
--- In order: the names of an element; what is written of the links; a link's fields; what each writer asks; what the whole gives; how far the writer of the links has come.
--- Assumes nothing.
+-- In order: the names of an element; what is written of the links; a link's fields; what each writer asks; what the whole gives; how far the writer of
+-- the links has come.
 use mathlib.Core.Path.{_≡_}
 use mathlib.Core.List.{List, [], _∷_, map}
 use Prim.Native.Nat.{ℕ, _*_, _≤_, _<_}
@@ -58,7 +59,8 @@ pub record WriteAsks (ws : List ℕ) (nodes edges : Bytes) (sizes : Sizes) (elem
   pub few : sizes .elements ≤ mostRecords
   pub elementsAsk : ElementsAsk nodes (sizes .elements) elements
   pub linksAsk : LinksAsk edges (sizes .links) links
-  pub ends : (i : ℕ) → i < sizes .links → (roleLinkIn edges i .from < sizes .elements) × (roleLinkIn edges i .role < 32) × (roleLinkIn edges i .to < sizes .elements)
+  pub ends : (i : ℕ) → i < sizes .links
+      → (roleLinkIn edges i .from < sizes .elements) × (roleLinkIn edges i .role < 32) × (roleLinkIn edges i .to < sizes .elements)
 
 -- the example that the records hold, with every row that holds
 abbrev pub listingHeld : List ℕ → (nodes edges : Bytes) → Sizes → Example

@@ -1,12 +1,13 @@
 -- Laws of Writing: the ways through the writers.
 --
 -- In order: the names of the elements; the links, one more, a writer's start and end; a link; the whole: what the evaluation asks, and what it gives.
--- Assumes nothing.
 use mathlib.Core.Path.{_≡_, refl, sym, ap, ap₂, _∙_, subst}
 use mathlib.Core.List.{List, _++_, map, map-map, append-assoc, List·Memᴰ}
-use Prim.Native.Nat.{ℕ, _+_, _*_, _≤_, _<_}
+use Prim.Native.Nat.{ℕ, _+_, _*_, _^_, _≤_, _<_}
+use native.Mathlib.Nat.{lt-of-lt-of-le}
 use native.Mathlib.Omega.{arith}
 use lib.ListN.{length, getD, length-append}
+use lib.Pow.{pow-mono}
 use Rattle.concepts.specs.Lists.{range}
 use Rattle.concepts.specs.ListLaws.{length-map-range, getD-map-range, range-more, range-mem, map-mem, map-same}
 use Rattle.concepts.specs.Inclusion.{narrower}
@@ -14,7 +15,6 @@ use Rattle.concepts.specs.RowSet.{RowSet}
 use Rattle.meaning.specs.Meaning.{World}
 use Rattle.meaning.specs.Given.{RoleLink, given}
 use Rattle.procedure.specs.SetTests.{namesOf}
-use Rattle.procedure.specs.Graph.{Node}
 use Rattle.procedure.specs.Example.{Example, worldOf}
 use Rattle.procedure.specs.ExampleLaws.{world-given}
 use Rattle.words.specs.Words.{putLe, littleEndian, overwrite}
@@ -22,6 +22,7 @@ use Rattle.words.specs.WordLaws.{length-putLe, length-littleEndian, putLe-overw
 use Rattle.words.specs.Fields.{putFields}
 use Rattle.words.specs.FieldLaws.{length-putFields}
 use Rattle.words.specs.Sizes.{nodeSize, setSize, linkSize}
+use Rattle.inplace.specs.Widths.{width, setOf}
 use Rattle.problem.specs.Decoded.{tableOf, Decoded}
 use Rattle.evaluation.specs.Evaluation.{evaluated}
 use Rattle.evaluation.specs.EvaluationLaws.{length-evaluated}
@@ -33,7 +34,7 @@ use Rattle.evaluation.specs.Contracts.{EvaluateAsks}
 use Rattle.run.specs.Run.{listing}
 use Rattle.settests.specs.AnswerLaws.{names-lt}
 use Rattle.records.specs.Areas.{Bytes, Fits}
-use Rattle.records.specs.Records.{nodeIn}
+use Rattle.records.specs.RecordLaws.{node-rows}
 use Rattle.marks.specs.Marks.{stateIn, roleLinkOf, roleLinkIn, exampleHeld}
 use Rattle.marks.specs.declared.LinkMark.{LinkMark}
 use Rattle.marks.specs.declared.Sizes.{Sizes}
@@ -41,13 +42,22 @@ use Rattle.writing.specs.Writing.{setIn, namesIn, linksTo, linkFields, E
 
 -- ---- the names of the elements
 
--- an element and its state are in the area
-pub element-fits : {n : Bytes} {count : ℕ} {elements : Bytes} → ElementsAsk n count elements → {d : ℕ} → d < count → Fits nodeSize n d × Fits nodeSize n (stateIn n d)
-element-fits A {d} h = let state = A .states d h in ((omega (arith, A .held), omega (arith, A .held)), (omega arith, omega arith))
+-- an element is in the area
+module _ {n : Bytes} {count : ℕ} {elements : Bytes} (A : ElementsAsk n count elements) {d : ℕ} (h : d < count) where
+  pub element-fits : Fits nodeSize n d
+  element-fits = (omega (arith, A .held), omega (arith, A .held))
 
--- its set is that of the node of its state
-pub element-set : (n : Bytes) (d : ℕ) {y : ℕ} {x : Node} → y ≡ stateIn n d → x ≡ nodeIn n y → x .rows ≡ setIn n d
-element-set n d p q = ap (λ (z : Node). z .rows) q ∙ ap (λ (z : ℕ). nodeIn n z .rows) p
+  -- and so is the set of its state
+  pub element-inside : {y at : ℕ} → y ≡ stateIn n d → at ≡ nodeSize * y → at + setSize ≤ length n
+  element-inside p q = let state = A .states d h in omega (arith, p, q)
+
+-- what stands there is the set of the element
+pub element-set : (n : Bytes) (d : ℕ) {y at : ℕ} → y ≡ stateIn n d → at ≡ nodeSize * y → setOf n at ≡ setIn n d
+element-set n d p q = ap (setOf n) (q ∙ ap (λ (z : ℕ). nodeSize * z) p) ∙ sym (node-rows n (stateIn n d))
+
+-- names fit the place of a set
+names-fit : {ws : List ℕ} → Decoded ws → (s : RowSet) → namesOf (tableOf ws) s < 256 ^ setSize
+names-fit D s = lt-of-lt-of-le (names-lt D s) (pow-mono {i = 64} {j = width} (omega arith))
 
 -- the names of the elements below d are written
 pub record Naming (ws : List ℕ) (n : Bytes) (count : ℕ) (area : Bytes) (d : ℕ) (area′ : Bytes) : Type 0 where
@@ -64,7 +74,9 @@ module _ {ws : List ℕ} {n : Bytes} {count : ℕ} {area : Bytes} {d : ℕ} {are
   naming-more {r = r} D room h hs hr e = record {
     within = omega arith;
     size = ap length e ∙ length-putLe area′ (setSize * d) setSize r ∙ N .size;
-    holds = hold-more (N .holds) (omega arith) (names-lt D (setIn n d)) (e ∙ ap (putLe area′ (setSize * d) setSize) (hr ∙ ap (namesOf (tableOf ws)) hs));
+    holds =
+        let named : r ≡ namesIn (tableOf ws) n d = hr ∙ ap (namesOf (tableOf ws)) hs in
+        hold-more (N .holds) (omega arith) (names-fit D (setIn n d)) (e ∙ ap (putLe area′ (setSize * d) setSize) named);
   }
 
   pub naming-all : count ≤ d → Holding area count (namesIn (tableOf ws) n) area′
@@ -124,18 +136,28 @@ link-written e {count} {area} {area′} {area″} {k} w h room put =
 -- ---- the whole
 
 module _ {ws : List ℕ} {n e : Bytes} {s : Sizes} {elements links : Bytes} (A : WriteAsks ws n e s elements links)
-    {elements₁ : Bytes} (N : Holding elements (s .elements) (namesIn (tableOf ws) n) elements₁) {links₁ : Bytes} (L : links₁ ≡ overwrite (linksTo e (s .links)) links) where
+    {elements₁ : Bytes} (N : Holding elements (s .elements) (namesIn (tableOf ws) n) elements₁)
+    {links₁ : Bytes} (L : links₁ ≡ overwrite (linksTo e (s .links)) links) where
   abbrev x : Example
   x = exampleHeld n e (s .elements) (s .links)
 
-  -- the links are read back as they were
+  -- the links fit their bytes
+  links-fit : (l : RoleLink) → List·Memᴰ l (x .links) → LinkFits l
+  links-fit l m =
+      let (i, r, q) = map-mem (roleLinkIn e) (range 0 (s .links)) l m in
+      let (lo, hi) = range-mem 0 (s .links) i r in
+      let (from, role, to) = A .ends i (omega arith) in (
+        omega (arith, A .few, ap (λ (k : RoleLink). k .from) q),
+        omega (arith, ap (λ (k : RoleLink). k .role) q),
+        omega (arith, A .few, ap (λ (k : RoleLink). k .to) q),
+      )
+
+  -- and are read back as they were
   links-read : linksIn links₁ (s .links) ≡ x .links
   links-read =
-      let ls = map (roleLinkIn e) (range 0 (s .links)) in
-      let fits : (l : RoleLink) → List·Memᴰ l ls → LinkFits l =
-      (λ l m. let (i, r, q) = map-mem (roleLinkIn e) (range 0 (s .links)) l m in let (lo, hi) = range-mem 0 (s .links) i r in let (from, role, to) = A .ends i (omega arith) in
-      (omega (arith, A .few, ap (λ (k : RoleLink). k .from) q), omega (arith, ap (λ (k : RoleLink). k .role) q), omega (arith, A .few, ap (λ (k : RoleLink). k .to) q))) in
-      ap (λ (b : Bytes). linksIn b (s .links)) L ∙ ap (linksIn (overwrite (linkBytes ls) links)) (sym (length-map-range (roleLinkIn e) 0 (s .links))) ∙ links-back ls links fits
+      ap (λ (b : Bytes). linksIn b (s .links)) L
+      ∙ ap (linksIn (overwrite (linkBytes (x .links)) links)) (sym (length-map-range (roleLinkIn e) 0 (s .links)))
+      ∙ links-back (x .links) links links-fit
 
   link-read : (i : ℕ) → i < s .links → linkAt links₁ i ≡ roleLinkIn e i
   link-read i h =
@@ -150,7 +172,10 @@ module _ {ws : List ℕ} {n e : Bytes} {s : Sizes} {elements links : Bytes} (A :
     room = omega (arith, A .elementsAsk .room, hold-length N);
     linked = record {
       room = omega (arith, A .linksAsk .room);
-      ends = λ i h. let (from, role, to) = A .ends i h in let l = link-read i h in (omega (arith, ap (λ (k : RoleLink). k .from) l), omega (arith, ap (λ (k : RoleLink). k .to) l));
+      ends = λ i h.
+          let (from, role, to) = A .ends i h in
+          let l = link-read i h in
+          (omega (arith, ap (λ (k : RoleLink). k .from) l), omega (arith, ap (λ (k : RoleLink). k .to) l));
     };
   }
 
@@ -159,7 +184,8 @@ module _ {ws : List ℕ} {n e : Bytes} {s : Sizes} {elements links : Bytes} (A :
   world-read =
       let m = s .elements in
       let named : map (elementAt elements₁) (range 0 m) ≡ map (namesOf (tableOf ws)) (x .elements) =
-      map-same (elementAt elements₁) (namesIn (tableOf ws) n) (range 0 m) (λ d r. hold-get N (omega (arith, range-mem 0 m d r .1))) ∙ sym (map-map (namesOf (tableOf ws)) (setIn n) (range 0 m)) in
+      map-same (elementAt elements₁) (namesIn (tableOf ws) n) (range 0 m) (λ d r. hold-get N (omega (arith, range-mem 0 m d r .1)))
+      ∙ sym (map-map (namesOf (tableOf ws)) (setIn n) (range 0 m)) in
       ap₂ (given (narrower (tableOf ws))) named links-read ∙ sym (world-given (tableOf ws) x)
 
   pub all-written : {elements₂ : Bytes}
@@ -170,8 +196,10 @@ module _ {ws : List ℕ} {n e : Bytes} {s : Sizes} {elements links : Bytes} (A :
       let sets = evaluated (worldOf (tableOf ws) x) (tableOf ws) in
       let named = map (namesIn (tableOf ws) n) (range 0 (s .elements)) in
       let as-many : length sets ≡ length named =
-      length-evaluated (worldOf (tableOf ws) x) (tableOf ws) ∙ length-map-range (setIn n) 0 (s .elements) ∙ sym (length-map-range (namesIn (tableOf ws) n) 0 (s .elements)) in
-      let as-long : length (elementBytes sets) ≡ length (elementBytes named) = length-elementBytes sets ∙ ap (λ (k : ℕ). setSize * k) as-many ∙ sym (length-elementBytes named) in
+      length-evaluated (worldOf (tableOf ws) x) (tableOf ws) ∙ length-map-range (setIn n) 0 (s .elements)
+      ∙ sym (length-map-range (namesIn (tableOf ws) n) 0 (s .elements)) in
+      let as-long : length (elementBytes sets) ≡ length (elementBytes named) =
+      length-elementBytes sets ∙ ap (λ (k : ℕ). setSize * k) as-many ∙ sym (length-elementBytes named) in
       record {
         elementsWritten =
             E ∙ ap (λ (W : World). overwrite (elementBytes (evaluated W (tableOf ws))) elements₁) world-read ∙ ap (overwrite (elementBytes sets)) (N .here)

@@ -1,26 +1,27 @@
 // The bytes of the example, written from the spare bytes of the records (01, Areas; 02, [2]).
 //
-// In order: the set of an element; the names of all elements; a link; all links; the example, which lists every row that holds.
+// In order: the names of all elements; a link; all links; the example, which lists every row that holds.
 ghost use mathlib.Core.Path.{_≡_};
 ghost use Prim.Native.Nat.{_+_, _*_, _≤_};
 ghost use lib.ListN.{length};
 ghost use Rattle.words.specs.Words.{overwrite};
 ghost use Rattle.words.specs.Fields.{putFields};
-ghost use Rattle.words.specs.Sizes.{nodeSize, edgeSize, linkSize};
-ghost use Rattle.rowset.specs.Value.{valueOf};
+ghost use Rattle.words.specs.Sizes.{edgeSize, linkSize};
 ghost use Rattle.problem.specs.Decoded.{tableOf, Decoded};
 ghost use Rattle.evaluation.specs.Holding.{Holding};
 ghost use Rattle.records.specs.Areas.{Fits};
-ghost use Rattle.marks.specs.Marks.{stateIn, roleLinkIn};
+ghost use Rattle.marks.specs.Marks.{roleLinkIn};
 ghost use Rattle.writing.specs.Writing as Writing;
 use evaluation::LINK_BYTES;
 use evaluation::evaluate;
+use inplace::SET_BYTES;
+use inplace::SET_WORDS;
+use inplace::put_low;
 use marks::Sizes;
 use marks::load_role_link;
 use marks::load_state;
-use records::load_node;
-use rowset::RowSet;
-use rowset::SET_BYTES;
+use records::node_set;
+use settests::names;
 use words::put2;
 
 // Writes the names of each element where its rows will stand: a name holds "where the procedure placed its kind 1 row in the state's set".
@@ -30,12 +31,8 @@ fn write_names(problem: &[u64], nodes: &[u8], count: usize, elements: &mut [u8])
 {
     let mut d = 0;
     while d < count {
-        let placed = node_set(load_state(nodes, d));
-        write_number(
-            elements,
-            SET_BYTES * d,
-            settests::names(problem, nodes, placed),
-        );
+        let named = names(problem, nodes, node_set(load_state(nodes, d)));
+        put_low(elements, SET_BYTES * d, named, SET_WORDS);
         d += 1;
     }
 }
@@ -64,7 +61,8 @@ fn write_links(edges: &[u8], count: usize, links: &mut [u8])
     }
 }
 
-// Writes the example that the records hold into the two example areas, "only in the bytes that the example fills". An element lists a row "exactly if it holds there".
+// Writes the example that the records hold into the two example areas, "only in the bytes that the example fills".
+// An element lists a row "exactly if it holds there".
 pub fn write_example(
     problem: &[u64],
     nodes: &[u8],

@@ -1,5 +1,4 @@
 -- `walk::descend` meets its contract: the way down from `from` goes through x; the nodes on it rise.
--- Assumes nothing.
 use Prim.Native.Nat.{_-_}
 use native.Mathlib.Omega.{arith}
 use borrow.Author.Needs.{needs}

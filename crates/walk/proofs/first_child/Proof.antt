@@ -1,5 +1,4 @@
 -- `walk::first_child` meets its contract: the search from an edge on finds what it finds from the start.
--- Assumes nothing.
 use Prim.Native.Nat.{_-_}
 use native.Mathlib.Omega.{arith}
 use borrow.Author.Needs.{needs}
@@ -33,7 +32,8 @@ first-child-spec =
     (λ c κs. search (looking-walks, needs))
     (λ c. search needs) (λ c. search needs)
     -- return Nothing
-    (λ c. let l : At tie.At-loop = search in let n : At tie.After-next-child = search in looking-end (l .loop .inv) (n .next-child .ensures) (c .enum-told .given .1))
+    (λ c. let l : At tie.At-loop = search in let n : At tie.After-next-child = search in
+    looking-end (l .loop .inv) (n .next-child .ensures) (c .enum-told .given .1))
     -- i = index + 1
     (λ c. omega (arith, looking-index (next (search))))
     -- is_asked(status_at(nodes, c, node), sat)

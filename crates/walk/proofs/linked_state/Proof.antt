@@ -1,5 +1,4 @@
 -- `walk::linked_state` meets its contract: by the link.
--- Assumes nothing.
 use mathlib.Core.Path.{sym, ap}
 use borrow.Author.Needs.{needs}
 use Rattle.records.specs.Codes.{linkOf}

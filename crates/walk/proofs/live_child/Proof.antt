@@ -1,5 +1,4 @@
 -- `walk::live_child` meets its contract: by whether a child that is yes was found.
--- Assumes nothing.
 use borrow.Author.Needs.{needs}
 use Rattle.walk.specs.ChildCases.{live-sat, live-open}
 use Rattle.walk.proofs.live_child.Statement.{statement}

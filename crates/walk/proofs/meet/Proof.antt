@@ -1,5 +1,4 @@
 -- `walk::meet` meets its contract: by the number of the state, which is 0 if it is met first.
--- Assumes nothing.
 use native.Mathlib.Omega.{arith}
 use borrow.Author.Needs.{needs}
 use Rattle.walk.specs.MeetCases.{met-before, New, meet-new, meet-few, meet-fits, met-first}

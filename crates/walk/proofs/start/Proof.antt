@@ -1,5 +1,4 @@
 -- `walk::start` meets its contract: no state has a number but y, which element 0 stands for.
--- Assumes nothing.
 use borrow.Author.Needs.{needs}
 use Rattle.walk.specs.MeetCases.{started}
 use Rattle.walk.proofs.start.Statement.{statement}
@@ -12,5 +11,6 @@ start-spec =
     (λ c κs. search needs) (λ c κs. search needs) (λ c κs. search needs)
     -- the end
     (λ c. search needs)
-    (λ c. let s : tie.Start = search in let z : tie.After-clear-numbers = search in let n : tie.After-store-number = search in let e : tie.After-store-state = search in
+    (λ c. let s : tie.Start = search in let z : tie.After-clear-numbers = search in let n : tie.After-store-number = search in
+    let e : tie.After-store-state = search in
     started (z .clear-numbers .ensures) (s .pre .inside) (n .store-number .ensures) (e .store-state .ensures)))

@@ -1,5 +1,4 @@
 -- `walk::status_at` meets its contract: by whether there is such a node.
--- Assumes nothing.
 use borrow.Author.Needs.{needs}
 use Rattle.walk.specs.ChildCases.{status-here, status-past}
 use Rattle.walk.proofs.status_at.Statement.{statement}

@@ -1,5 +1,4 @@
 -- `writing::write_example` meets its contract: the names and the links are written, and the world that they give is evaluated.
--- Assumes nothing.
 use borrow.Author.Needs.{needs}
 use Rattle.writing.specs.WritingLaws.{evaluation-asks, all-written}
 use Rattle.writing.proofs.write_example.Statement.{statement}
@@ -17,5 +16,6 @@ write-example-spec =
     evaluation-asks (s .pre) (n .write-names .ensures) (l .write-links .ensures) (l .write-links .kept .1 .1 .0))
     -- the end
     (λ c. search needs) (λ c. search needs)
-    (λ c. let s : tie.Start = search in let n : tie.After-write-names = search in let l : tie.After-write-links = search in let e : tie.After-evaluate = search in
+    (λ c. let s : tie.Start = search in let n : tie.After-write-names = search in let l : tie.After-write-links = search in
+    let e : tie.After-evaluate = search in
     all-written (s .pre) (n .write-names .ensures) (l .write-links .ensures) (e .evaluate .ensures)))

@@ -1,5 +1,4 @@
 -- `writing::write_links` meets its contract: the invariant is that the first `k` links are written over the area.
--- Assumes nothing.
 use Prim.Native.Nat.{_-_}
 use native.Mathlib.Omega.{arith}
 use borrow.Author.Needs.{needs}
