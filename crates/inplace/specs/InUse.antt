@@ -12,6 +12,7 @@ use Rattle.concepts.specs.Tests.{and-nothing, as-false}
 use Rattle.concepts.specs.RowSet.{mem, common}
 use Rattle.concepts.specs.RowSetLaws.{mem-common, mem-empty, mem-lt, set-ext}
 use Rattle.inplace.specs.Joined.{joined, Fit, wordAt, setAt, maskAt}
+use Rattle.inplace.specs.JoinedLaws.{joined-in-use}
 use Rattle.inplace.specs.ByteLaws.{Bytes, word-fits, set-words}
 use Rattle.inplace.specs.NextLaws.{Words, row-of, joined-beyond}
 
@@ -52,3 +53,8 @@ mask-beyond ws hw at m n none j l h =
       | yes e ↦ sym (row-of (λ (i : ℕ). getD ws (at + i) 0) (λ i. hw (at + i)) n 0 j i h (omega arith)) ∙ none (64 * j + i) (omega arith) ∙ sym (mem-empty i)
       | no d ↦ as-false (mem i x) (not-T (mem i x) (λ t. omega (arith, mem-lt 64 i x (hw (at + j)) t))) ∙ sym (mem-empty i)
     ])
+
+-- and then m words are all
+pub mask-in-use : (ws : List ℕ) (at m n : ℕ) → m ≤ n → ((j : ℕ) → m ≤ j → j < n → getD ws (at + j) 0 ≡ 0) → maskAt ws at n ≡ maskAt ws at m
+unfolding maskAt
+mask-in-use ws at m n l none = joined-in-use 64 (λ (j : ℕ). getD ws (at + j) 0) m n l none

@@ -175,12 +175,12 @@ pub joined-none : (p : ℕ) (f : ℕ → ℕ) (n : ℕ) → ((j : ℕ) → j < n
 joined-none p f n e = joined-same p f (λ (j : ℕ). 0) n e ∙ joined-zero p n
 
 -- the words from m on are zero, so that m words are all
-pub joined-in-use : (p : ℕ) (f : ℕ → ℕ) (m n : ℕ) → m ≤ n → ((j : ℕ) → m ≤ j → f j ≡ 0) → joined p f n ≡ joined p f m
+pub joined-in-use : (p : ℕ) (f : ℕ → ℕ) (m n : ℕ) → m ≤ n → ((j : ℕ) → m ≤ j → j < n → f j ≡ 0) → joined p f n ≡ joined p f m
 unfolding joined
-joined-in-use p f zero n l z = joined-none p f n (λ j _. z j (omega arith))
+joined-in-use p f zero n l z = joined-none p f n (λ j h. z j (omega arith) h)
 joined-in-use p f (suc m) zero l z = absurd (omega arith)
 joined-in-use p f (suc m) (suc n) l z =
-    ap (λ (x : ℕ). x * 2 ^ p + f 0) (joined-in-use p (λ (j : ℕ). f (suc j)) m n (omega arith) (λ j h. z (suc j) (omega arith)))
+    ap (λ (x : ℕ). x * 2 ^ p + f 0) (joined-in-use p (λ (j : ℕ). f (suc j)) m n (omega arith) (λ j h b. z (suc j) (omega arith) (omega arith)))
 
 -- ---- the lowest row
 

@@ -1,6 +1,6 @@
 -- Laws of Marking.
 --
--- In order: where masks stand; the words, and every mask, after a row joined one of them (`mark-mem`); a mask that is emptied; a mask joined by another.
+-- In order: where masks stand; the words, and every mask, after a row joined one (`mark-mem`); a list of rows as a mask (`list-put`); a mask joined by another.
 use mathlib.Core.Path.{_≡_, refl, sym, ap, ap₂, _∙_}
 use mathlib.Core.Bool.{Bool, true, false, _&&_, _||_, cond}
 use mathlib.Core.List.{List}
@@ -9,29 +9,24 @@ use Prim.Native.Nat.{ℕ, suc, _+_, _-_, _*_, _/_, _%_, _≤_, _<_}
 use native.Mathlib.Decide.{ℕ-discrete}
 use native.Mathlib.Omega.{arith}
 use lib.Dec.{eqb}
-use lib.ListN.{length, getD, set}
-use lib.Seq.{getD-set-other}
+use lib.ListN.{length, getD}
 use borrow.Author.Tests.{eq-eqb, ne-eqb}
-use Rattle.concepts.specs.RowSet.{mem, empty, union, insert}
-use Rattle.concepts.specs.RowSetLaws.{mem-insert, insert-lt, union-lt}
+use Rattle.concepts.specs.RowSet.{mem, union, insert, fromList}
+use Rattle.concepts.specs.RowSetLaws.{mem-insert, insert-lt, union-lt, fromList-lt}
 use Rattle.words.specs.Sizes.{setWords}
 use Rattle.inplace.specs.Widths.{width}
-use Rattle.inplace.specs.Joined.{joined, maskAt}
-use Rattle.inplace.specs.JoinedLaws.{joined-same, joined-none, joined-union}
+use Rattle.inplace.specs.Joined.{maskAt}
+use Rattle.inplace.specs.JoinedLaws.{joined-same, joined-union}
 use Rattle.inplace.specs.NextLaws.{Words, words-set, mask-insert}
-use Rattle.problem.specs.Layout.{rulesAt, wantedAt, room, kindPlace, rolePlace}
+use Rattle.inplace.specs.WordOf.{wordOf, joined-words}
+use Rattle.problem.specs.Rows.{AllBelow}
+use Rattle.problem.specs.Layout.{room, kindPlace, rolePlace}
 use Rattle.problem.specs.Decoded.{maskOf}
-use Rattle.problem.specs.Remade.{Beside}
-use Rattle.problem.specs.RemadeLaws.{beside-set, mask-beside}
-use Rattle.problem.specs.Marking.{masks, kindMask, roleMask, maskPlace, mark, Clears}
+use Rattle.problem.specs.Remade.{Beside, Remade}
+use Rattle.problem.specs.RemadeLaws.{beside-set, mask-beside, remade-beside}
+use Rattle.problem.specs.Marking.{masks, kindMask, roleMask, maskPlace, mark, PutsList}
 
 -- ---- where masks stand
-
-pub rules-place : rulesAt ≡ maskPlace 0
-rules-place = omega arith
-
-pub wanted-place : wantedAt ≡ maskPlace 1
-wanted-place = omega arith
 
 pub kind-place : (kind : ℕ) → kindPlace kind ≡ maskPlace (kindMask kind)
 kind-place kind = omega arith
@@ -71,11 +66,17 @@ mark-mem w words enough i m k q hi hm hk = elim (ℕ-discrete m i) [
       | no g ↦ inr (omega arith)
     ]
 
--- ---- a mask that is emptied
+-- ---- a list of rows as a mask
 
-pub cleared-mask : (at : ℕ) {w v : List ℕ} → Clears setWords at w v → maskOf v at ≡ empty
+-- by its words
+pub list-put : (at n : ℕ) {list w v : List ℕ} → AllBelow (64 * n) list → Remade (λ j. at + j) n (λ j _. wordOf (fromList list) j) w v → PutsList at n list w v
 unfolding maskAt
-cleared-mask at {w} {v} R = joined-none 64 (λ (j : ℕ). getD v (at + j) 0) setWords (λ j l. R .made j l)
+list-put at n {list} {w} {v} below R = record {
+  beside = remade-beside R;
+  rows =
+      joined-same 64 (λ (j : ℕ). getD v (at + j) 0) (wordOf (fromList list)) n (λ j l. R .made j l)
+      ∙ joined-words n (fromList list) (fromList-lt (64 * n) list below);
+}
 
 -- ---- a mask joined by another
 

@@ -2,11 +2,8 @@
 //
 // In order: each role is narrower than itself; rows that reach along further roles, in one word of the masks and in all; further narrower roles;
 // a pair of roles more; the inclusion in a row; all.
-ghost use mathlib.Core.Path.{_≡_};
-ghost use mathlib.Core.Bool.{cond};
 ghost use Prim.Native.Nat.{_≤_, _<_};
 ghost use lib.ListN.{length};
-ghost use Rattle.concepts.specs.RowSet.{empty};
 ghost use Rattle.words.specs.Sizes.{setWords};
 ghost use Rattle.inplace.specs.Widths.{width};
 ghost use Rattle.problem.specs.Layout.{room};
@@ -20,6 +17,7 @@ use crate::ROWS;
 use crate::UNIVERSALS;
 use crate::USED;
 use crate::inverse;
+use crate::word_if;
 use inplace::SET_WORDS;
 
 // Each role is narrower than itself.
@@ -32,13 +30,6 @@ pub fn put_sames(out: &mut [u64])
         out[NARROWS + code] = 1u64 << code;
         code += 1;
     }
-}
-
-// A word of rows, or of codes, or an empty one.
-fn word_if(keep: bool, word: u64) -> u64
-    ensures { λ r. ⌜ r ≡ cond keep word empty ⌝ }
-{
-    if keep { word } else { 0 }
 }
 
 // Along each role that is narrower than the first, the rows of word j that reach along the second, if there are any.
