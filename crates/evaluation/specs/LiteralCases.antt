@@ -5,8 +5,8 @@
 use mathlib.Core.Path.{_≡_, refl, sym, ap, ap₂, _∙_}
 use mathlib.Core.Bool.{Bool, true, false, not, _&&_, _||_}
 use mathlib.Core.List.{List}
-use Prim.Native.Nat.{ℕ, _+_, _*_, _/_, _%_, _-_, _^_, _≤_, _<_}
-use native.Mathlib.Decide.{ℕ-discrete, decLt}
+use Prim.Native.Nat.{ℕ, _+_, _*_, _/_, _%_, _-_, _≤_, _<_}
+use native.Mathlib.Decide.{decLt}
 use native.Mathlib.Omega.{arith}
 use lib.Dec.{T, eqb, ltb, leb→le, ltb→lt, not-T}
 use lib.ListN.{length, getD}
@@ -28,7 +28,7 @@ use Rattle.problem.specs.Decoded.{countOf, tableOf, ofKind, Mask, Decoded}
 use Rattle.problem.specs.DecodedLaws.{length-tableOf, word-parts}
 use Rattle.evaluation.specs.Steps.{literal, literalRows, wordIn}
 use Rattle.evaluation.specs.StepLaws.{mem-literalRows}
-use Rattle.evaluation.specs.Contracts.{leftIn, isNamed, NamedAsks, Named}
+use Rattle.evaluation.specs.Contracts.{isNamed, NamedAsks, Named}
 
 -- ---- the words of a set
 
