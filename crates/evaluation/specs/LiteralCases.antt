@@ -18,11 +18,11 @@ use Rattle.concepts.specs.RowSetLaws.{mem-empty, mem-insert, mem-single, mem-mi
 use Rattle.concepts.specs.Lowest.{Lowest, Rest}
 use Rattle.words.specs.Words.{putLe}
 use Rattle.words.specs.Sizes.{setWords, setSize}
-use Rattle.inplace.specs.Joined.{joined, Fit, wordAt, maskAt, putWords}
-use Rattle.inplace.specs.ByteLaws.{Bytes, set-mem}
-use Rattle.inplace.specs.WriteLaws.{put-words}
-use Rattle.inplace.specs.NextLaws.{Words, row-of, joined-beyond}
-use Rattle.inplace.specs.Widths.{width, setOf}
+use Rattle.rowset.specs.Joined.{joined, Fit, wordAt, maskAt, putWords}
+use Rattle.rowset.specs.ByteLaws.{Bytes, set-mem}
+use Rattle.rowset.specs.WriteLaws.{put-words}
+use Rattle.rowset.specs.NextLaws.{Words, row-of, joined-beyond}
+use Rattle.rowset.specs.Widths.{width, setOf}
 use Rattle.decoding.specs.RowParts.{kindOf, leftOf, inRange}
 use Rattle.problem.specs.Decoded.{countOf, tableOf, ofKind, Mask, Decoded}
 use Rattle.problem.specs.DecodedLaws.{length-tableOf, word-parts}

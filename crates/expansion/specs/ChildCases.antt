@@ -18,7 +18,7 @@ use Rattle.words.specs.Sizes.{nodeSize}
 use Rattle.records.specs.Areas.{Bytes}
 use Rattle.records.specs.Records.{nodeOf, IsNode}
 use Rattle.records.specs.declared.Node as D
-use Rattle.inplace.specs.Widths.{width, setOf}
+use Rattle.rowset.specs.Widths.{width, setOf}
 use Rattle.settests.specs.Answers.{foundOf}
 use Rattle.settests.specs.declared.Found.{Found}
 use Rattle.settests.specs.declared.Found.the-variants as Found

@@ -18,7 +18,7 @@ use Rattle.problem.specs.DecodedLaws.{length-tableOf}
 use Rattle.records.specs.Areas.{Bytes, Fits}
 use Rattle.records.specs.Records.{nodeOf, IsNode}
 use Rattle.records.specs.declared.Node as D
-use Rattle.inplace.specs.Widths.{width, setOf}
+use Rattle.rowset.specs.Widths.{width, setOf}
 use Rattle.graph.specs.Graphs.{Work, work, graphOf, capacityOf, Held, Sized, Refines}
 use Rattle.graph.specs.GraphLaws.{sized-refl, sized-trans, sized-places, count-nodes, graph-node, graph-set, held-node, held-set}
 use Rattle.graph.specs.RefineLaws.{refines-answer, refines-held}

@@ -9,6 +9,7 @@ use Prim.Native.Nat.{ℕ, suc, _+_, _*_, _≤_, _<_}
 use native.Mathlib.Omega.{arith}
 use lib.Dec.{eqb, ltb}
 use lib.ListN.{getD}
+use Rattle.concepts.specs.Tests.{and-nothing, and-all}
 use Rattle.concepts.specs.Lists.{range, NoneBelow, any, select}
 use Rattle.concepts.specs.ListLaws.{getD-range, length-range, first-at, first-nowhere}
 use Rattle.concepts.specs.RowSet.{RowSet}
@@ -17,7 +18,7 @@ use Rattle.procedure.specs.Graph as G
 use Rattle.words.specs.Sizes.{nodeSize, edgeSize, alternativeSize}
 use Rattle.records.specs.Areas.{Bytes, recordsIn, chosenFrom}
 use Rattle.records.specs.AreaLaws.{getD-records, records-kept, chosen-found, chosen-end}
-use Rattle.inplace.specs.Widths.{setOf}
+use Rattle.rowset.specs.Widths.{setOf}
 use Rattle.records.specs.Records.{nodeIn, isUnsetAt, edgeIn, alternativeIn}
 use Rattle.records.specs.RecordLaws.{node-rows}
 use Rattle.chains.specs.Chain.{First, Behind, following}
@@ -38,11 +39,17 @@ use Rattle.graph.specs.declared.NextAlternative.the-variants as Set
 
 -- ---- searches for a node
 
--- the test of a node by its flag and its set
-pub state-is : (n : Bytes) (x : ℕ) (s : RowSet) {a b : Bool} → a ≡ nodeIn n x .isState → b ≡ eqb (setOf n (nodeSize * x)) s
-    → (ltb 0 x && (a && b)) ≡ isStateWith n s x
-unfolding isStateWith
-state-is n x s flag same = let rows = node-rows n x in cc
+-- the test of a node by its set, and then by its flag
+module _ (n : Bytes) (x : ℕ) (s : RowSet) where
+  by-set : {b : Bool} → eqb (setOf n (nodeSize * x)) s ≡ b → isStateWith n s x ≡ (ltb 0 x && (nodeIn n x .isState && b))
+  unfolding isStateWith
+  by-set e = ap (λ (b : Bool). ltb 0 x && (nodeIn n x .isState && b)) (ap (λ (r : RowSet). eqb r s) (node-rows n x) ∙ e)
+
+  pub other-set : eqb (setOf n (nodeSize * x)) s ≡ false → false ≡ isStateWith n s x
+  other-set e = sym (by-set e ∙ ap (λ (b : Bool). ltb 0 x && b) (and-nothing (nodeIn n x .isState)) ∙ and-nothing (ltb 0 x))
+
+  pub same-set : eqb (setOf n (nodeSize * x)) s ≡ true → {a : Bool} → a ≡ nodeIn n x .isState → (ltb 0 x && a) ≡ isStateWith n s x
+  same-set e flag = ap (λ (b : Bool). ltb 0 x && b) (flag ∙ sym (and-all (nodeIn n x .isState))) ∙ sym (by-set e)
 
 -- what `lowest` asks of a node
 abbrev answer : (ℕ → Bool) → ℕ → Option ℕ

@@ -7,7 +7,7 @@ ghost use Prim.Native.Nat.{_≤_, _<_};
 ghost use Rattle.concepts.specs.Lists.{NoneBelow};
 ghost use Rattle.procedure.specs.Graph.{addNode, addEdge, addAlternative, setStatus, setLink, findState, lowestUnset};
 ghost use Rattle.words.specs.Sizes.{nodeSize, edgeSize, alternativeSize};
-ghost use Rattle.inplace.specs.Widths.{setOf};
+ghost use Rattle.rowset.specs.Widths.{setOf};
 ghost use Rattle.records.specs.Areas.{roomOf, Fits};
 ghost use Rattle.records.specs.Codes as Codes;
 ghost use Rattle.records.specs.Records as Records;
@@ -16,9 +16,6 @@ use chains::Places;
 use chains::append;
 use chains::begin;
 use chains::follow;
-use inplace::SET_BYTES;
-use inplace::SET_WORDS;
-use inplace::same;
 use records::ALTERNATIVE_BYTES;
 use records::EDGE_BYTES;
 use records::Edge;
@@ -46,6 +43,9 @@ use records::store_edge;
 use records::store_link;
 use records::store_node;
 use records::store_status;
+use rowset::SET_BYTES;
+use rowset::SET_WORDS;
+use rowset::same;
 
 // How many records each area has in use, at most 4,096 of each. In 2 bytes each, since nearly every function takes counts and answers with counts.
 pub struct Counts {
@@ -274,7 +274,11 @@ fn is_state_with(nodes: &[u8], x: u16, s: &[u8; SET_BYTES]) -> bool
     requires { ⌜ Fits nodeSize (now nodes) x ⌝ }
     ensures { λ r. ⌜ r ≡ Graphs.isStateWith (now (nodes .entry)) (setOf (now (s .entry)) 0) x ⌝ }
 {
-    (0 < x) & (is_state(nodes, x as usize) & same(nodes, node_set(x), s, 0, SET_WORDS))
+    // most nodes differ in the set
+    if !same(nodes, node_set(x), s, 0, SET_WORDS) {
+        return false;
+    }
+    (0 < x) & is_state(nodes, x as usize)
 }
 
 // The state with the set s; the root "is never looked up".

@@ -18,7 +18,7 @@ use answers::CANNOT;
 use answers::NO_ALTERNATIVE;
 use answers::NO_NODE;
 use answers::TOO_LONG;
-use inplace::SET_BYTES;
+use rowset::SET_BYTES;
 
 // The bytes of a link. An element is a set.
 const LINK: usize = 6;

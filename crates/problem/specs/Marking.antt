@@ -7,7 +7,7 @@ use Prim.Native.Nat.{ℕ, _+_, _*_, _/_, _%_}
 use lib.ListN.{getD, set}
 use Rattle.concepts.specs.RowSet.{insert, fromList}
 use Rattle.words.specs.Sizes.{setWords}
-use Rattle.inplace.specs.Joined.{maskAt}
+use Rattle.rowset.specs.Joined.{maskAt}
 use Rattle.problem.specs.Layout.{rulesAt}
 use Rattle.problem.specs.Remade.{Beside}
 

@@ -14,11 +14,11 @@ use borrow.Author.Tests.{eq-eqb, ne-eqb}
 use Rattle.concepts.specs.RowSet.{mem, union, insert, fromList}
 use Rattle.concepts.specs.RowSetLaws.{mem-insert, insert-lt, union-lt, fromList-lt}
 use Rattle.words.specs.Sizes.{setWords}
-use Rattle.inplace.specs.Widths.{width}
-use Rattle.inplace.specs.Joined.{maskAt}
-use Rattle.inplace.specs.JoinedLaws.{joined-same, joined-union}
-use Rattle.inplace.specs.NextLaws.{Words, words-set, mask-insert}
-use Rattle.inplace.specs.WordOf.{wordOf, joined-words}
+use Rattle.rowset.specs.Widths.{width}
+use Rattle.rowset.specs.Joined.{maskAt}
+use Rattle.rowset.specs.JoinedLaws.{joined-same, joined-union}
+use Rattle.rowset.specs.NextLaws.{Words, words-set, mask-insert}
+use Rattle.rowset.specs.WordOf.{wordOf, joined-words}
 use Rattle.problem.specs.Rows.{AllBelow}
 use Rattle.problem.specs.Layout.{room, kindPlace, rolePlace}
 use Rattle.problem.specs.Decoded.{maskOf}

@@ -16,8 +16,8 @@ use Rattle.concepts.specs.ListLaws.{map-same}
 use Rattle.concepts.specs.Concept.{NoInclusion}
 use Rattle.concepts.specs.RowSet.{mem}
 use Rattle.words.specs.Sizes.{setWords}
-use Rattle.inplace.specs.Joined.{maskAt}
-use Rattle.inplace.specs.JoinedLaws.{joined-same}
+use Rattle.rowset.specs.Joined.{maskAt}
+use Rattle.rowset.specs.JoinedLaws.{joined-same}
 use Rattle.problem.specs.Layout.{countAt, usedAt, rowsAt, kindPlace}
 use Rattle.problem.specs.Decoded.{countOf, usedOf, maskOf, rowOf, tableOf, rulesOf, wantedOf, RowsDecoded}
 use Rattle.problem.specs.Remade.{Beside, Remade}

@@ -5,7 +5,7 @@
 ghost use Prim.Native.Nat.{_≤_, _<_};
 ghost use lib.ListN.{length};
 ghost use Rattle.words.specs.Sizes.{setWords};
-ghost use Rattle.inplace.specs.Widths.{width};
+ghost use Rattle.rowset.specs.Widths.{width};
 ghost use Rattle.problem.specs.Layout.{room};
 ghost use Rattle.problem.specs.Decoded.{countOf, RowsDecoded};
 ghost use Rattle.problem.specs.Chaining.{Sames, JoinsWord, JoinsUniversals, JoinsNarrows, InUse, Chains, RolesAt, IncludesRow, Included};
@@ -18,7 +18,7 @@ use crate::UNIVERSALS;
 use crate::USED;
 use crate::inverse;
 use crate::word_if;
-use inplace::SET_WORDS;
+use rowset::SET_WORDS;
 
 // Each role is narrower than itself.
 pub fn put_sames(out: &mut [u64])

@@ -3,10 +3,10 @@
 // In order: the areas that are lent; the text area; the report.
 ghost use Rattle.report.specs.Report.{Reports};
 use evaluation::LINK_BYTES;
-use inplace::SET_BYTES;
 use records::ALTERNATIVE_BYTES;
 use records::EDGE_BYTES;
 use records::NODE_BYTES;
+use rowset::SET_BYTES;
 
 // How many records are lent of each area.
 const NODES: usize = 1024 * NODE_BYTES;

@@ -1,6 +1,6 @@
 -- The rounds of a run: a turn of the loop, on plain values.
 --
--- In order: the root, loaded; the loop's invariant (`Turn`); its start; the end, by the root's status or for want of a node without status;
+-- In order: the root, loaded; the loop's invariant (`RoundsDone`); its start; the end, by the root's status or for want of a node without status;
 -- the node to expand (`Fresh`), and its expansion.
 use mathlib.Core.Path.{_≡_, refl, sym, ap, _∙_, subst}
 use mathlib.Core.Bool.{Bool, true, false, not}
@@ -50,7 +50,7 @@ root-live d hd hb hv = record { status = ap (λ (u : Node). isLive (u .status)) 
 -- ---- the loop's invariant
 
 -- the rounds from here on give the whole, and every node below `from` has a status
-pub record Turn (ws : List ℕ) (w : Work) (c : Counts) (w′ : Work) (d : Counts) (from : ℕ) : Type 0 where
+pub record RoundsDone (ws : List ℕ) (w : Work) (c : Counts) (w′ : Work) (d : Counts) (from : ℕ) : Type 0 where
   pub asks : RoundsAsks ws w c
   pub held : Held w′ d
   pub grown : Grown c d
@@ -61,7 +61,7 @@ pub record Turn (ws : List ℕ) (w : Work) (c : Counts) (w′ : Work) (d : Count
   pub rest : (f : ℕ) × (roomOf nodeSize (w .nodes) < withAStatus (graphOf w′ d) + f)
       × (loopWithin (problemOf ws) (capacityOf w) f (graphOf w′ d) ≡ allRounds ws (capacityOf w) (graphOf w c))
 
-pub turn-start : {ws : List ℕ} {w : Work} {c : Counts} → RoundsAsks ws w c → Turn ws w c w c 0
+pub turn-start : {ws : List ℕ} {w : Work} {c : Counts} → RoundsAsks ws w c → RoundsDone ws w c w c 0
 turn-start {w = w} A = record {
   asks = A;
   held = A .held;
@@ -75,7 +75,7 @@ turn-start {w = w} A = record {
 
 -- ---- a turn
 
-module _ {ws : List ℕ} {w : Work} {c : Counts} {n′ e′ a′ : Bytes} {d : Counts} {from : ℕ} (T : Turn ws w c (work n′ e′ a′) d from) where
+module _ {ws : List ℕ} {w : Work} {c : Counts} {n′ e′ a′ : Bytes} {d : Counts} {from : ℕ} (T : RoundsDone ws w c (work n′ e′ a′) d from) where
   abbrev P : Problem
   P = problemOf ws
 
@@ -134,7 +134,7 @@ module _ {ws : List ℕ} {w : Work} {c : Counts} {n′ e′ a′ : Bytes} {d : C
 
 -- ---- an expansion
 
-module _ {ws : List ℕ} {w : Work} {c : Counts} {n′ e′ a′ : Bytes} {d : Counts} {from : ℕ} {T : Turn ws w c (work n′ e′ a′) d from} {x : ℕ} (F : Fresh T x) where
+module _ {ws : List ℕ} {w : Work} {c : Counts} {n′ e′ a′ : Bytes} {d : Counts} {from : ℕ} {T : RoundsDone ws w c (work n′ e′ a′) d from} {x : ℕ} (F : Fresh T x) where
   there : x < nodeCount (h T)
   there = lowestUnset-some (h T) x (F .found) .0
 
@@ -184,7 +184,7 @@ module _ {ws : List ℕ} {w : Work} {c : Counts} {n′ e′ a′ : Bytes} {d : C
           ap (λ (v : Node). isUnset (v .status)) (sym (graph-node w″ d₂ k (omega (arith, l, refines-answer G er .held .1 .nodes))))
           ∙ status-stays (P T) (cap T) (h T) x (T .still) there fresh (graphOf w″ d₂) (sym (expanded er)) k (omega (arith, l, count-nodes (work n′ e′ a′) d)) was
 
-      pub turn-expanded : Turn ws w c w″ d₂ x
+      pub turn-expanded : RoundsDone ws w c w″ d₂ x
       turn-expanded = let R = refines-answer G er in record {
         asks = T .asks;
         held = R .held .0;

@@ -10,12 +10,12 @@ use graph::FoundNode;
 use graph::Step;
 use graph::add_node;
 use graph::lowest_unset;
-use inplace::SET_BYTES;
 use records::Link;
 use records::Node;
 use records::Status;
 use records::is_live;
 use records::load_node;
+use rowset::SET_BYTES;
 
 // Expands the lowest node without status, which is looked for from the one before on, "until the root is yes, never or small or no node lacks a status".
 fn rounds(

@@ -12,12 +12,12 @@ use lib.ListN.{length}
 use Rattle.concepts.specs.Concept.{Concept, conceptAt}
 use Rattle.concepts.specs.RowSet.{RowSet, mem, empty, common, minus, single}
 use Rattle.words.specs.Sizes.{setSize}
-use Rattle.inplace.specs.Joined.{joined, Fit}
-use Rattle.inplace.specs.ByteLaws.{Bytes}
-use Rattle.inplace.specs.NextLaws.{Words, picked, picked-fits, picked-all}
-use Rattle.inplace.specs.Pending.{left}
-use Rattle.inplace.specs.WordLoops.{Midway, midway-begins, midway-passes, midway-ends, midway-also, midway-after, rowAt, LowestOfWord, lowest-of-word}
-use Rattle.inplace.specs.Widths.{setOf}
+use Rattle.rowset.specs.Joined.{joined, Fit}
+use Rattle.rowset.specs.ByteLaws.{Bytes}
+use Rattle.rowset.specs.NextLaws.{Words, picked, picked-fits, picked-all}
+use Rattle.rowset.specs.Pending.{left}
+use Rattle.rowset.specs.WordLoops.{Midway, midway-begins, midway-passes, midway-ends, midway-also, midway-after, rowAt, LowestOfWord, lowest-of-word}
+use Rattle.rowset.specs.Widths.{setOf}
 use Rattle.problem.specs.Decoded.{countOf, usedOf, tableOf, maskOf, Mask, Decoded}
 use Rattle.problem.specs.DecodedLaws.{length-tableOf}
 use Rattle.settests.specs.Masks.{common-row, mask-in-use}

@@ -7,7 +7,7 @@ ghost use Rattle.procedure.specs.Status as Procedure;
 ghost use Rattle.procedure.specs.Graph as Graph;
 ghost use Rattle.procedure.specs.Tableau as Tableau;
 ghost use Rattle.words.specs.Sizes.{nodeSize};
-ghost use Rattle.inplace.specs.Widths.{setOf};
+ghost use Rattle.rowset.specs.Widths.{setOf};
 ghost use Rattle.records.specs.Areas.{roomOf};
 ghost use Rattle.records.specs.Codes as Codes;
 ghost use Rattle.records.specs.Records as Records;
@@ -25,12 +25,12 @@ use graph::find_state;
 use graph::next_child;
 use graph::set_link;
 use graph::set_status;
-use inplace::SET_BYTES;
 use records::Link;
 use records::Node;
 use records::Status;
 use records::is_live;
 use records::load_node;
+use rowset::SET_BYTES;
 
 // Adds a node with the set s, and the edge to it.
 pub fn add_child(

@@ -1,6 +1,6 @@
 -- The alternatives of a small state, put one after the other under the node that was linked to it: a turn of the loop, on plain values.
 --
--- In order: what the call is about; the loop's invariant (`Turn`); its start; alternatives that were there stay where they are; the end;
+-- In order: what the call is about; the loop's invariant (`AlternativesPut`); its start; alternatives that were there stay where they are; the end;
 -- the next alternative (`Chosen`, `Joined`), and its put.
 use mathlib.Core.Path.{_≡_, sym, ap, _∙_, subst}
 use mathlib.Core.List.{List, [], _∷_, List·Memᴰ}
@@ -21,7 +21,7 @@ use Rattle.procedure.proofs.Linked.{PutPre, PutPost, Alternated, alternated-non
 use Rattle.procedure.proofs.Put.{within-right}
 use Rattle.procedure.proofs.Fit.{Anyone, pre-anyone, PutFit, JudgeFit}
 use Rattle.words.specs.Sizes.{nodeSize, alternativeSize, setSize, mostRecords}
-use Rattle.inplace.specs.Widths.{setOf}
+use Rattle.rowset.specs.Widths.{setOf}
 use Rattle.problem.specs.Decoded.{problemOf}
 use Rattle.records.specs.Areas.{Bytes, roomOf}
 use Rattle.records.specs.Records.{nodeOf, IsNode}
@@ -99,7 +99,7 @@ module _ {ws : List ℕ} {w : Work} {c : Counts} {z y : ℕ} (A : SmallAsks ws w
 -- ---- the loop's invariant
 
 -- the alternatives from record i on are left
-pub record Turn (ws : List ℕ) (w : Work) (c : Counts) (z y : ℕ) (w′ : Work) (d : Counts) (i : ℕ) : Type 0 where
+pub record AlternativesPut (ws : List ℕ) (w : Work) (c : Counts) (z y : ℕ) (w′ : Work) (d : Counts) (i : ℕ) : Type 0 where
   pub asks : SmallAsks ws w c z y
   pub place : i ≤ c .alternatives
   pub among : AmongAlternatives (graphOf w c) y i
@@ -107,7 +107,7 @@ pub record Turn (ws : List ℕ) (w : Work) (c : Counts) (z y : ℕ) (w′ : Work
   pub alternates : Alternates asks (alternativesFrom (graphOf w c) y i) (graphOf w′ d)
   pub course : (f : ℕ) → k asks ≤ f → Course (step asks f) (alternativesOf (graphOf w c) y) w c (alternativesFrom (graphOf w c) y i) w′ d
 
-pub turn-start : {ws : List ℕ} {w : Work} {c : Counts} {z y : ℕ} → SmallAsks ws w c z y → Turn ws w c z y w c 0
+pub turn-start : {ws : List ℕ} {w : Work} {c : Counts} {z y : ℕ} → SmallAsks ws w c z y → AlternativesPut ws w c z y w c 0
 turn-start {w = w} {c = c} {y = y} A = record {
   asks = A;
   place = omega arith;
@@ -119,7 +119,7 @@ turn-start {w = w} {c = c} {y = y} A = record {
 
 -- ---- a turn
 
-module _ {ws : List ℕ} {w : Work} {c : Counts} {z y : ℕ} {n′ e′ a′ : Bytes} {d : Counts} {i : ℕ} (t : Turn ws w c z y (work n′ e′ a′) d i) where
+module _ {ws : List ℕ} {w : Work} {c : Counts} {z y : ℕ} {n′ e′ a′ : Bytes} {d : Counts} {i : ℕ} (t : AlternativesPut ws w c z y (work n′ e′ a′) d i) where
   abbrev A : SmallAsks ws w c z y
   A = t .asks
 
@@ -198,7 +198,7 @@ module _ {ws : List ℕ} {w : Work} {c : Counts} {z y : ℕ} {n′ e′ a′ : B
 
 -- ---- the next alternative
 
-module _ {ws : List ℕ} {n e a : Bytes} {c : Counts} {z y : ℕ} {n′ e′ a′ : Bytes} {d : Counts} {i : ℕ} {t : Turn ws (work n e a) c z y (work n′ e′ a′) d i} {j : ℕ} {b : RowSet}
+module _ {ws : List ℕ} {n e a : Bytes} {c : Counts} {z y : ℕ} {n′ e′ a′ : Bytes} {d : Counts} {i : ℕ} {t : AlternativesPut ws (work n e a) c z y (work n′ e′ a′) d i} {j : ℕ} {b : RowSet}
     (p : Chosen t j b) where
   pub turn-index : j + 1 ≤ mostRecords
   turn-index = omega (arith, p .below, held-most (A t .linked .judge .held) .2)
@@ -231,7 +231,7 @@ module _ {ws : List ℕ} {n e a : Bytes} {c : Counts} {z y : ℕ} {n′ e′ a�
 
 -- ---- its put
 
-module _ {ws : List ℕ} {w : Work} {c : Counts} {z y : ℕ} {n′ e′ a′ : Bytes} {d : Counts} {i : ℕ} {t : Turn ws w c z y (work n′ e′ a′) d i}
+module _ {ws : List ℕ} {w : Work} {c : Counts} {z y : ℕ} {n′ e′ a′ : Bytes} {d : Counts} {i : ℕ} {t : AlternativesPut ws w c z y (work n′ e′ a′) d i}
     {j : ℕ} {v : D.Node} {σ : RowSet} (q : Joined t j v σ) where
   abbrev b : RowSet
   b = q .set
@@ -278,7 +278,7 @@ module _ {ws : List ℕ} {w : Work} {c : Counts} {z y : ℕ} {n′ e′ a′ : B
         refines-as (refines-short (course-short (course-here f few) (did er f few)) (λ u k h. reached (judgeBranch z (setLink z lapsed h))) sized-refl)
         (alternatives-put (puts ws f (capacityOf w)) z y (g (A t)))
 
-    pub turn-put : {d₂ : Counts} → r ≡ Done d₂ → Turn ws w c z y w″ d₂ (j + 1)
+    pub turn-put : {d₂ : Counts} → r ≡ Done d₂ → AlternativesPut ws w c z y w″ d₂ (j + 1)
     turn-put {d₂} er =
         let B = did er (k (A t)) (omega arith) in
         record {

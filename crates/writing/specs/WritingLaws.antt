@@ -22,7 +22,7 @@ use Rattle.words.specs.WordLaws.{length-putLe, length-littleEndian, putLe-overw
 use Rattle.words.specs.Fields.{putFields}
 use Rattle.words.specs.FieldLaws.{length-putFields}
 use Rattle.words.specs.Sizes.{nodeSize, setSize, linkSize}
-use Rattle.inplace.specs.Widths.{width, setOf}
+use Rattle.rowset.specs.Widths.{width, setOf}
 use Rattle.problem.specs.Decoded.{tableOf, Decoded}
 use Rattle.evaluation.specs.Evaluation.{evaluated}
 use Rattle.evaluation.specs.EvaluationLaws.{length-evaluated}

@@ -14,13 +14,13 @@ ghost use Rattle.marks.specs.Marks.{roleLinkIn};
 ghost use Rattle.writing.specs.Writing as Writing;
 use evaluation::LINK_BYTES;
 use evaluation::evaluate;
-use inplace::SET_BYTES;
-use inplace::SET_WORDS;
-use inplace::put_low;
 use marks::Sizes;
 use marks::load_role_link;
 use marks::load_state;
 use records::node_set;
+use rowset::SET_BYTES;
+use rowset::SET_WORDS;
+use rowset::put_low;
 use settests::names;
 use words::put2;
 

@@ -7,9 +7,9 @@ use lib.ListN.{length}
 use Rattle.words.specs.Words.{putLe}
 use Rattle.words.specs.WordLaws.{length-putLe}
 use Rattle.words.specs.Sizes.{setWords}
-use Rattle.inplace.specs.Joined.{putWords}
-use Rattle.inplace.specs.ByteLaws.{Bytes}
-use Rattle.inplace.specs.WriteLaws.{put-words-more}
+use Rattle.rowset.specs.Joined.{putWords}
+use Rattle.rowset.specs.ByteLaws.{Bytes}
+use Rattle.rowset.specs.WriteLaws.{put-words-more}
 use Rattle.problem.specs.Decoded.{tableOf}
 use Rattle.evaluation.specs.Steps.{literalRows, wordIn}
 use Rattle.evaluation.specs.LiteralCases.{literals-written}
@@ -63,11 +63,11 @@ written c =
 pub begin-at-spec : {M : Type 1} → statement M
 begin-at-spec =
     tie.close (tie.spec Inv-loop μ-loop
-    -- inplace::word(elements, at, 0)
+    -- rowset::word(elements, at, 0)
     (λ c κs. let s : At tie.Start = search in omega (arith, s .pre .1))
     -- while j < SET_WORDS
     begins
-    -- inplace::put_word(elements, at, j, literals(problem, j, names))
+    -- rowset::put_word(elements, at, j, literals(problem, j, names))
     (λ c κs. let s : At tie.Start = search in (s .pre .0, omega arith)) (λ c κs. let s : At tie.Start = search in omega (arith, s .pre .1))
     -- j += 1, the loop again
     (λ c. omega arith) (λ c. omega arith) again

@@ -4,8 +4,8 @@ use native.Mathlib.Omega.{arith}
 use borrow.Author.Needs.{needs}
 use Rattle.words.specs.Words.{putLe}
 use Rattle.words.specs.Sizes.{setWords, setSize}
-use Rattle.inplace.specs.ByteLaws.{Bytes}
-use Rattle.inplace.specs.WholeLaws.{word-whole}
+use Rattle.rowset.specs.ByteLaws.{Bytes}
+use Rattle.rowset.specs.WholeLaws.{word-whole}
 use Rattle.evaluation.proofs.put_row.Statement.{statement}
 use Rattle.evaluation.proofs.put_row.Tie as tie
 
@@ -37,7 +37,7 @@ leaves c =
 pub put-row-spec : {M : Type 1} → statement M
 put-row-spec =
     tie.close (tie.spec
-    -- inplace::insert(elements, at, k)
+    -- rowset::insert(elements, at, k)
     (λ c κs. let s : tie.Start = search in omega (arith, s .pre .0, s .pre .1)) (λ c. search needs) enters
-    -- inplace::remove(elements, at, k)
+    -- rowset::remove(elements, at, k)
     (λ c κs. let s : tie.Start = search in omega (arith, s .pre .0, s .pre .1)) (λ c. search needs) leaves)

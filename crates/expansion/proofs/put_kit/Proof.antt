@@ -1,6 +1,6 @@
 -- What the root puts.
 use borrow.Author.Needs.{needs}
-use Rattle.inplace.specs.ByteLaws.{zeros-empty}
+use Rattle.rowset.specs.ByteLaws.{zeros-empty}
 use Rattle.expansion.specs.ChildCases.{kit-asks, kit-gives}
 use Rattle.expansion.proofs.put_kit.Statement.{statement}
 use Rattle.expansion.proofs.put_kit.Tie as tie

@@ -7,8 +7,8 @@ use native.Mathlib.Omega.{arith}
 use borrow.Author.Needs.{needs}
 use lib.ListN.{length}
 use Rattle.words.specs.Sizes.{setSize}
-use Rattle.inplace.specs.Widths.{setOf}
-use Rattle.inplace.specs.ByteLaws.{zeros-empty}
+use Rattle.rowset.specs.Widths.{setOf}
+use Rattle.rowset.specs.ByteLaws.{zeros-empty}
 use Rattle.problem.specs.Decoded.{countOf}
 use Rattle.graph.specs.Graphs.{Work, work}
 use Rattle.expansion.specs.SuccessorCases.{SuccessorsPut, Chosen, Made, turn-start, turn-inside, turn-end, turn-next, turn-row, turn-less, turn-argument}

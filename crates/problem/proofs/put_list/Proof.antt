@@ -4,7 +4,7 @@ use Prim.Native.Nat.{_+_, _-_, _≤_}
 use native.Mathlib.Omega.{arith}
 use borrow.Author.Needs.{needs}
 use Rattle.concepts.specs.RowSet.{fromList}
-use Rattle.inplace.specs.WordOf.{wordOf}
+use Rattle.rowset.specs.WordOf.{wordOf}
 use Rattle.problem.specs.Remade.{Remade}
 use Rattle.problem.specs.RemadeLaws.{remade-none, stretch-apart, remade-written}
 use Rattle.problem.specs.MarkingLaws.{list-put}

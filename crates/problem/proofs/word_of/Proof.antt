@@ -10,7 +10,7 @@ use lib.Pow.{shl-exact}
 use borrow.Author.Needs.{needs}
 use Rattle.concepts.specs.RowSet.{empty, single, union, fromList}
 use Rattle.concepts.specs.RowSetLaws.{empty-union}
-use Rattle.inplace.specs.WordOf.{wordOf, word-drop, word-end}
+use Rattle.rowset.specs.WordOf.{wordOf, word-drop, word-end}
 use Rattle.problem.proofs.word_of.Statement.{statement}
 use Rattle.problem.proofs.word_of.Tie as tie
 

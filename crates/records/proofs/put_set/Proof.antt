@@ -2,7 +2,7 @@
 use native.Mathlib.Omega.{arith}
 use borrow.Author.Needs.{needs}
 use Rattle.words.specs.Sizes.{setSize}
-use Rattle.inplace.specs.ByteLaws.{leAt-lt}
+use Rattle.rowset.specs.ByteLaws.{leAt-lt}
 use Rattle.records.proofs.put_set.Statement.{statement}
 use Rattle.records.proofs.put_set.Tie as tie
 

@@ -9,14 +9,14 @@ use Rattle.procedure.proofs.Measure.{withAStatus}
 use Rattle.words.specs.Sizes.{nodeSize}
 use Rattle.records.specs.Areas.{roomOf}
 use Rattle.graph.specs.Graphs.{work, graphOf}
-use Rattle.rounds.specs.RoundCases.{root-live, Turn, Fresh, turn-start, turn-fits, turn-seeks, turn-settled, turn-done}
+use Rattle.rounds.specs.RoundCases.{root-live, RoundsDone, Fresh, turn-start, turn-fits, turn-seeks, turn-settled, turn-done}
 use Rattle.rounds.specs.RoundCases.{turn-fresh, turn-asks, turn-short, turn-less, turn-expanded}
 use Rattle.rounds.proofs.rounds.Statement.{statement}
 use Rattle.rounds.proofs.rounds.Tie as tie
 
 abbrev Inv-loop : tie.InvT-loop
 Inv-loop problem nodes₀ edges₀ alternatives₀ c from₀ nodes edges alternatives cur from =
-    Turn problem (work nodes₀ edges₀ alternatives₀) c (work nodes edges alternatives) cur from
+    RoundsDone problem (work nodes₀ edges₀ alternatives₀) c (work nodes edges alternatives) cur from
 
 abbrev μ-loop : tie.MeasureT-loop
 μ-loop problem nodes₀ edges₀ alternatives₀ c from₀ nodes edges alternatives cur from =

@@ -1,6 +1,6 @@
 -- `rounds::run` meets its contract: the root, then the rounds.
 use borrow.Author.Needs.{needs}
-use Rattle.inplace.specs.ByteLaws.{zeros-empty}
+use Rattle.rowset.specs.ByteLaws.{zeros-empty}
 use Rattle.rounds.specs.RunCases.{root-short, rounds-asks, rounds-give}
 use Rattle.rounds.proofs.run.Statement.{statement}
 use Rattle.rounds.proofs.run.Tie as tie
@@ -13,7 +13,7 @@ abbrev the-node : tie.After-c → tie.After-add-node
 the-node c = c .before .before .before .before
 
 abbrev begun : tie.After-add-node → tie.Start
-begun c = search
+begun c = c .before .before .before .before .before .before .before
 
 pub run-spec : {M : Type 1} → statement M
 run-spec =

@@ -8,7 +8,7 @@ use lib.Bits.{bitOr}
 use lib.Pow.{shl-exact}
 use Rattle.concepts.specs.RowSet.{RowSet, single, union}
 use Rattle.concepts.specs.RowSetLaws.{empty-union}
-use Rattle.inplace.specs.Widths.{setOf}
+use Rattle.rowset.specs.Widths.{setOf}
 use Rattle.problem.specs.Decoded.{tableOf, ofKind}
 use Rattle.settests.specs.Masks.{name-lt}
 use Rattle.settests.specs.MaskLoops.{wordOf, Loop, loop-begins, loop-passes, loop-ends, NextRow, next-row, loop-after}

@@ -18,14 +18,14 @@ use Rattle.problem.specs.Decoded.{problemOf}
 use Rattle.graph.specs.Graphs.{Work, work, graphOf}
 use Rattle.graph.specs.declared.Counts.{Counts}
 use Rattle.words.specs.Sizes.{nodeSize, alternativeSize, setSize}
-use Rattle.inplace.specs.Widths.{setOf}
-use Rattle.inplace.specs.ByteLaws.{zeros-empty}
+use Rattle.rowset.specs.Widths.{setOf}
+use Rattle.rowset.specs.ByteLaws.{zeros-empty}
 use Rattle.tableau.specs.Contracts.{lacks}
 use Rattle.tableau.specs.JudgeCases.{judge-judges, judge-links, judge-lapses, judge-states, judge-branches, linked-fits, linked-sets}
 use Rattle.tableau.specs.JudgeCases.{takes-sat, takes-unsat, takes-unset, takes-open, linked-small, small-judges}
 use Rattle.tableau.specs.PutCases.{Finished, Weighed, Complete, Linked, put-adds, put-joins, put-clashes, put-waits, put-finished, put-weighed, put-above}
 use Rattle.tableau.specs.PutCases.{put-lapses, put-complete, put-link-short, put-links, put-judge-asks, put-judge-falls, put-judge-short, put-edge-asks, put-judged}
-use Rattle.tableau.specs.SmallCases.{Turn, Chosen, Joined, turn-start, turn-walks, turn-sets, turn-next, turn-judges, turn-end}
+use Rattle.tableau.specs.SmallCases.{AlternativesPut, Chosen, Joined, turn-start, turn-walks, turn-sets, turn-next, turn-judges, turn-end}
 use Rattle.tableau.specs.SmallCases.{turn-index, turn-less, turn-joined, turn-sets-inside, turn-asks, turn-falls, turn-short, turn-put}
 use Rattle.graph.proofs.add_edge.Reads as add-edge
 use Rattle.records.proofs.load_node.Reads as load-node
@@ -210,7 +210,7 @@ linked-special t c = put-links (complete t (the-complete c)) (the-link c .link-s
 
 abbrev Inv-loop : small-lts.InvT-loop
 Inv-loop problem nodes₀ edges₀ alternatives₀ c z y node cur₀ i₀ nodes edges alternatives cur i =
-    Turn problem (work nodes₀ edges₀ alternatives₀) c z y (work nodes edges alternatives) cur i
+    AlternativesPut problem (work nodes₀ edges₀ alternatives₀) c z y (work nodes edges alternatives) cur i
 
 abbrev μ-loop : small-lts.MeasureT-loop
 μ-loop problem nodes₀ edges₀ alternatives₀ c z y node cur₀ i₀ nodes edges alternatives cur i = c .alternatives - i

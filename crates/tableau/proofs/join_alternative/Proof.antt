@@ -4,7 +4,7 @@ use Prim.Native.Nat.{ℕ, _+_, _*_, _≤_}
 use native.Mathlib.Omega.{arith}
 use borrow.Author.Needs.{needs}
 use Rattle.concepts.specs.RowSet.{union}
-use Rattle.inplace.specs.Widths.{setOf}
+use Rattle.rowset.specs.Widths.{setOf}
 use Rattle.tableau.proofs.join_alternative.Statement.{statement}
 use Rattle.tableau.proofs.join_alternative.Tie as tie
 
