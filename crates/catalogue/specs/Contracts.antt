@@ -20,7 +20,7 @@ use Rattle.decoding.specs.RowParts.{kindOf, leftOf}
 use Rattle.rulefile.specs.Format.{Bytes}
 use Rattle.words.specs.Words.{overwrite}
 use Rattle.problem.specs.Decoded.{tableOf, rulesOf, problemOf, Decoded}
-use Rattle.problem.specs.Want.{MayServe}
+use Rattle.problem.specs.Want.{MayServe, AllServe}
 use Rattle.graph.specs.Graphs.{Work, Sized}
 use Rattle.conclusion.specs.Contracts.{goodRoot}
 use Rattle.subsumption.specs.Names.{placeOf, ofName, positive, negative, hasBoth, rowAfterRow}
@@ -97,9 +97,6 @@ pub record EntryGives (ws : List ℕ) (c : Capacity) (p q r : ℕ) (ws′ : List
   pub same : SameRows ws ws′
 
 -- ---- a row of entries
-
-abbrev pub AllServe : Table → List ℕ → Type 0
-AllServe t rows = (k : ℕ) → List·Memᴰ k rows → MayServe t k
 
 pub record RowAsks (ws : List ℕ) (p : ℕ) (negatives row : List ℕ) : Type 0 where
   pub decoded : Decoded ws

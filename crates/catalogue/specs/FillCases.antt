@@ -19,12 +19,12 @@ use Rattle.procedure.specs.Problem.{opposedNames}
 use Rattle.procedure.specs.Tableau.{run}
 use Rattle.words.specs.Words.{overwrite}
 use Rattle.problem.specs.Decoded.{tableOf, Decoded}
-use Rattle.problem.specs.Want.{MayServe}
+use Rattle.problem.specs.Want.{MayServe, AllServe}
 use Rattle.graph.specs.Graphs.{Work, capacityOf, Sized}
 use Rattle.graph.specs.GraphLaws.{sized-refl, sized-trans, sized-places}
 use Rattle.subsumption.specs.Names.{rowAfterRow}
 use Rattle.subsumption.specs.NameLaws.{length-rowAfterRow, rowAfterRow-append, rowAfterRow-one}
-use Rattle.catalogue.specs.Contracts.{SameRows, entryResult, ranEntry, EntryAsks, EntryGives, AllServe, RowAsks, RowGives, FillAsks, FillGives, Written}
+use Rattle.catalogue.specs.Contracts.{SameRows, entryResult, ranEntry, EntryAsks, EntryGives, RowAsks, RowGives, FillAsks, FillGives, Written}
 
 -- ---- words of the same rows
 

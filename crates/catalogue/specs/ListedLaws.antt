@@ -14,7 +14,8 @@ use Rattle.words.specs.Words.{overwrite}
 use Rattle.problem.specs.Decoded.{tableOf, Decoded}
 use Rattle.subsumption.specs.Names.{positive, negative, names, rowAfterRow}
 use Rattle.subsumption.specs.NameLaws.{names-positive, names-negative, rowAfterRow-map}
-use Rattle.catalogue.specs.Contracts.{Lists, ranEntry, AllServe, FillAsks, FillGives}
+use Rattle.problem.specs.Want.{AllServe}
+use Rattle.catalogue.specs.Contracts.{Lists, ranEntry, FillAsks, FillGives}
 use Rattle.catalogue.specs.declared.Listed.{Listed}
 
 module _ {t : Table} {l : Listed} (L : Lists t (names t) l) where

@@ -2,11 +2,6 @@
 //
 // In order: the names that are listed; the answer; what a run says that wants two rows; such answers in a row, and row after row; an accepted file; every file.
 // How the names are listed is in names.rt. Through the C convention the call is in `gumbyra_kinds`.
-ghost use mathlib.Core.Path.{_≡_};
-ghost use mathlib.Core.List.{[], _∷_};
-ghost use Prim.Native.Nat.{_<_};
-ghost use Rattle.concepts.specs.RowSet.{fromList};
-ghost use Rattle.rowset.specs.Value.{valueOf, width};
 ghost use Rattle.graph.specs.Graphs.{work, capacityOf};
 ghost use Rattle.decoding.specs.Decoding.{ruleKinds};
 ghost use Rattle.rulefile.specs.Read.{Laid};
@@ -21,9 +16,6 @@ use problem::WORDS;
 use problem::decode_file;
 use problem::want;
 use records::clear;
-use rowset::RowSet;
-use rowset::empty;
-use rowset::insert;
 use rulefile::Layout;
 use rulefile::Outcome;
 use rulefile::read;
@@ -57,15 +49,6 @@ const NOT_UNDER: u8 = 0;
 
 const SHORT: u8 = 2;
 
-// The set of two rows.
-fn both(first: u8, second: u8) -> RowSet
-    requires { ⌜ (first < width) × (second < width) ⌝ }
-    ensures { λ r. ⌜ valueOf r ≡ fromList (first ∷ second ∷ []) ⌝ }
-{
-    let one = insert(empty(), second as usize);
-    insert(one, first as usize)
-}
-
 // What a run says that wants a name's kind 1 row and another name's kind 2 row. The work areas are left as the run left them.
 fn entry(
     problem: &mut [u64],
@@ -79,7 +62,8 @@ fn entry(
     ensures { λ r. ⌜ EntryGives (now (problem .entry)) (capacityOf (work (now (nodes .entry)) (now (edges .entry)) (now (alternatives .entry)))) positive negative
         r (now (problem .exit)) ⌝ }
 {
-    want(problem, both(positive, negative));
+    let both = [positive, negative];
+    want(problem, &both);
     match verdict_of(problem, nodes, edges, alternatives) {
         Verdict::Short(_) => SHORT,
         Verdict::Cannot(_) => UNDER,

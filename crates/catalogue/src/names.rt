@@ -1,7 +1,9 @@
 // The names that a catalogue lists (02, [7]).
 //
 // In order: the rows of the names; a name more; the names.
+ghost use mathlib.Core.Path.{_≡_};
 ghost use Prim.Native.Nat.{_+_, _<_};
+ghost use Rattle.concepts.specs.RowSet.{insert};
 ghost use Rattle.problem.specs.Decoded.{tableOf, Decoded};
 ghost use Rattle.subsumption.specs.Names.{names};
 ghost use Rattle.catalogue.specs.Contracts.{PlacesFrom, namesBelow, Lists, NameAsks};
@@ -9,8 +11,6 @@ use crate::Listed;
 use problem::kind_at;
 use problem::left_at;
 use problem::row_count;
-use rowset::RowSet;
-use rowset::insert;
 
 // "name 0 to 63"
 const NAMES: usize = 64;
@@ -46,6 +46,14 @@ fn places(problem: &[u64], kind: usize) -> [u8; NAMES]
     places
 }
 
+// A set of names with one more.
+fn with_bit(names: u64, name: usize) -> u64
+    requires { ⌜ name < 64 ⌝ }
+    ensures { λ r. ⌜ r ≡ insert name names ⌝ }
+{
+    (1u64 << name) | names
+}
+
 // A name is listed, if it has both rows.
 fn with_name(problem: &[u64], list: Listed, name: usize, positive: u8, negative: u8) -> Listed
     requires { ⌜ NameAsks (now problem) name positive negative list ⌝ }
@@ -63,9 +71,8 @@ fn with_name(problem: &[u64], list: Listed, name: usize, positive: u8, negative:
     let mut negatives = list.negatives;
     positives[count] = positive;
     negatives[count] = negative;
-    let set = insert(RowSet { bits: list.names }, name);
     Listed {
-        names: set.bits,
+        names: with_bit(list.names, name),
         count: count + 1,
         positives,
         negatives,

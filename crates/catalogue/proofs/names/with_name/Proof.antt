@@ -1,5 +1,4 @@
 -- `catalogue::names::with_name` meets its contract: one of its rows is missing, or it is listed.
--- Assumes nothing.
 use mathlib.Core.Path.{refl}
 use borrow.Author.Needs.{needs}
 use Rattle.catalogue.specs.NameCases.{name-room, name-no-positive, name-no-negative, name-listed}
@@ -16,8 +15,8 @@ with-name-spec =
     -- positives[count] = positive, negatives[count] = negative
     (λ c. let s : tie.Start = search in name-room (s .pre))
     (λ c. let s : tie.Start = search in name-room (s .pre))
-    -- insert(RowSet { bits: list.names }, name), count + 1
+    -- with_bit(list.names, name), count + 1
     (λ c κs. search needs) (λ c. search needs)
     -- the end
     (λ c. let s : tie.Start = search in let n : tie.After-row-count = search in let p : tie.Else1 = search in let q : tie.Else2 = search in
-    name-listed (s .pre) (n .row-count .ensures) (p .if1 .left) (q .if2 .left) (c .insert .ensures) refl refl refl))
+    name-listed (s .pre) (n .row-count .ensures) (p .if1 .left) (q .if2 .left) (c .with-bit .ensures) refl refl refl))
