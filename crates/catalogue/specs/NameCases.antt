@@ -1,7 +1,6 @@
 -- The ways through the functions that list the names, on plain values.
 --
 -- In order: a row of a kind and of a name; the rows of the names, from the last row to the first; a name more, listed or passed over; all names.
--- Assumes nothing.
 use mathlib.Core.Path.{_≡_, refl, sym, ap, _∙_, subst}
 use mathlib.Core.Bool.{Bool, true, false, _&&_, cond}
 use mathlib.Core.List.{List, [], _∷_, _++_, map, map-id, append-nil}
@@ -24,7 +23,7 @@ use Rattle.procedure.specs.Problem.{sameName}
 use Rattle.decoding.specs.RowParts.{kindOf, leftOf}
 use Rattle.decoding.specs.RowPartLaws.{views-by-parts}
 use Rattle.problem.specs.Decoded.{countOf, tableOf, Decoded}
-use Rattle.problem.specs.DecodedLaws.{length-tableOf}
+use Rattle.problem.specs.DecodedLaws.{length-tableOf, name-lt}
 use Rattle.subsumption.specs.Names.{placeOf, ofName, positive, negative, hasBoth, names}
 use Rattle.subsumption.specs.NameLaws.{placeOf-none, placeOf-drop}
 use Rattle.catalogue.specs.Contracts.{nameOf, PlacesFrom, namesBelow, Lists, NameAsks}
@@ -69,8 +68,12 @@ module _ {ws : List ℕ} (ok : Decoded ws) {kind : ℕ} (k : ℕ) {places : List
   pub place-row : k < countOf ws
   place-row = omega (arith, P .within, length-tableOf ws)
 
-  pub place-small : k < 64
+  pub place-small : k < 256
   place-small = omega (arith, place-row, ok .rows .few)
+
+  -- a row of the kind has a name
+  pub place-name : kind < 3 → kindOf (conceptAt t k) ≡ kind → leftOf (conceptAt t k) < 64
+  place-name few e = name-lt (ok .rows) k place-row (omega arith)
 
   -- the first row from row k on, by whether row k is one
   first-from : (a : ℕ) {b : Bool} → ofName (nameOf kind) a (conceptAt t k) ≡ b

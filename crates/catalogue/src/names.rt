@@ -22,7 +22,7 @@ const NOT_NAME: usize = 2;
 
 // A row is put down for its name, if it is of the kind.
 fn put_place(problem: &[u64], kind: usize, k: usize, places: &mut [u8])
-    requires { ⌜ Decoded (now problem) × PlacesFrom kind (tableOf (now problem)) (k + 1) (now places) ⌝ }
+    requires { ⌜ Decoded (now problem) × (kind < 3) × PlacesFrom kind (tableOf (now problem)) (k + 1) (now places) ⌝ }
     ensures { λ _. ⌜ PlacesFrom kind (tableOf (now (problem .entry))) k (now (places .exit)) ⌝ }
 {
     if kind_at(problem, k) == kind {
@@ -32,7 +32,7 @@ fn put_place(problem: &[u64], kind: usize, k: usize, places: &mut [u8])
 
 // At each name, its row of a kind; the number of rows if there is none. From the last row to the first, so that the first one stays.
 fn places(problem: &[u64], kind: usize) -> [u8; NAMES]
-    requires { ⌜ Decoded (now problem) ⌝ }
+    requires { ⌜ Decoded (now problem) × (kind < 3) ⌝ }
     ensures { λ r. ⌜ PlacesFrom kind (tableOf (now (problem .entry))) 0 r ⌝ }
 {
     let n = row_count(problem);

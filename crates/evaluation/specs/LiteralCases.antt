@@ -25,7 +25,7 @@ use Rattle.rowset.specs.NextLaws.{Words, row-of, joined-beyond}
 use Rattle.rowset.specs.Widths.{width, setOf}
 use Rattle.decoding.specs.RowParts.{kindOf, leftOf, inRange}
 use Rattle.problem.specs.Decoded.{countOf, tableOf, ofKind, Mask, Decoded}
-use Rattle.problem.specs.DecodedLaws.{length-tableOf, word-parts}
+use Rattle.problem.specs.DecodedLaws.{length-tableOf, word-parts, name-lt}
 use Rattle.evaluation.specs.Steps.{literal, literalRows, wordIn}
 use Rattle.evaluation.specs.StepLaws.{mem-literalRows}
 use Rattle.evaluation.specs.Contracts.{isNamed, NamedAsks, Named}
@@ -94,26 +94,12 @@ mask-word {ws} {p} {at} M words {j} h i = elim (decLt i 64) [
 
 -- ---- what `named` asks
 
--- the kinds of names
-name-small : (c : Concept) → T (inRange c) → kindOf c < 3 → leftOf c < 64
-unfolding inRange kindOf leftOf
-name-small (atomic a) r h = omega (arith, leb→le a 63 r)
-name-small (negated a) r h = omega (arith, leb→le a 63 r)
-name-small (conj l r) _ h = absurd (omega arith)
-name-small (disj l r) _ h = absurd (omega arith)
-name-small (univ ρ l) _ h = absurd (omega arith)
-name-small (exist ρ l) _ h = absurd (omega arith)
-name-small (inclusion ρ σ) _ h = absurd (omega arith)
-name-small (neg l) _ h = absurd (omega arith)
-name-small (impl l r) _ h = absurd (omega arith)
-
 pub named-asks : {ws : List ℕ} → Decoded ws → {kind at : ℕ} → kind < 3 → Mask ws (ofKind kind) at → Words ws → {j : ℕ} → j < setWords
     → NamedAsks ws j (getD ws (at + j) 0)
 unfolding ofKind
 named-asks {ws} D {kind} {at} few M words {j} h = record {
   inside = λ i m. row i m .0;
-  small = λ i m. let (below, is) = row i m in name-small (conceptAt t (64 * j + i)) (word-parts (D .rows) (64 * j + i) below .in-range)
-      (omega (arith, eqb-true _ kind is));
+  small = λ i m. let (below, is) = row i m in name-lt (D .rows) (64 * j + i) below (omega (arith, eqb-true _ kind is));
 }
   where
     t : Table

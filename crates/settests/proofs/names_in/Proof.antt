@@ -5,12 +5,13 @@ use Prim.Native.Nat.{ℕ, _*_, _-_, _%_, _^_}
 use native.Mathlib.Nat.{one-mul}
 use native.Mathlib.Omega.{arith}
 use lib.Bits.{bitOr}
+use borrow.Author.Tests.{eqb-true}
 use lib.Pow.{shl-exact}
 use Rattle.concepts.specs.RowSet.{RowSet, single, union}
 use Rattle.concepts.specs.RowSetLaws.{empty-union}
 use Rattle.rowset.specs.Widths.{setOf}
 use Rattle.problem.specs.Decoded.{tableOf, ofKind}
-use Rattle.settests.specs.Masks.{name-lt}
+use Rattle.problem.specs.DecodedLaws.{name-lt}
 use Rattle.settests.specs.MaskLoops.{wordOf, Loop, loop-begins, loop-passes, loop-ends, NextRow, next-row, loop-after}
 use Rattle.settests.specs.AnswerLaws.{leftParts, namesIn, gather-more, gather-none, names-masked}
 use borrow.Author.Needs.{needs}
@@ -60,10 +61,11 @@ loop2-holds : tie.Need-loop2-holds Inv-loop2 μ-loop2 Inv-loop μ-loop
 loop2-holds c = rw (c .before .word .ensures) (c .before .before .before .loop .inv)
 
 shl-names : tie.Need-shl-names Inv-loop2 μ-loop2 Inv-loop μ-loop
+unfolding ofKind
 shl-names c =
     let s : Start = search in
     let t = next (search) in
-    omega (arith, c .left-at .ensures .0, name-lt (s .pre .0) (s .args .kind) _ (s .pre .1) (t .below) (t .passes))
+    omega (arith, c .left-at .ensures .0, name-lt (s .pre .0 .rows) _ (t .below) (omega (arith, eqb-true _ (s .args .kind) (t .passes), s .pre .1)))
 
 loop2-again : tie.Need-loop2-again Inv-loop2 μ-loop2 Inv-loop μ-loop
 unfolding single union

@@ -1,5 +1,4 @@
 -- `catalogue::names::listed` meets its contract: the invariant is that the names below `name` are listed.
--- Assumes nothing.
 use mathlib.Core.Path.{refl}
 use Prim.Native.Nat.{_-_, _≤_}
 use borrow.Author.Needs.{needs}
@@ -23,7 +22,7 @@ pub listed-spec : {M : Type 1} → statement M
 listed-spec =
     tie.close (tie.spec Inv-loop μ-loop
     -- places(problem, NAME), places(problem, NOT_NAME)
-    (λ c κs. search needs) (λ c κs. search needs)
+    (λ c κs. let s : At tie.Start = search in (s .pre, omega arith)) (λ c κs. let s : At tie.Start = search in (s .pre, omega arith))
     -- while name < NAMES
     (λ c. (omega arith, lists-none _ _ refl refl refl refl))
     (λ c. search needs) (λ c. search needs)

@@ -1,5 +1,4 @@
 -- `catalogue::names::places` meets its contract: the invariant is that the rows from row `k` on are put down.
--- Assumes nothing.
 use borrow.Author.Needs.{needs}
 use native.Mathlib.Omega.{arith}
 use Rattle.problem.specs.Decoded.{tableOf}
@@ -22,12 +21,12 @@ places-spec =
     tie.close (tie.spec Inv-loop μ-loop
     -- row_count(problem), n as u8
     (λ c κs. search needs)
-    (λ c. let s : At tie.Start = search in omega (arith, s .pre .rows .few, c .row-count .ensures))
+    (λ c. let s : At tie.Start = search in omega (arith, s .pre .0 .rows .few, c .row-count .ensures))
     -- while 0 < k
     (λ c. let n : At tie.After-row-count = search in places-none _ _ (n .row-count .ensures))
     (λ c. search needs) (λ c. search needs)
     -- put_place(problem, kind, k, &mut places)
-    (λ c κs. let s : At tie.Start = search in let l : At tie.At-loop = search in (s .pre, places-at (l .loop .inv) (omega arith)))
+    (λ c κs. let s : At tie.Start = search in let l : At tie.At-loop = search in (s .pre .0, s .pre .1, places-at (l .loop .inv) (omega arith)))
     (λ c. search needs)
     (λ c. let p : At tie.After-put-place = search in p .put-place .ensures)
     -- the end
