@@ -4,7 +4,7 @@ use mathlib.Core.Bool.{Bool, true, false}
 use mathlib.Core.List.{List}
 use Prim.Native.Nat.{ℕ, zero, suc, _+_, _*_, _^_, _≤_, _<_}
 use lib.ListN.{getD}
-use Rattle.concepts.specs.RowSet.{RowSet, mem, insert, single, minus, common}
+use Rattle.concepts.specs.RowSet.{RowSet, mem, insert}
 use Rattle.words.specs.Words.{leAt, putLe}
 use Rattle.rowset.specs.declared.Next.{Next}
 use Rattle.rowset.specs.declared.Next.the-variants.{At, End}
@@ -52,10 +52,6 @@ Tells b at k r = (n : ℕ) → k < 64 * n → r ≡ mem k (setAt b at n)
 -- it is as it was in b, with row k
 abbrev pub Inserted : List ℕ → ℕ → ℕ → List ℕ → Type 0
 Inserted b at k c = (n : ℕ) → k < 64 * n → setAt c at n ≡ insert k (setAt b at n)
-
--- it is as it was in b, without row k
-abbrev pub Removed : List ℕ → ℕ → ℕ → List ℕ → Type 0
-Removed b at k c = (n : ℕ) → k < 64 * n → setAt c at n ≡ minus (setAt b at n) (single k)
 
 -- the mask is as it was in ws, with row k
 abbrev pub Marked : List ℕ → ℕ → ℕ → List ℕ → Type 0

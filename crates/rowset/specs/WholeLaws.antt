@@ -1,4 +1,4 @@
--- A word of a set that is written is the whole set written (`word-whole`): what is known of a row that joins or leaves is known of the bytes around, too.
+-- Where bytes of a number alone have changed, the number is written (`put-between`): what is known of it then is known of the bytes around, too.
 use mathlib.Core.Path.{_≡_, sym, ap, ap₂, _∙_}
 use mathlib.Core.List.{List}
 use Prim.Native.Nat.{ℕ, zero, suc, _+_, _-_, _*_, _/_, _%_, _≤_, _<_}
@@ -7,8 +7,6 @@ use native.Mathlib.Omega.{arith}
 use lib.ListN.{length, getD, set, length-set, List·getD-eq-default}
 use lib.Seq.{getD-set-same, getD-set-other, ext-getD}
 use Rattle.words.specs.Words.{leAt, putLe}
-use Rattle.words.specs.WordLaws.{length-putLe, below-putLe, above-putLe}
-use Rattle.rowset.specs.Joined.{setAt}
 use Rattle.rowset.specs.ByteLaws.{Bytes}
 
 -- bytes stay bytes
@@ -32,7 +30,8 @@ putLe-bytes b h at (suc n) v = putLe-bytes (set b at (v % 256)) stored (suc at) 
 pub put-between : (c : List ℕ) → Bytes c → (n : ℕ) (b : List ℕ) (at : ℕ) → length c ≡ length b → at + n ≤ length b
     → ((i : ℕ) → i < at → getD c i 0 ≡ getD b i 0) → ((i : ℕ) → at + n ≤ i → getD c i 0 ≡ getD b i 0) → c ≡ putLe b at n (leAt c at n)
 unfolding putLe leAt
-put-between c h zero b at size room low high = ext-getD 0 c b size (λ i _. elim (ℕ-discrete (at - i) 0) [ yes e ↦ high i (omega arith) | no d ↦ low i (omega arith) ])
+put-between c h zero b at size room low high =
+    ext-getD 0 c b size (λ i _. elim (ℕ-discrete (at - i) 0) [ yes e ↦ high i (omega arith) | no d ↦ low i (omega arith) ])
 put-between c h (suc n) b at size room low high =
     let here : ℕ = getD c at 0 in
     let rest : ℕ = leAt c (suc at) n in
@@ -47,10 +46,3 @@ put-between c h (suc n) b at size room low high =
       | yes e ↦ rw e (sym (getD-set-same b at (getD c at 0) 0 (omega arith)))
       | no d ↦ low i (omega arith) ∙ sym (getD-set-other b at i (getD c at 0) 0 d)
     ]
-
--- word j of n is written
-pub word-whole : (b : List ℕ) → Bytes b → (at j n v : ℕ) → j < n → at + 8 * n ≤ length b → {c : List ℕ} → c ≡ putLe b (at + 8 * j) 8 v → c ≡ putLe b at (8 * n) (setAt c at n)
-word-whole b h at j n v l room e =
-    e ∙ put-between (putLe b (at + 8 * j) 8 v) (putLe-bytes b h (at + 8 * j) 8 v) (8 * n) b at (length-putLe b (at + 8 * j) 8 v) room
-    (λ i below. below-putLe b (at + 8 * j) 8 v i (omega arith)) (λ i above. above-putLe b (at + 8 * j) 8 v i (omega arith))
-    ∙ ap (λ (x : List ℕ). putLe b at (8 * n) (setAt x at n)) (sym e)

@@ -4,20 +4,19 @@ use mathlib.Core.List.{List}
 use Prim.Native.Nat.{ℕ, zero, suc, _+_, _-_, _*_, _/_, _%_, _^_, _≤_, _<_}
 use lib.Pow.{pow-add}
 use native.Mathlib.Nat.{pow-suc, mul-comm, mul-assoc, div-div-eq-div-mul}
-use native.Mathlib.Decide.{ℕ-discrete}
 use native.Mathlib.Omega.{arith}
 use mathlib.Core.Bool.{true, false}
 use lib.Arith.{digits-div}
 use lib.Bits.{bitAnd, and-le-l}
 use lib.Dec.{eqb}
 use lib.ListN.{length, getD, set}
-use Rattle.concepts.specs.RowSet.{union, minus, single}
+use Rattle.concepts.specs.RowSet.{union, minus}
 use Rattle.concepts.specs.RowSetLaws.{union-lt}
 use Rattle.words.specs.Words.{leAt, putLe}
 use Rattle.words.specs.WordLaws.{length-putLe, leAt-putLe}
-use Rattle.rowset.specs.Joined.{joined, Fit, place, lowWord, wordAt, setAt, putWords, maskAt}
-use Rattle.rowset.specs.JoinedLaws.{joined-union, joined-minus, joined-without, joined-none, joined-true, joined-false, place-64}
-use Rattle.rowset.specs.ByteLaws.{Bytes, leAt-lt, set-words, word-fits, word-written, word-kept}
+use Rattle.rowset.specs.Joined.{joined, Fit, lowWord, wordAt, setAt, putWords, maskAt}
+use Rattle.rowset.specs.JoinedLaws.{joined-union, joined-minus, joined-none, joined-true, joined-false}
+use Rattle.rowset.specs.ByteLaws.{Bytes, leAt-lt, set-words, word-fits, word-kept}
 
 -- the low m bytes and the n above them
 pub putLe-add : (b : List ℕ) (at m n v : ℕ) → putLe b at (m + n) v ≡ putLe (putLe b at m v) (at + m) n (v / 256 ^ m)
@@ -189,22 +188,3 @@ put-low b at w zero h some = absurd (omega arith)
 put-low b at w (suc n) h some =
     put-words (suc n) b at (lowWord w) (low-fits w h)
     ∙ ap (putLe b at (8 * suc n)) (omega (arith, joined-none 64 (λ (j : ℕ). lowWord w (suc j)) n (λ j l. refl)))
-
--- row k leaves the set by its word
-pub set-remove : (b : List ℕ) → Bytes b → (at k n v : ℕ) → k < 64 * n → at + 8 * (k / 64) + 8 ≤ length b → v ≡ minus (wordAt b at (k / 64)) (single (k % 64))
-    → setAt (putLe b (at + 8 * (k / 64)) 8 v) at n ≡ minus (setAt b at n) (single k)
-unfolding minus
-set-remove b h at k n v l room e =
-    let j : ℕ = k / 64 in
-    let i : ℕ = k % 64 in
-    let c : List ℕ = putLe b (at + 8 * j) 8 v in
-    let q : place 64 j i ≡ k = place-64 j i ∙ omega arith in
-    let small : v < 256 ^ 8 = omega (arith, word-fits b h at j) in
-    let here : wordAt c at j ≡ v = word-written b at j v room small in
-    let fits : Fit 64 (wordAt c at) = λ m. elim (ℕ-discrete m j) [
-      | yes s ↦ rw s (rw here small)
-      | no d ↦ rw (word-kept b at j v room m d) (word-fits b h at m)
-    ] in
-    set-words c n at
-    ∙ joined-without 64 (wordAt b at) (wordAt c at) (word-fits b h at) fits n j i (omega arith) (omega arith) (here ∙ e) (λ m d. word-kept b at j v room m d)
-    ∙ ap₂ (λ (s x : ℕ). minus s (single x)) (sym (set-words b n at)) q
