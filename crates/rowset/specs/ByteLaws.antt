@@ -15,7 +15,7 @@ use Rattle.words.specs.WordLaws.{leAt-add, leAt-same, leAt-putLe, below-putLe, 
 use Rattle.words.specs.Sizes.{setSize}
 use Rattle.rowset.specs.Widths.{setOf}
 use Rattle.rowset.specs.Joined.{joined, Fit, place, wordAt, setAt, maskAt}
-use Rattle.rowset.specs.JoinedLaws.{mem-joined, joined-same, joined-apart, joined-insert, joined-true, joined-false, place-64}
+use Rattle.rowset.specs.JoinedLaws.{mem-joined, joined-same, joined-apart, joined-insert, joined-true, joined-false, place-row}
 
 -- every element is a byte
 abbrev pub Bytes : List ℕ → Type 0
@@ -67,7 +67,7 @@ pub set-insert : (b : List ℕ) → Bytes b → (at k n v : ℕ) → k < 64 * n 
 set-insert b h at k n v l room fits e =
     let j : ℕ = k / 64 in
     let i : ℕ = k % 64 in
-    let q : place 64 j i ≡ k = place-64 j i ∙ omega arith in
+    let q : place 64 j i ≡ k = place-row 64 j i ∙ omega arith in
     set-words (putLe b (at + 8 * j) 8 v) n at
     ∙ joined-insert 64 (wordAt b at) (wordAt (putLe b (at + 8 * j) 8 v) at) (word-fits b h at) n j i (omega arith) (omega arith)
     (word-written b at j v room fits ∙ e) (λ m d. word-kept b at j v room m d)
@@ -77,7 +77,7 @@ pub set-mem : (b : List ℕ) → Bytes b → (at k n : ℕ) → k < 64 * n → m
 set-mem b h at k n l =
     let j : ℕ = k / 64 in
     let i : ℕ = k % 64 in
-    let q : place 64 j i ≡ k = place-64 j i ∙ omega arith in
+    let q : place 64 j i ≡ k = place-row 64 j i ∙ omega arith in
     ap₂ mem (sym q) (set-words b n at) ∙ mem-joined 64 (wordAt b at) (word-fits b h at) n j i (omega arith) (omega arith)
 
 -- ---- tests that go from word to word

@@ -48,6 +48,11 @@ by-part P p lo hi k = elim (ℕ-discrete (suc k - p) 0) [
 next : (p : ℕ) (f : ℕ → ℕ) → Fit p f → Fit p (λ (j : ℕ). f (suc j))
 next p f h j = h (suc j)
 
+pub place-row : (p j i : ℕ) → place p j i ≡ p * j + i
+unfolding place
+place-row p zero i = omega arith
+place-row p (suc j) i = ap (λ (x : ℕ). p + x) (place-row p j i) ∙ omega arith
+
 -- row i of word j is the row at that place
 pub mem-joined : (p : ℕ) (f : ℕ → ℕ) → Fit p f → (n j i : ℕ) → j < n → i < p → mem (place p j i) (joined p f n) ≡ mem i (f j)
 unfolding joined place
@@ -198,12 +203,6 @@ joined-lowest p f ff n j i l b z low = record { member = mem-joined p f ff n j i
         (λ k h.
         mem-high p k (joined p (λ (j : ℕ). f (suc j)) n) (f 0) (ff 0)
         ∙ below (λ (j : ℕ). f (suc j)) (next p f ff) n j (omega arith) (λ m c. z (suc m) (omega arith)) low k (omega arith)) k h
-
--- the rows of words that are all below a row's word are below it
-pub place-64 : (j i : ℕ) → place 64 j i ≡ 64 * j + i
-unfolding place
-place-64 zero i = omega arith
-place-64 (suc j) i = ap (λ (x : ℕ). 64 + x) (place-64 j i) ∙ omega arith
 
 -- ---- tests that go from word to word
 

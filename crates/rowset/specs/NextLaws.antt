@@ -16,7 +16,7 @@ use Rattle.concepts.specs.RowSetLaws.{mem-empty}
 use Rattle.concepts.specs.Lowest.{Lowest, Above}
 use Rattle.rowset.specs.declared.Next.the-variants.{At, End}
 use Rattle.rowset.specs.Joined.{joined, Fit, place, wordAt, setAt, maskAt, IsNext}
-use Rattle.rowset.specs.JoinedLaws.{mem-high, mem-joined, joined-common, joined-insert, joined-true, joined-false, place-64}
+use Rattle.rowset.specs.JoinedLaws.{mem-high, mem-joined, joined-common, joined-insert, joined-true, joined-false, place-row}
 use Rattle.rowset.specs.ByteLaws.{Bytes, word-fits, set-words}
 
 -- every element is a word
@@ -37,7 +37,7 @@ unfolding maskAt
 mask-insert ws h at k n v l room e =
     let j : ℕ = k / 64 in
     let i : ℕ = k % 64 in
-    let q : place 64 j i ≡ k = place-64 j i ∙ omega arith in
+    let q : place 64 j i ≡ k = place-row 64 j i ∙ omega arith in
     joined-insert 64 (λ (m : ℕ). getD ws (at + m) 0) (λ (m : ℕ). getD (set ws (at + j) v) (at + m) 0) (λ m. h (at + m)) n j i (omega arith) (omega arith)
     (getD-set-same ws (at + j) v 0 room ∙ e) (λ m d. getD-set-other ws (at + j) (at + m) v 0 (λ z. d (omega arith)))
     ∙ ap (λ (x : ℕ). insert x (joined 64 (λ (m : ℕ). getD ws (at + m) 0) n)) q
@@ -70,7 +70,7 @@ picked-all b at ws mask n h w =
 
 module _ (f : ℕ → ℕ) (fits : Fit 64 f) (n from : ℕ) where
   pub row-of : (j i : ℕ) → j < n → i < 64 → mem (64 * j + i) (joined 64 f n) ≡ mem i (f j)
-  row-of j i l b = ap (λ (x : ℕ). mem x (joined 64 f n)) (sym (place-64 j i)) ∙ mem-joined 64 f fits n j i l b
+  row-of j i l b = ap (λ (x : ℕ). mem x (joined 64 f n)) (sym (place-row 64 j i)) ∙ mem-joined 64 f fits n j i l b
 
 -- no row is beyond the words
 pub joined-beyond : (n : ℕ) (f : ℕ → ℕ) → Fit 64 f → (k : ℕ) → 64 * n ≤ k → mem k (joined 64 f n) ≡ false
