@@ -5,7 +5,7 @@
 use mathlib.Core.Path.{_≡_, refl, sym, ap, ap₂, _∙_}
 use mathlib.Core.Bool.{Bool, true, false, not, _&&_, _||_}
 use mathlib.Core.List.{List}
-use Prim.Native.Nat.{ℕ, _+_, _*_, _/_, _%_, _≤_, _<_}
+use Prim.Native.Nat.{ℕ, _+_, _*_, _/_, _%_, _<_}
 use native.Mathlib.Decide.{decLt}
 use native.Mathlib.Omega.{arith}
 use lib.Dec.{T, eqb, ltb, leb→le, ltb→lt, not-T}
@@ -14,7 +14,7 @@ use borrow.Author.Tests.{eqb-true, ltb-true, lt-ltb, le-ltb}
 use Rattle.concepts.specs.Tests.{and-true, and-both, and-nothing, and-all, or-nothing, as-false}
 use Rattle.concepts.specs.Concept.{Concept, atomic, negated, conj, disj, univ, exist, inclusion, neg, impl, Table, conceptAt}
 use Rattle.concepts.specs.RowSet.{RowSet, mem, empty, single, union, minus, insert}
-use Rattle.concepts.specs.RowSetLaws.{mem-empty, mem-insert, mem-single, mem-minus, mem-union, mem-selected, mem-lt, set-lt, set-ext}
+use Rattle.concepts.specs.RowSetLaws.{mem-empty, mem-insert, mem-single, mem-minus, mem-union, mem-lt, set-lt, set-ext}
 use Rattle.concepts.specs.Lowest.{Lowest, Rest}
 use Rattle.words.specs.Words.{putLe}
 use Rattle.words.specs.Sizes.{setWords, setSize}

@@ -60,10 +60,12 @@ picked b at ws mask j = bitAnd (wordAt b at j) (getD ws (mask + j) 0)
 pub picked-fits : (b : List ℕ) (at : ℕ) (ws : List ℕ) (mask : ℕ) → Bytes b → Fit 64 (picked b at ws mask)
 picked-fits b at ws mask h j = omega (arith, word-fits b h at j, and-le-l (wordAt b at j) (getD ws (mask + j) 0))
 
-pub picked-all : (b : List ℕ) (at : ℕ) (ws : List ℕ) (mask n : ℕ) → Bytes b → Words ws → joined 64 (picked b at ws mask) n ≡ common (setAt b at n) (maskAt ws mask n)
+pub picked-all : (b : List ℕ) (at : ℕ) (ws : List ℕ) (mask n : ℕ) → Bytes b → Words ws
+    → joined 64 (picked b at ws mask) n ≡ common (setAt b at n) (maskAt ws mask n)
 unfolding maskAt common
 picked-all b at ws mask n h w =
-    joined-common 64 (wordAt b at) (λ (j : ℕ). getD ws (mask + j) 0) (picked b at ws mask) (word-fits b h at) (λ j. w (mask + j)) (picked-fits b at ws mask h) (λ j. refl) n
+    joined-common 64 (wordAt b at) (λ (j : ℕ). getD ws (mask + j) 0) (picked b at ws mask) (word-fits b h at) (λ j. w (mask + j)) (picked-fits b at ws mask h)
+    (λ j. refl) n
     ∙ ap (λ (x : ℕ). common x (maskAt ws mask n)) (sym (set-words b n at))
 
 -- ---- from word to word
