@@ -2,10 +2,9 @@
 --
 -- In order: the rows of the names; the names; the same rows, whatever is wanted; an entry; a row of entries; all rows; how far a loop has come.
 -- Laws are in NameCases, EntryCases, FillCases and ListedLaws.
--- Assumes nothing.
 use mathlib.Core.Path.{_≡_}
 use mathlib.Core.Bool.{cond}
-use mathlib.Core.List.{List, [], _∷_, map, List·Memᴰ}
+use mathlib.Core.List.{List, [], _∷_, map}
 use mathlib.Core.Option.{Option, none, some}
 use Prim.Native.Nat.{ℕ, _+_, _*_, _≤_, _<_}
 use lib.Dec.{eqb}

@@ -1,7 +1,6 @@
 -- The ways through the loops that write entries, on plain values.
 --
 -- In order: words of the same rows; areas that are written piece by piece; a row, entry by entry; all rows.
--- Assumes nothing.
 use mathlib.Core.Path.{_≡_, refl, sym, ap, ap₂, _∙_}
 use mathlib.Core.List.{List, [], _∷_, _++_, map, append-nil, append-assoc}
 use Prim.Native.Nat.{ℕ, suc, _+_, _-_, _*_, _≤_, _<_}
@@ -75,7 +74,8 @@ overwrite-piece xs ys area {at} e h =
 -- the end of an area, lent and given back
 put-back : (area end : List ℕ) {at : ℕ} → at ≤ length area → putMid at (length area - at) area end ≡ take at area ++ end
 put-back area end {at} h =
-    ap (λ (l : List ℕ). take at area ++ (end ++ l)) (post-is at (length area) area h ∙ drop-length area) ∙ ap (λ (l : List ℕ). take at area ++ l) (append-nil end)
+    ap (λ (l : List ℕ). take at area ++ (end ++ l)) (post-is at (length area) area h ∙ drop-length area)
+    ∙ ap (λ (l : List ℕ). take at area ++ l) (append-nil end)
 
 -- a byte more
 overwrite-byte : (xs area : List ℕ) (x : ℕ) {at : ℕ} {area′ : List ℕ} → at ≡ length xs → at < length area → area′ ≡ overwrite xs area
@@ -166,10 +166,12 @@ module _ {ws positives negatives table : List ℕ} (A : FillAsks ws positives ne
   unfolding rowAfterRow
   fill-none = written-none (A .decoded) refl
 
-  module _ (i : ℕ) {ws′ : List ℕ} {w′ : Work} {table′ : List ℕ} (L : Written (tableUpTo ws w positives negatives) (length positives) ws w table i ws′ w′ table′) where
+  module _ (i : ℕ) {ws′ : List ℕ} {w′ : Work} {table′ : List ℕ}
+      (L : Written (tableUpTo ws w positives negatives) (length positives) ws w table i ws′ w′ table′) where
     table-length : i * length negatives ≡ length (entries i)
     table-length =
-        sym (length-rowAfterRow (ranEntry ws (capacityOf w)) (take i positives) negatives ∙ ap (λ (n : ℕ). n * length negatives) (length-take-le i positives (L .within)))
+        sym (length-rowAfterRow (ranEntry ws (capacityOf w)) (take i positives) negatives
+        ∙ ap (λ (n : ℕ). n * length negatives) (length-take-le i positives (L .within)))
 
     table-within : i * length negatives ≤ length table
     table-within = omega (arith, mul-le-mul-right (length negatives) (L .within), A .room)
@@ -203,14 +205,16 @@ module _ {ws positives negatives table : List ℕ} (A : FillAsks ws positives ne
 
     pub fill-more : i < length positives → {ws″ : List ℕ} {w″ : Work} {row : List ℕ}
         → RowGives ws′ (capacityOf w′) (getD positives i 0) negatives behind ws″ row → length ws″ ≡ length ws′ → Sized w′ w″
-        → Written (tableUpTo ws w positives negatives) (length positives) ws w table (i + 1) ws″ w″ (putMid (i * length negatives) (length table′ - i * length negatives) table′ row)
+        → Written (tableUpTo ws w positives negatives) (length positives) ws w table (i + 1) ws″ w″
+        (putMid (i * length negatives) (length table′ - i * length negatives) table′ row)
     fill-more h {row = row} G words Z =
         let f = ranEntry ws (capacityOf w) in
         let p = getD positives i 0 in
         let is : row ≡ overwrite (map (f p) negatives) (drop (i * length negatives) table′) =
         G .row-is ∙ (λ j. overwrite (map (same-entries (L .same) (L .sized) j p) negatives) (behind-is j)) in
         written-more L h (G .same) words Z
-        (put-back table′ row row-start ∙ ap (λ (b : List ℕ). take (i * length negatives) table′ ++ b) is ∙ overwrite-piece (entries i) (map (f p) negatives) table table-length (L .here)
+        (put-back table′ row row-start ∙ ap (λ (b : List ℕ). take (i * length negatives) table′ ++ b) is
+        ∙ overwrite-piece (entries i) (map (f p) negatives) table table-length (L .here)
         ∙ ap (λ (xs : List ℕ). overwrite xs table) (sym (rows-more h)))
       where
         rows-more : i < length positives → entries (i + 1) ≡ entries i ++ map (ranEntry ws (capacityOf w) (getD positives i 0)) negatives

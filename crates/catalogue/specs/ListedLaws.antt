@@ -1,7 +1,6 @@
 -- What the listed names give to whoever fills their table.
 --
 -- In order: their rows may be wanted, so that the table can be filled (`listed-fill`); its entries by name (`listed-table`).
--- Assumes nothing.
 use mathlib.Core.Path.{_≡_, sym, ap, _∙_}
 use mathlib.Core.List.{List}
 use Prim.Native.Nat.{ℕ, _*_, _≤_}
@@ -51,7 +50,8 @@ module _ (ws : List ℕ) {l : Listed} (L : Lists (tableOf ws) (names (tableOf ws
     room = rw (positives-count L, negatives-count L) h;
   }
 
-  pub listed-table : {c : Capacity} {table ws′ table′ : List ℕ} → FillGives ws c (take (l .count) (l .positives)) (take (l .count) (l .negatives)) table ws′ table′
+  pub listed-table : {c : Capacity} {table ws′ table′ : List ℕ}
+      → FillGives ws c (take (l .count) (l .positives)) (take (l .count) (l .negatives)) table ws′ table′
       → table′ ≡ overwrite (rowAfterRow (λ a b. ranEntry ws c (positive t a) (negative t b)) (names t) (names t)) table
   listed-table {c} {table} G =
       G .table-is ∙ (λ i. overwrite (rowAfterRow (ranEntry ws c) (L .positives-are i) (L .negatives-are i)) table)

@@ -54,7 +54,8 @@ places-none ws kind {n} e = record {
   all = length-replicate 64 n;
   rows = λ a h.
       let p = ofName (nameOf kind) a in
-      let past : placeOf p (drop n (tableOf ws)) ≡ 0 = ap (placeOf p) (drop-of-length-le (tableOf ws) {i = n} (omega (arith, length-tableOf ws))) ∙ placeOf-none p in
+      let past : placeOf p (drop n (tableOf ws)) ≡ 0 =
+      ap (placeOf p) (drop-of-length-le (tableOf ws) {i = n} (omega (arith, length-tableOf ws))) ∙ placeOf-none p in
       getD-replicate 64 a n 0 h ∙ omega arith;
 }
 
@@ -96,7 +97,9 @@ module _ {ws : List ℕ} (ok : Decoded ws) {kind : ℕ} (k : ℕ) {places : List
   place-other d = record {
     within = omega (arith, P .within);
     all = P .all;
-    rows = λ a h. passed-over a h (named-by kind a (conceptAt t k) ∙ ap (λ (x : Bool). x && eqb a (leftOf (conceptAt t k))) (ne-eqb (kindOf (conceptAt t k)) kind d));
+    rows =
+        λ a h. passed-over a h (named-by kind a (conceptAt t k)
+        ∙ ap (λ (x : Bool). x && eqb a (leftOf (conceptAt t k))) (ne-eqb (kindOf (conceptAt t k)) kind d));
   }
 
   -- a row of the kind is put down for its name
@@ -129,7 +132,8 @@ unfolding select
 length-select f [] = omega arith
 length-select f (x ∷ xs) = go (f x) (length-select f xs)
   where
-    go : (b : Bool) → length (select f xs) ≤ length xs → length {A = ℕ} (elim b as (λ _. List ℕ) [ true ↦ x ∷ select f xs | false ↦ select f xs ]) ≤ suc (length xs)
+    go : (b : Bool) → length (select f xs) ≤ length xs
+        → length {A = ℕ} (elim b as (λ _. List ℕ) [ true ↦ x ∷ select f xs | false ↦ select f xs ]) ≤ suc (length xs)
     go true h = omega arith
     go false h = omega arith
 
@@ -137,7 +141,8 @@ fromList-snoc : (ks : List ℕ) (k : ℕ) → fromList (ks ++ k ∷ []) ≡ inse
 unfolding fromList
 fromList-snoc [] k = refl
 fromList-snoc (j ∷ ks) k =
-    ap (insert j) (fromList-snoc ks k) ∙ sym (union-assoc (single j) (single k) (fromList ks)) ∙ ap (λ (x : RowSet). union x (fromList ks)) (union-comm (single j) (single k))
+    ap (insert j) (fromList-snoc ks k) ∙ sym (union-assoc (single j) (single k) (fromList ks))
+    ∙ ap (λ (x : RowSet). union x (fromList ks)) (union-comm (single j) (single k))
     ∙ union-assoc (single k) (single j) (fromList ks)
 
 module _ (t : Table) (a : ℕ) where
@@ -146,7 +151,8 @@ module _ (t : Table) (a : ℕ) where
 
   below-next : namesBelow t (a + 1) ≡ namesBelow t a ++ select (hasBoth t) (a ∷ [])
   below-next =
-      let more : range 0 (a + 1) ≡ range 0 a ++ a ∷ [] = sym (map-id (range 0 (a + 1))) ∙ range-more (λ x. x) a ∙ ap (λ (l : List ℕ). l ++ a ∷ []) (map-id (range 0 a)) in
+      let more : range 0 (a + 1) ≡ range 0 a ++ a ∷ [] =
+      sym (map-id (range 0 (a + 1))) ∙ range-more (λ x. x) a ∙ ap (λ (l : List ℕ). l ++ a ∷ []) (map-id (range 0 a)) in
       ap (select (hasBoth t)) more ∙ select-append (hasBoth t) (range 0 a) (a ∷ [])
 
   below-in : hasBoth t a ≡ true → namesBelow t (a + 1) ≡ namesBelow t a ++ a ∷ []
@@ -182,27 +188,34 @@ module _ {ws : List ℕ} {a p n : ℕ} {l : Listed} (A : NameAsks ws a p n l) wh
 
   pub name-no-positive : {m : ℕ} → m ≡ countOf ws → m ≤ p → Lists table (namesBelow table (a + 1)) l
   name-no-positive e h =
-      passed (ap (λ (x : Bool). x && ltb (negative table a) (length table)) (le-ltb (positive table a) (length table) (omega (arith, A .positive-is, length-tableOf ws))))
+      passed (ap (λ (x : Bool). x && ltb (negative table a) (length table))
+      (le-ltb (positive table a) (length table) (omega (arith, A .positive-is, length-tableOf ws))))
 
   pub name-no-negative : {m : ℕ} → m ≡ countOf ws → m ≤ n → Lists table (namesBelow table (a + 1)) l
   name-no-negative e h =
-      passed (ap (λ (x : Bool). ltb (positive table a) (length table) && x) (le-ltb (negative table a) (length table) (omega (arith, A .negative-is, length-tableOf ws)))
+      passed (ap (λ (x : Bool). ltb (positive table a) (length table) && x)
+      (le-ltb (negative table a) (length table) (omega (arith, A .negative-is, length-tableOf ws)))
       ∙ and-nothing (ltb (positive table a) (length table)))
 
   -- with both it is listed
   pub name-listed : {m : ℕ} → m ≡ countOf ws → p < m → n < m → {l′ : Listed}
-      → l′ .names ≡ insert a (l .names) → l′ .count ≡ l .count + 1 → l′ .positives ≡ set (l .positives) (l .count) p → l′ .negatives ≡ set (l .negatives) (l .count) n
+      → l′ .names ≡ insert a (l .names) → l′ .count ≡ l .count + 1 → l′ .positives ≡ set (l .positives) (l .count) p
+      → l′ .negatives ≡ set (l .negatives) (l .count) n
       → Lists table (namesBelow table (a + 1)) l′
   name-listed {m} e hp hn {l′} bits counts ps ns =
       let both : hasBoth table a ≡ true =
-      ap (λ (x : Bool). x && ltb (negative table a) (length table)) (lt-ltb (positive table a) (length table) (omega (arith, A .positive-is, length-tableOf ws)))
+      ap (λ (x : Bool). x && ltb (negative table a) (length table))
+      (lt-ltb (positive table a) (length table) (omega (arith, A .positive-is, length-tableOf ws)))
       ∙ lt-ltb (negative table a) (length table) (omega (arith, A .negative-is, length-tableOf ws)) in
       subst (λ (xs : List ℕ). Lists table xs l′) (sym (below-in table a both))
       (record {
         names-are = bits ∙ ap (insert a) (A .lists .names-are) ∙ sym (fromList-snoc (namesBelow table a) a);
         count-is = simp length-append (omega (arith, A .lists .count-is));
         few = omega (arith, name-room);
-        longs = (ap length ps ∙ length-set (l .positives) (l .count) p ∙ A .lists .longs .0, ap length ns ∙ length-set (l .negatives) (l .count) n ∙ A .lists .longs .1);
+        longs = (
+          ap length ps ∙ length-set (l .positives) (l .count) p ∙ A .lists .longs .0,
+          ap length ns ∙ length-set (l .negatives) (l .count) n ∙ A .lists .longs .1,
+        );
         positives-are = row-more (positive table) (l .positives) counts ps (A .lists .longs .0) (A .lists .positives-are) (A .positive-is);
         negatives-are = row-more (negative table) (l .negatives) counts ns (A .lists .longs .1) (A .lists .negatives-are) (A .negative-is);
       })

@@ -59,7 +59,8 @@ fn entry(
     alternatives: &mut [u8],
 ) -> u8
     requires { ⌜ EntryAsks (now problem) positive negative ⌝ }
-    ensures { λ r. ⌜ EntryGives (now (problem .entry)) (capacityOf (work (now (nodes .entry)) (now (edges .entry)) (now (alternatives .entry)))) positive negative
+    ensures { λ r. ⌜ EntryGives (now (problem .entry))
+        (capacityOf (work (now (nodes .entry)) (now (edges .entry)) (now (alternatives .entry)))) positive negative
         r (now (problem .exit)) ⌝ }
 {
     let both = [positive, negative];
@@ -82,7 +83,8 @@ fn fill_row(
     row: &mut [u8],
 )
     requires { ⌜ RowAsks (now problem) positive (now negatives) (now row) ⌝ }
-    ensures { λ _. ⌜ RowGives (now (problem .entry)) (capacityOf (work (now (nodes .entry)) (now (edges .entry)) (now (alternatives .entry)))) positive (now (negatives .entry))
+    ensures { λ _. ⌜ RowGives (now (problem .entry)) (capacityOf (work (now (nodes .entry)) (now (edges .entry)) (now (alternatives .entry)))) positive
+        (now (negatives .entry))
         (now (row .entry)) (now (problem .exit)) (now (row .exit)) ⌝ }
 {
     let mut j: usize = 0;

@@ -15,7 +15,7 @@ use Rattle.problem.specs.Decoded.{problemOf, Decoded}
 use Rattle.problem.specs.DecodedLaws.{decoded-posed}
 use Rattle.records.specs.Areas.{Bytes, Fits}
 use Rattle.records.specs.Codes.{statusOf}
-use Rattle.records.specs.Records.{nodeIn, IsNode}
+use Rattle.records.specs.Records.{IsNode}
 use Rattle.records.specs.declared.Node as D
 use Rattle.graph.specs.Graphs.{Work, work, graphOf, capacityOf}
 use Rattle.graph.specs.GraphLaws.{held-node, count-nodes, graph-node}

@@ -55,11 +55,14 @@ module _ {draft before : Bytes} {r : Numbers} {after : Bytes} (P : Promise draft
       let (within, outputIs) = go (conversion draft (length before)) (conversion-sound draft (length before)) (P .numbersAre) (P .areaIs) in
       record { within = within; outputIs = outputIs ∙ ap (λ (m : ℕ). outputOf (conversion draft m)) room }
     where
-      go : (k : Conversion) → Sound (length before) k → r ≡ numbers k → after ≡ areaAfter k before → (r .length ≤ length after) × (take (r .length) after ≡ outputOf k)
+      go : (k : Conversion) → Sound (length before) k → r ≡ numbers k → after ≡ areaAfter k before
+          → (r .length ≤ length after) × (take (r .length) after ≡ outputOf k)
       go (refusedWith n) s e a = let z : r .refusal ≡ n = ap (λ (x : Numbers). x .refusal) e in absurd (omega arith)
       go (written b) s e a =
-          let l : r .length ≡ length b = ap (λ (x : Numbers). x .length) e in
-          (omega (arith, ap length a ∙ length-append b (drop (length b) before)), ap (take (r .length)) a ∙ take-at b (drop (length b) before) (r .length) (sym l))
+          let l : r .length ≡ length b = ap (λ (x : Numbers). x .length) e in (
+            omega (arith, ap length a ∙ length-append b (drop (length b) before)),
+            ap (take (r .length)) a ∙ take-at b (drop (length b) before) (r .length) (sym l),
+          )
 
   -- ---- a refusal is written
 

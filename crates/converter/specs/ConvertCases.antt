@@ -96,9 +96,14 @@ module _ {b : Bytes} {l : Layout} (L : Laid draftKinds b l) where
     unfolding normalized
     rules-full G =
         let long : mostRows < length (rulePlaces .rows) = rw rules-put at (G .got) in
-        omega (arith, begins-length (rulePlaces .rows) (kitPlaces .rows) (putList-grown (tableOf b) (draft-ordered laid-draft) (wantedRows b) (rulePlaces .rows) .more))
+        omega (
+          arith,
+          begins-length (rulePlaces .rows) (kitPlaces .rows)
+              (putList-grown (tableOf b) (draft-ordered laid-draft) (wantedRows b) (rulePlaces .rows) .more),
+        )
 
-    module _ {memo′ ws′ places′ : List ℕ} {n : ℕ} (G : ListGives b list ws n₀ memo′ ws′ places places′ (Rows n)) {kit : List ℕ} (is-kit : kit ≡ wantedRows b) where
+    module _ {memo′ ws′ places′ : List ℕ} {n : ℕ} (G : ListGives b list ws n₀ memo′ ws′ places places′ (Rows n)) {kit : List ℕ}
+        (is-kit : kit ≡ wantedRows b) where
       pub kit-asks : ListAsks b kit memo′ ws′ n (0 ∷ [])
       kit-asks = record {
         draft = laid-draft;
@@ -117,18 +122,21 @@ module _ {b : Bytes} {l : Layout} (L : Laid draftKinds b l) where
       kit-full F = rw kit-put at (F .got)
 
       -- ---- all rows are known
-      pub finish-asks : {memo″ ws″ wanted′ : List ℕ} {m : ℕ} → ListGives b kit ws′ n memo″ ws″ (0 ∷ []) wanted′ (Rows m) → FinishAsks b l ws″ m places′ (getD wanted′ 0 0)
+      pub finish-asks : {memo″ ws″ wanted′ : List ℕ} {m : ℕ} → ListGives b kit ws′ n memo″ ws″ (0 ∷ []) wanted′ (Rows m)
+          → FinishAsks b l ws″ m places′ (getD wanted′ 0 0)
       unfolding normalized
       finish-asks {wanted′ = wanted′} F =
           let P = laid-placed L in
-          let count : l .rules ≡ length list = omega (arith, ap (λ (x : Layout). x .rules) (P .layout), ap length is-rules, length-map-range (rule b) 0 (ruleCount b)) in
+          let count : l .rules ≡ length list =
+          omega (arith, ap (λ (x : Layout). x .rules) (P .layout), ap length is-rules, length-map-range (rule b) 0 (ruleCount b)) in
           record {
             laid = L;
             held = F .got .held;
             rows = F .got .rows ∙ ap (λ (q : PutList). q .rows) kit-put;
             listed = omega (arith, G .placeSize, ap length is-rules, laid-admitted .fewRules);
             tbox = ap (λ (k : ℕ). take k places′) count ∙ G .got .told ∙ ap (λ (q : PutList). q .places) rules-put;
-            kit = first-only wanted′ (F .placeSize) ∙ ap (λ (ks : List ℕ). take (length ks) wanted′) (sym is-kit) ∙ F .got .told ∙ ap (λ (q : PutList). q .places) kit-put;
+            kit = first-only wanted′ (F .placeSize) ∙ ap (λ (ks : List ℕ). take (length ks) wanted′) (sym is-kit) ∙ F .got .told
+                ∙ ap (λ (q : PutList). q .places) kit-put;
           }
         where
           first-only : (xs : List ℕ) → length xs ≡ 1 → getD xs 0 0 ∷ [] ≡ take 1 xs
@@ -227,7 +235,8 @@ module _ {b : Bytes} {l : Layout} {ws : List ℕ} {n : ℕ} {list : List ℕ} {w
         → Converts b before (record { refusal = 0; length = size }) after
     unfolding writtenOr numbers areaAfter
     finish-written {after} w =
-        let fits : conversion b (length before) ≡ written (fileBytes f) = conversion-laid (A .laid) (length before) ∙ rw (tests (length before) size (e ∙ result-size), h) in
+        let fits : conversion b (length before) ≡ written (fileBytes f) =
+        conversion-laid (A .laid) (length before) ∙ rw (tests (length before) size (e ∙ result-size), h) in
         record {
           numbersAre = ap (λ (k : ℕ). record { refusal = 0; length = k }) (e ∙ result-size) ∙ ap numbers (sym fits);
           areaIs = w ∙ ap (λ (x : Bytes). overwrite x before) parts-are ∙ ap (λ (c : Conversion). areaAfter c before) (sym fits);

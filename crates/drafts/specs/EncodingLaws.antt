@@ -22,7 +22,8 @@ use Rattle.concepts.specs.ListLaws.{getD-mem, map-range-whole, any-none, any-ra
 use Rattle.concepts.specs.Concept.{atomic, Table, conceptAt, arguments, isInclusion, NoInclusion, asArgument, asRule, asWanted}
 use Rattle.decoding.specs.Decoding.{ruleKinds, decode, malformed, conceptOf}
 use Rattle.decoding.specs.RowPartLaws.{row-parts, decode-own}
-use Rattle.rulefile.specs.Format.{Bytes, trailerByte, firstRow, rowCount, ruleCount, wantedRow, wantedRows, rowByte, rule, conceptIn, RuleFile, contents, accepted, reading}
+use Rattle.rulefile.specs.Format.{Bytes, trailerByte, firstRow, rowCount, ruleCount, wantedRow, wantedRows, rowByte}
+use Rattle.rulefile.specs.Format.{rule, conceptIn, RuleFile, contents, accepted, reading}
 use Rattle.rulefile.specs.Format.{mostRows, mostRules, badLength, badMark, badCounts, badPlace, badRow, badArgument}
 use Rattle.rulefile.specs.Format.{someRow, sameRow, repeated, badRule, inclusionAt, inclusionNamed, inclusionServes, checks}
 use Rattle.rulefile.specs.Checks.{refusesAt, PassedAll}
@@ -104,7 +105,8 @@ module _ (f : RuleFile) where
   rowByte-fileBytes : (k i : ℕ) → k < length (f .table) → i < 4 → rowByte (fileBytes f) k i ≡ getD (rowBytes (conceptAt (f .table) k)) i 0
   unfolding fileBytes
   rowByte-fileBytes k i h l =
-      getD-past (f .text) (tableBytes (f .table) ++ (f .tbox ++ trailer f)) 0 (firstRow (fileBytes f) + 4 * k + i) (4 * k + i) (omega (arith, firstRow-fileBytes))
+      getD-past (f .text) (tableBytes (f .table) ++ (f .tbox ++ trailer f)) 0 (firstRow (fileBytes f) + 4 * k + i) (4 * k + i)
+      (omega (arith, firstRow-fileBytes))
       ∙ getD-tableBytes (f .table) (f .tbox ++ trailer f) k i h l
 
   -- the four bytes of row k
@@ -122,7 +124,8 @@ module _ (f : RuleFile) where
   unfolding fileBytes
   rule-fileBytes i h =
       let at = firstRow (fileBytes f) + 4 * rowCount (fileBytes f) + i in
-      getD-past (f .text) (tableBytes (f .table) ++ (f .tbox ++ trailer f)) 0 at (4 * length (f .table) + i) (omega (arith, firstRow-fileBytes, rowCount-fileBytes))
+      getD-past (f .text) (tableBytes (f .table) ++ (f .tbox ++ trailer f)) 0 at (4 * length (f .table) + i)
+      (omega (arith, firstRow-fileBytes, rowCount-fileBytes))
       ∙ getD-past (tableBytes (f .table)) (f .tbox ++ trailer f) 0 (4 * length (f .table) + i) i (omega (arith, length-tableBytes (f .table)))
       ∙ List·getD-append (f .tbox) (trailer f) 0 i h
 
@@ -136,7 +139,8 @@ module _ (f : RuleFile) (W : Writable f) where
   -- ---- its rows
 
   decode-fileBytes : (k : ℕ) → k < length (f .table)
-      → decode ruleKinds (rowByte (fileBytes f) k 0) (rowByte (fileBytes f) k 1) (rowByte (fileBytes f) k 2) (rowByte (fileBytes f) k 3) ≡ some (conceptAt (f .table) k)
+      → decode ruleKinds (rowByte (fileBytes f) k 0) (rowByte (fileBytes f) k 1) (rowByte (fileBytes f) k 2) (rowByte (fileBytes f) k 3)
+      ≡ some (conceptAt (f .table) k)
   decode-fileBytes k h = cc (rowBytes-fileBytes f k h, decode-own (conceptAt (f .table) k) (W .sound .normal k) (W .sound .ranged k))
 
   conceptIn-fileBytes : (k : ℕ) → k < length (f .table) → conceptIn ruleKinds (fileBytes f) k ≡ conceptAt (f .table) k
@@ -199,7 +203,8 @@ module _ (f : RuleFile) (W : Writable f) where
   badRule-fileBytes =
       let n = rowCount (fileBytes f) in
       rw (any-range-none (λ i. leb n (rule (fileBytes f) i)) (ruleCount (fileBytes f)) (λ i h. lt-leb n (rule (fileBytes f) i) (rule-lt i h)))
-      (one-fails (λ k. leb n k) (wantedRow (fileBytes f)) (lt-leb n (wantedRow (fileBytes f)) (omega (arith, wanted-lt, rowCount-fileBytes f, wantedRow-fileBytes f))))
+      (one-fails (λ k. leb n k) (wantedRow (fileBytes f))
+      (lt-leb n (wantedRow (fileBytes f)) (omega (arith, wanted-lt, rowCount-fileBytes f, wantedRow-fileBytes f))))
 
   -- what is no inclusion in the table is none by its bytes
   inclusionAt-fileBytes : (k : ℕ) → NoInclusion (f .table) k → inclusionAt (fileBytes f) k ≡ false
@@ -232,7 +237,8 @@ module _ (f : RuleFile) (W : Writable f) where
   unfolding inclusionServes
   inclusionServes-fileBytes =
       rw (someRow-fileBytes (inclusionNamed ruleKinds (fileBytes f)) inclusionNamed-fileBytes)
-      (rw (any-range-none (λ i. inclusionAt (fileBytes f) (rule (fileBytes f) i)) (ruleCount (fileBytes f)) rule-idle) (one-fails (inclusionAt (fileBytes f)) (wantedRow (fileBytes f)) wanted-idle))
+      (rw (any-range-none (λ i. inclusionAt (fileBytes f) (rule (fileBytes f) i)) (ruleCount (fileBytes f)) rule-idle)
+      (one-fails (inclusionAt (fileBytes f)) (wantedRow (fileBytes f)) wanted-idle))
 
   passed-fileBytes : PassedAll ruleKinds (wantedRows (fileBytes f)) (fileBytes f)
   unfolding checks

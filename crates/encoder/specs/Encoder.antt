@@ -1,4 +1,5 @@
--- The bytes of a rule file (01, The rule file: "text, rows, rule list, trailer"), made of its parts, and what the functions that write them ask. Laws are in EncoderLaws.
+-- The bytes of a rule file (01, The rule file: "text, rows, rule list, trailer"), made of its parts, and what the functions that write them ask.
+-- Laws are in EncoderLaws.
 --
 -- In order: a word's bytes, and those of the first words; the trailer; the whole; what the writers ask; how far one has come.
 -- A row comes as a word of 32 bits that holds its four bytes.

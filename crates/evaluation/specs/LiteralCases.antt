@@ -1,11 +1,11 @@
 -- The ways through the functions that take names for rows, on plain values.
 --
--- In order: the words of a set; names from 64 on have no say; a word of a mask; what `named` asks of it, and its loop; a word of the rows of kinds 1 and 2;
+-- In order: names from 64 on have no say; a word of a mask; what `named` asks of it, and its loop; a word of the rows of kinds 1 and 2;
 -- all their words.
 use mathlib.Core.Path.{_≡_, refl, sym, ap, ap₂, _∙_}
 use mathlib.Core.Bool.{Bool, true, false, not, _&&_, _||_}
 use mathlib.Core.List.{List}
-use Prim.Native.Nat.{ℕ, _+_, _*_, _/_, _%_, _≤_, _<_}
+use Prim.Native.Nat.{ℕ, _+_, _*_, _/_, _%_, _<_}
 use native.Mathlib.Decide.{decLt}
 use native.Mathlib.Omega.{arith}
 use lib.Dec.{T, eqb, ltb, leb→le, ltb→lt, not-T}
@@ -14,40 +14,22 @@ use borrow.Author.Tests.{eqb-true, ltb-true, lt-ltb, le-ltb}
 use Rattle.concepts.specs.Tests.{and-true, and-both, and-nothing, and-all, or-nothing, as-false}
 use Rattle.concepts.specs.Concept.{Concept, atomic, negated, conj, disj, univ, exist, inclusion, neg, impl, Table, conceptAt}
 use Rattle.concepts.specs.RowSet.{RowSet, mem, empty, single, union, minus, insert}
-use Rattle.concepts.specs.RowSetLaws.{mem-empty, mem-insert, mem-single, mem-minus, mem-union, mem-selected, mem-lt, set-lt, set-ext}
+use Rattle.concepts.specs.RowSetLaws.{mem-empty, mem-insert, mem-single, mem-minus, mem-union, mem-lt, set-lt, set-ext}
 use Rattle.concepts.specs.Lowest.{Lowest, Rest}
 use Rattle.words.specs.Words.{putLe}
 use Rattle.words.specs.Sizes.{setWords, setSize}
-use Rattle.rowset.specs.Joined.{joined, Fit, wordAt, maskAt, putWords}
+use Rattle.rowset.specs.Joined.{wordAt, maskAt, putWords}
 use Rattle.rowset.specs.ByteLaws.{Bytes, set-mem}
 use Rattle.rowset.specs.WriteLaws.{put-words}
-use Rattle.rowset.specs.NextLaws.{Words, row-of, joined-beyond}
+use Rattle.rowset.specs.NextLaws.{Words, row-of}
+use Rattle.rowset.specs.WordOf.{wordOf, word-fit, mem-words, joined-words}
 use Rattle.rowset.specs.Widths.{width, setOf}
 use Rattle.decoding.specs.RowParts.{kindOf, leftOf, inRange}
 use Rattle.problem.specs.Decoded.{countOf, tableOf, ofKind, Mask, Decoded}
 use Rattle.problem.specs.DecodedLaws.{length-tableOf, word-parts, name-lt}
-use Rattle.evaluation.specs.Steps.{literal, literalRows, wordIn}
+use Rattle.evaluation.specs.Steps.{literal, literalRows}
 use Rattle.evaluation.specs.StepLaws.{mem-literalRows}
 use Rattle.evaluation.specs.Contracts.{isNamed, NamedAsks, Named}
-
--- ---- the words of a set
-
-mem-wordIn : (s : RowSet) (j i : ℕ) → mem i (wordIn s j) ≡ (ltb i 64 && mem (64 * j + i) s)
-unfolding wordIn
-mem-wordIn s j i = mem-selected (λ i. mem (64 * j + i) s) 64 i
-
-wordIn-fits : (s : RowSet) → Fit 64 (wordIn s)
-wordIn-fits s j = set-lt 64 (wordIn s j) (λ i m. ltb→lt i 64 (and-both (ltb i 64) (mem (64 * j + i) s) (rw (mem-wordIn s j i) at m) .0))
-
--- together they are the set, where it has no row beyond
-joined-wordIn : (s : RowSet) (n : ℕ) → ((k : ℕ) → 64 * n ≤ k → mem k s ≡ false) → joined 64 (wordIn s) n ≡ s
-joined-wordIn s n none = set-ext (joined 64 (wordIn s) n) s (λ k. elim (decLt k (64 * n)) [
-  | yes l ↦
-      let e : 64 * (k / 64) + k % 64 ≡ k = omega arith in
-      ap (λ (x : ℕ). mem x (joined 64 (wordIn s) n)) (sym e) ∙ row-of (wordIn s) (wordIn-fits s) n 0 (k / 64) (k % 64) (omega arith) (omega arith)
-      ∙ mem-wordIn s (k / 64) (k % 64) ∙ ap₂ (λ (x : Bool) (y : ℕ). x && mem y s) (lt-ltb (k % 64) 64 (omega arith)) e
-  | no l ↦ joined-beyond n (wordIn s) (wordIn-fits s) k (omega arith) ∙ sym (none k (omega arith))
-])
 
 -- ---- names from 64 on have no say
 
@@ -187,11 +169,11 @@ literal-parts names (impl l r) = refl
 
 pub literals-word : {ws : List ℕ} {a n : ℕ} → Mask ws (ofKind 1) a → Mask ws (ofKind 2) n → Words ws → {j : ℕ} → j < setWords → {names passed failed : ℕ}
     → Named (tableOf ws) j names (getD ws (a + j) 0) passed → Named (tableOf ws) j names (getD ws (n + j) 0) failed
-    → union passed (minus (getD ws (n + j) 0) failed) ≡ wordIn (literalRows (tableOf ws) names) j
+    → union passed (minus (getD ws (n + j) 0) failed) ≡ wordOf (literalRows (tableOf ws) names) j
 literals-word {ws} {a} {n} MA MN words {j} h {names} {passed} {failed} PA PN =
-    set-ext (union passed (minus negatives failed)) (wordIn (literalRows t names) j) (λ i.
+    set-ext (union passed (minus negatives failed)) (wordOf (literalRows t names) j) (λ i.
     mem-union i passed (minus negatives failed) ∙ ap₂ _||_ (first i) (second i) ∙ within (ltb i 64) (ltb (64 * j + i) (length t)) (concept i)
-    ∙ sym (mem-wordIn (literalRows t names) j i ∙ ap (λ (x : Bool). ltb i 64 && x) (mem-literalRows t names (64 * j + i))))
+    ∙ sym (mem-words (literalRows t names) j i ∙ ap (λ (x : Bool). ltb i 64 && x) (mem-literalRows t names (64 * j + i))))
   where
     t : Table
     t = tableOf ws
@@ -223,18 +205,19 @@ literals-word {ws} {a} {n} MA MN words {j} h {names} {passed} {failed} PA PN =
 -- ---- all words
 
 pub literals-written : {ws : List ℕ} → Decoded ws → (b : List ℕ) → Bytes b → (at : ℕ) {names : ℕ} → names ≡ wordAt b at 0
-    → putWords b at (wordIn (literalRows (tableOf ws) names)) setWords ≡ putLe b at setSize (literalRows (tableOf ws) (setOf b at))
+    → putWords b at (wordOf (literalRows (tableOf ws) names)) setWords ≡ putLe b at setSize (literalRows (tableOf ws) (setOf b at))
 literals-written {ws} D b bytes at {names} e =
-    put-words setWords b at (wordIn rows) (wordIn-fits rows)
-    ∙ ap (putLe b at setSize) (joined-wordIn rows setWords beyond ∙ literalRows-low D names (setOf b at) low)
+    put-words setWords b at (wordOf rows) (word-fit rows)
+    ∙ ap (putLe b at setSize) (joined-words setWords rows (set-lt width rows inside) ∙ literalRows-low D names (setOf b at) low)
   where
     rows : RowSet
     rows = literalRows (tableOf ws) names
 
-    beyond : (k : ℕ) → width ≤ k → mem k rows ≡ false
-    beyond k l =
-        mem-literalRows (tableOf ws) names k
-        ∙ ap (λ (x : Bool). x && literal names (conceptAt (tableOf ws) k)) (le-ltb k (length (tableOf ws)) (omega (arith, length-tableOf ws, D .rows .few)))
+    inside : (k : ℕ) → T (mem k rows) → k < width
+    inside k m =
+        let t = tableOf ws in
+        let (below, _) = and-both (ltb k (length t)) (literal names (conceptAt t k)) (rw (mem-literalRows t names k) at m) in
+        omega (arith, ltb→lt k (length t) below, length-tableOf ws, D .rows .few)
 
     low : (a : ℕ) → a < 64 → mem a names ≡ mem a (setOf b at)
     low a l =

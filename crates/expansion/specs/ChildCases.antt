@@ -37,7 +37,8 @@ use Rattle.expansion.specs.PutCases.{P, cap, g, row-fits, Now, now-start
 
 module _ {ws : List ℕ} {w : Work} {c : Counts} {x : ℕ} {A : ExpandAsks ws w c x} {s : RowSet} (v : D.Node) (loaded : nodeAt (graphOf w c) x ≡ nodeOf s v)
     {w′ : Work} {d : Counts} (N : Now A w′ d) (f : RowSet → RowSet)
-    (M : MayPut A (graphOf w′ d) (nodeAt (graphOf w c) x .pst) (nodeAt (graphOf w c) x .prl) (f (nodeAt (graphOf w c) x .rows))) {σ : RowSet} (eσ : σ ≡ f s) where
+    (M : MayPut A (graphOf w′ d) (nodeAt (graphOf w c) x .pst) (nodeAt (graphOf w c) x .prl) (f (nodeAt (graphOf w c) x .rows))) {σ : RowSet}
+    (eσ : σ ≡ f s) where
   abbrev own : Node
   own = nodeAt (graphOf w c) x
 
@@ -48,7 +49,8 @@ module _ {ws : List ℕ} {w : Work} {c : Counts} {x : ℕ} {A : ExpandAsks ws w 
 
   set-given : {r : Step} {w″ : Work} → PutGives ws w′ d x (v .pst) (v .prl) σ r w″ → PutGives ws w′ d x (own .pst) (own .prl) (f (own .rows)) r w″
   set-given {r} {w″} G =
-      subst (λ (u : Node). PutGives ws w′ d x (u .pst) (u .prl) (f (u .rows)) r w″) (sym loaded) (subst (λ (s : RowSet). PutGives ws w′ d x (v .pst) (v .prl) s r w″) eσ G)
+      subst (λ (u : Node). PutGives ws w′ d x (u .pst) (u .prl) (f (u .rows)) r w″) (sym loaded)
+      (subst (λ (s : RowSet). PutGives ws w′ d x (v .pst) (v .prl) s r w″) eσ G)
 
 -- ---- a conjunction
 
@@ -60,7 +62,9 @@ module _ {ws : List ℕ} {n e a : Bytes} {c : Counts} {x : ℕ} (A : ExpandAsks 
 
   module _ (hv : IsNode n x v) {q : ℕ} (hq : q ≡ nodeSize * x) {o : Found} (ho : foundOf o ≡ lowestConj (tableOf ws) (setOf n q)) where
     conj-lowest : {b : Found} → o ≡ b → lowestConj (tableOf ws) (nodeAt (graphOf (work n e a) c) x .rows) ≡ foundOf b
-    conj-lowest e = ap (λ (r : RowSet). lowestConj (tableOf ws) r) (sym (expand-set A)) ∙ ap (λ (p : ℕ). lowestConj (tableOf ws) (setOf n p)) (sym hq) ∙ sym ho ∙ ap foundOf e
+    conj-lowest e =
+        ap (λ (r : RowSet). lowestConj (tableOf ws) r) (sym (expand-set A)) ∙ ap (λ (p : ℕ). lowestConj (tableOf ws) (setOf n p)) (sym hq) ∙ sym ho
+        ∙ ap foundOf e
 
     pub both-found : {l r : ℕ} → o ≡ Found.Rows l r → Both l r
     unfolding foundOf
@@ -108,7 +112,9 @@ module _ {ws : List ℕ} {n e a : Bytes} {c : Counts} {x : ℕ} (A : DisjAsks ws
 
   module _ (hv : IsNode n x v) {q : ℕ} (hq : q ≡ nodeSize * x) {o : Found} (ho : foundOf o ≡ lowestDisj (tableOf ws) (setOf n q)) where
     disj-lowest : {b : Found} → o ≡ b → lowestDisj (tableOf ws) (nodeAt (graphOf (work n e a) c) x .rows) ≡ foundOf b
-    disj-lowest e = ap (λ (r : RowSet). lowestDisj (tableOf ws) r) (sym (expand-set (A .node))) ∙ ap (λ (p : ℕ). lowestDisj (tableOf ws) (setOf n p)) (sym hq) ∙ sym ho ∙ ap foundOf e
+    disj-lowest e =
+        ap (λ (r : RowSet). lowestDisj (tableOf ws) r) (sym (expand-set (A .node))) ∙ ap (λ (p : ℕ). lowestDisj (tableOf ws) (setOf n p)) (sym hq) ∙ sym ho
+        ∙ ap foundOf e
 
     pub either-found : {l r : ℕ} → o ≡ Found.Rows l r → Either l r
     unfolding foundOf
@@ -175,9 +181,11 @@ module _ {ws : List ℕ} {n e a : Bytes} {c : Counts} {x : ℕ} {A : DisjAsks ws
 
   pub right-gives : {z : Step} {w₂ : Work} → PutGives ws w₁ d x (v .pst) (v .prl) τ z w₂ → DisjGives ws (work n e a) c x z w₂
   right-gives G =
-      refines-as (refines-then (S .left) (λ u. with-row E r) (now-gives (S .now) may-right (set-given v (E .loaded) (S .now) (insert r) may-right eτ G) refl)) (disj-is E)
+      refines-as (refines-then (S .left) (λ u. with-row E r) (now-gives (S .now) may-right (set-given v (E .loaded) (S .now) (insert r) may-right eτ G) refl))
+      (disj-is E)
 
-pub disj-gives : {ws : List ℕ} {w : Work} {c : Counts} {x : ℕ} → StateAsks ws w c x → {r : Step} {w′ : Work} → StateGives ws w c x r w′ → DisjGives ws w c x r w′
+pub disj-gives : {ws : List ℕ} {w : Work} {c : Counts} {x : ℕ} → StateAsks ws w c x → {r : Step} {w′ : Work} → StateGives ws w c x r w′
+    → DisjGives ws w c x r w′
 unfolding expandDisj
 disj-gives {ws} {w} {c} {x} A G = refines-as G (ap (λ (o : Option (ℕ × ℕ)). expandDisj (problemOf ws) (capacityOf w) x o (graphOf w c)) (A .noDisj))
 

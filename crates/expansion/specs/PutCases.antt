@@ -105,7 +105,9 @@ module _ {ws : List ℕ} {w : Work} {c : Counts} {x : ℕ} {A : ExpandAsks ws w 
   now-asks = record {
     decoded = A .decoded;
     held = N .held;
-    fit = subst (λ (q : Capacity). PutFit (P A) q h x p ρ s) (sym (sized-places (N .sized))) (E.puts-fit (P A) (cap A) (g A) x (A .still) (A .there) (A .fresh) h (N .growing) p ρ s M);
+    fit =
+        subst (λ (q : Capacity). PutFit (P A) q h x p ρ s) (sym (sized-places (N .sized)))
+        (E.puts-fit (P A) (cap A) (g A) x (A .still) (A .there) (A .fresh) h (N .growing) p ρ s M);
   }
 
   module _ {w″ : Work} {r : Step} (G : PutGives ws w′ d x p ρ s r w″) where
@@ -121,5 +123,6 @@ module _ {ws : List ℕ} {w : Work} {c : Counts} {x : ℕ} {A : ExpandAsks ws w 
         record {
           held = refines-held R;
           sized = sized-trans (N .sized) (R .sized);
-          growing = subst (λ (q : Result). Sure (Growing A) q) (sym q) (E.puts-done (P A) (cap A) (g A) x (A .still) (A .there) (A .fresh) h (N .growing) p ρ s M);
+          growing =
+              subst (λ (q : Result). Sure (Growing A) q) (sym q) (E.puts-done (P A) (cap A) (g A) x (A .still) (A .there) (A .fresh) h (N .growing) p ρ s M);
         }

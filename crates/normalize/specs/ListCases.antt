@@ -50,7 +50,14 @@ module _ {b list memo₀ ws₀ : List ℕ} {n₀ : ℕ} {places₀ : List ℕ} (
       p = put t asIs k (rowsIn ws n)
 
       pub course-asks : PutAsks b memo ws n k
-      course-asks = record { draft = A .draft; row = A .listed k (getD-mem list i 0 h); idle = A .idle k (getD-mem list i 0 h); held = C .held; remembered = C .remembered }
+      course-asks =
+          record {
+            draft = A .draft;
+            row = A .listed k (getD-mem list i 0 h);
+            idle = A .idle k (getD-mem list i 0 h);
+            held = C .held;
+            remembered = C .remembered;
+          }
 
       pub course-room : i < length places
       course-room = omega (arith, A .room, C .placeSize)

@@ -1,7 +1,7 @@
 -- The ways through the functions that put one row, on plain values.
 --
--- In order: answers by their names; a row that is shared (`share-there`, `share-next`, `share-none`); a row that is remembered, or is put and then remembered (`known-case`, `new-case`); a row that is
--- not remembered, by what becomes of it: literal, other, over one row, over two.
+-- In order: answers by their names; a row that is shared (`share-there`, `share-next`, `share-none`); a row that is remembered, or is put and then
+-- remembered (`known-case`, `new-case`); a row that is not remembered, by what becomes of it: literal, other, over one row, over two.
 use mathlib.Core.Path.{_≡_, refl, sym, ap, _∙_, subst}
 use mathlib.Core.Bool.{true, false}
 use mathlib.Core.List.{List, [], _∷_, _++_, List·Memᴰ}
@@ -48,7 +48,8 @@ module _ {ws : List ℕ} {n w r : ℕ} (A : ShareAsks ws n w) (F : Finds ws n w 
   pub share-there : r < n → SharesRow ws n w ws (At r n)
   share-there h =
       let e : share (rowIn w) out ≡ stands out r =
-      share-found (rowIn w) out r (placeOf-at (rowIn w) out r (omega (arith, length-rowsIn ws n)) (found-none (A .held) (A .own) F) (found-row (A .held) (A .own) F h)) in
+      share-found (rowIn w) out r (placeOf-at (rowIn w) out r (omega (arith, length-rowsIn ws n)) (found-none (A .held) (A .own) F)
+      (found-row (A .held) (A .own) F h)) in
       record {
         size = refl;
         gives = record { held = A .held; rows = ap (λ (p : Normalize.Put). p .rows) (sym e); at = ap (λ (p : Normalize.Put). p .at) (sym e) };
@@ -137,7 +138,8 @@ module _ {b : Bytes} {memo ws : List ℕ} {n k : ℕ} (A : PutAsks b memo ws n k
           let (row, sign) = slot-same j k z s e in
           rw (e, getD-set-same memo′ (slotOf k s) place 0 slot-inside, row, sign) now-settled
       | no d ↦
-          let other : getD (set memo′ (slotOf k s) place) (slotOf j z) 0 ≡ getD memo′ (slotOf j z) 0 = getD-set-other memo′ (slotOf k s) (slotOf j z) place 0 d in
+          let other : getD (set memo′ (slotOf k s) place) (slotOf j z) 0 ≡ getD memo′ (slotOf j z) 0 =
+          getD-set-other memo′ (slotOf k s) (slotOf j z) place 0 d in
           rw other (G .still .settled j z h (omega arith))
     ]
 
@@ -152,7 +154,8 @@ module _ {b : Bytes} {memo ws : List ℕ} {n k : ℕ} (A : PutAsks b memo ws n k
 -- ---- a row that is not remembered
 
 -- where sharing a row ends the putting of row k
-share-ends : {b : Bytes} {ws₀ : List ℕ} {n₀ k : ℕ} {s : Sign} {memo ws : List ℕ} {n w : ℕ} {ws′ : List ℕ} {r : Placement} → Held ws n → Remembers b (rowsIn ws n) memo
+share-ends : {b : Bytes} {ws₀ : List ℕ} {n₀ k : ℕ} {s : Sign} {memo ws : List ℕ} {n w : ℕ} {ws′ : List ℕ} {r : Placement} → Held ws n
+    → Remembers b (rowsIn ws n) memo
     → put (tableOf b) s k (rowsIn ws₀ n₀) ≡ share (rowIn w) (rowsIn ws n) → SharesRow ws n w ws′ r → PutGives b ws₀ n₀ k s memo ws′ r
 share-ends {b} {memo = memo} {ws = ws} {n = n} {w = w} {ws′ = ws′} {r = r} H R e S = record {
   memoSize = R .size;
@@ -190,8 +193,16 @@ module _ {b : Bytes} {memo ws : List ℕ} {n k : ℕ} (A : PutAsks b memo ws n k
     pub next-asks : {memo′ ws′ : List ℕ} {l i n′ : ℕ} {z : Sign} → PutGives b ws n l z memo′ ws′ (At i n′) → (j : ℕ) → List·Memᴰ j (shapeRows (shapeOf σ))
         → PutAsks b memo′ ws′ n′ j × (j < k)
     next-asks G j m =
-        let h = lower j m in
-        (record { draft = A .draft; row = omega (arith, A .row); idle = draft-idle (A .draft) k j (named j m); held = G .gives .held; remembered = G .still }, h)
+        let h = lower j m in (
+          record {
+            draft = A .draft;
+            row = omega (arith, A .row);
+            idle = draft-idle (A .draft) k j (named j m);
+            held = G .gives .held;
+            remembered = G .still;
+          },
+          h,
+        )
 
   -- a name
   module _ {s : Sign} {kind name w : ℕ} (S : ShapeAt b k s (Literal kind name)) (R : IsRow w (ofParts kind 0 name 0)) where
@@ -254,7 +265,8 @@ module _ {b : Bytes} {memo ws : List ℕ} {n k : ℕ} (A : PutAsks b memo ws n k
           let long : mostRows < length (second .rows) = rw (G .gives .rows) at (F .gives) in
           record { memoSize = F .memoSize; size = F .size; gives = omega (arith, begins-length (second .rows) _ second-more); still = tt }
 
-      pub binary-ends : {memo″ ws″ : List ℕ} {h n″ w : ℕ} → PutGives b ws′ n′ j y memo″ ws″ (At h n″) → IsRow w (ofParts kind 0 i h) → {ws‴ : List ℕ} {r : Placement}
+      pub binary-ends : {memo″ ws″ : List ℕ} {h n″ w : ℕ} → PutGives b ws′ n′ j y memo″ ws″ (At h n″) → IsRow w (ofParts kind 0 i h)
+          → {ws‴ : List ℕ} {r : Placement}
           → SharesRow ws″ n″ w ws‴ r → PutGives b ws n k s memo″ ws‴ r
       unfolding putShape
       binary-ends F R =

@@ -1,7 +1,8 @@
 -- Laws of Words.
 --
--- In order: a row as a word, and back (`rowIn-packed`), by its kind (`literal-row`, `modal-row`, `pair-row`, `inclusion-row`), and its bytes (`own-parts`); equal words are
--- equal rows (`own-same`); the rows in words (`conceptAt-rowsIn`, `rowsIn-more`, `held-more`); the first equal word is the first equal row (`found-row`, `found-none`).
+-- In order: a row as a word, and back (`rowIn-packed`), by its kind (`literal-row`, `modal-row`, `pair-row`, `inclusion-row`), and its bytes
+-- (`own-parts`); equal words are equal rows (`own-same`); the rows in words (`conceptAt-rowsIn`, `rowsIn-more`, `held-more`); the first equal word is
+-- the first equal row (`found-row`, `found-none`).
 use mathlib.Core.Path.{_≡_, refl, sym, ap, _∙_}
 use mathlib.Core.Bool.{Bool, true, false, cond}
 use mathlib.Core.List.{List, [], _∷_, _++_}
@@ -82,7 +83,8 @@ either-way P true p q = p
 either-way P false p q = q
 
 -- a concept of these parts is one of nine
-ofParts-cases : (P : Concept → Type 0) (kind role left right : ℕ) → P (atomic left) → P (negated left) → P (conj left right) → P (disj left right) → P (univ role left)
+ofParts-cases : (P : Concept → Type 0) (kind role left right : ℕ) → P (atomic left) → P (negated left) → P (conj left right) → P (disj left right)
+    → P (univ role left)
     → P (exist role left) → P (inclusion role left) → P (neg left) → P (impl left right) → P (ofParts kind role left right)
 unfolding ofParts
 ofParts-cases P kind role left right a b c d e f g h i =
@@ -100,10 +102,12 @@ small-parts kind role left right o l r =
     (o, l, omega arith) (o, l, omega arith) (o, l, omega arith) (omega arith, l, omega arith) (omega arith, l, r)
 
 -- the word of a row has the row's four bytes
-pub own-parts : {w : ℕ} → Own w → (w % 256 ≡ kindOf (rowIn w)) × (w / 256 % 256 ≡ roleOf (rowIn w)) × (w / 65536 % 256 ≡ leftOf (rowIn w)) × (w / 16777216 % 256 ≡ rightOf (rowIn w))
+pub own-parts : {w : ℕ} → Own w
+    → (w % 256 ≡ kindOf (rowIn w)) × (w / 256 % 256 ≡ roleOf (rowIn w)) × (w / 65536 % 256 ≡ leftOf (rowIn w)) × (w / 16777216 % 256 ≡ rightOf (rowIn w))
 own-parts {w} o =
     let c = rowIn w in
-    let (ρ, l, r) : Small c = unfold rowIn in small-parts (w % 256) (w / 256 % 256) (w / 65536 % 256) (w / 16777216 % 256) (omega arith) (omega arith) (omega arith) in
+    let (ρ, l, r) : Small c =
+    unfold rowIn in small-parts (w % 256) (w / 256 % 256) (w / 65536 % 256) (w / 16777216 % 256) (omega arith) (omega arith) (omega arith) in
     rw o at (parts-packed (kindOf c) (roleOf c) (leftOf c) (rightOf c) (omega (arith, kindOf-lt c)) ρ l r)
 
 -- ---- equal words

@@ -1,7 +1,8 @@
 // The rows of a draft in negation normal form (02, [1] and [6]): its role inclusions, then what its rules and its wanted row need, each row once.
 //
 // In order: what becomes of a row; rows as words, and sharing equal ones; a row with all that it needs; a list of rows; the inclusions.
-// Rows that are written stand in words, so many at the start of a slice. Which place a row of the draft, or its opposite, has got is remembered, so that each is put once.
+// Rows that are written stand in words, so many at the start of a slice. Which place a row of the draft, or its opposite, has got is remembered, so
+// that each is put once.
 ghost use mathlib.Core.Path.{_≡_};
 ghost use Prim.Native.Nat.{_+_, _*_, _≤_, _<_};
 ghost use lib.ListN.{length};
@@ -212,7 +213,8 @@ pub fn put_list(
     places: &mut [u8],
 ) -> Listed
     requires { ⌜ ListAsks (now draft) (now list) (now memo) (now written) count (now places) ⌝ }
-    ensures { λ r. ⌜ ListGives (now (draft .entry)) (now (list .entry)) (now (written .entry)) count (now (memo .exit)) (now (written .exit)) (now (places .entry)) (now (places .exit)) r ⌝ }
+    ensures { λ r. ⌜ ListGives (now (draft .entry)) (now (list .entry)) (now (written .entry)) count (now (memo .exit)) (now (written .exit))
+        (now (places .entry)) (now (places .exit)) r ⌝ }
 {
     let mut n = count;
     let mut i: usize = 0;

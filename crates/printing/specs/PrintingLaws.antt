@@ -1,6 +1,7 @@
 -- Laws of Printing: the ways through the functions that print.
 --
--- In order: pieces; the whole; a whole that has room; numbers; a loop over pieces; lines; the line of an element and of a link; the lines of an answer; which lines are printed.
+-- In order: pieces; the whole; a whole that has room; numbers; a loop over pieces; lines; the line of an element and of a link; the lines of an
+-- answer; which lines are printed.
 use mathlib.Core.Path.{_≡_, refl, sym, ap, ap₂, subst, _∙_}
 use mathlib.Core.Bool.{Bool, true, false}
 use mathlib.Core.Logic.{_≢_}
@@ -18,7 +19,8 @@ use Rattle.words.specs.Sizes.{setSize}
 use Rattle.evaluation.specs.Layout.{linkAt}
 use Rattle.run.specs.Run.{Lengths, Numbers}
 use Rattle.run.specs.RunLaws.{Room}
-use Rattle.run.specs.Printed.{ascii, digit, hexadecimal, decimal, spaced, line, elementLine, linkLine, elementLines, linkLines, usedLine, refusalCounts, refusedLine}
+use Rattle.run.specs.Printed.{ascii, digit, hexadecimal, decimal, spaced, line, elementLine, linkLine, elementLines}
+use Rattle.run.specs.Printed.{linkLines, usedLine, refusalCounts, refusedLine}
 use Rattle.run.specs.Printed.{canLines, cannotLines, printed}
 use Rattle.run.specs.PrintedLaws.{decimal-last, decimal-more, length-decimal-word, hexadecimal-byte, hexadecimal-bytes}
 use Rattle.printing.specs.Printing.{elementMost, Wrote, Pieces, Prints}
@@ -158,7 +160,8 @@ module _ (upTo : ℕ → Bytes) (each count : ℕ) where
       let m : each * (i + 1) ≡ each * i + each = ap (λ (k : ℕ). each * k) s′ ∙ mul-suc each i in
       record { within = omega arith; wrote = wrote-as (wrote-then (s .wrote) w) (sym e) (omega arith) }
 
-  pub pieces-all : {out out′ : Bytes} {at next i : ℕ} → Pieces upTo each count out at out′ next i → count ≤ i → Wrote (each * count) (upTo count) out at out′ next
+  pub pieces-all : {out out′ : Bytes} {at next i : ℕ} → Pieces upTo each count out at out′ next i → count ≤ i
+      → Wrote (each * count) (upTo count) out at out′ next
   pieces-all {out} {out′} {at} {next} {i} s h =
       let e : i ≡ count = omega (arith, s .within) in
       subst (λ (k : ℕ). Wrote (each * k) (upTo k) out at out′ next) e (s .wrote)
@@ -169,7 +172,8 @@ take-more word i h =
     let e : i + 1 ≡ suc i = omega arith in
     ap (λ (k : ℕ). take k word) e ∙ take-suc word i 0 h
 
-pub wrote-word : {word out out′ : Bytes} {at next : ℕ} → Wrote (1 * length word) (take (length word) word) out at out′ next → Wrote (length word) word out at out′ next
+pub wrote-word : {word out out′ : Bytes} {at next : ℕ} → Wrote (1 * length word) (take (length word) word) out at out′ next
+    → Wrote (length word) word out at out′ next
 wrote-word {word} w = wrote-as w (take-length word) (omega arith)
 
 -- ---- lines
@@ -193,14 +197,16 @@ module _ {w out out₁ : Bytes} {at p₁ : ℕ} (word : Wrote (length w) w out a
   pub wrote-line-two : (a b : ℕ) {out₂ out₃ out₄ : Bytes} {p₂ p₃ p₄ : ℕ} → Wrote 11 (32 ∷ decimal a) out₁ p₁ out₂ p₂ → Wrote 11 (32 ∷ decimal b) out₂ p₂ out₃ p₃
       → Wrote 1 (10 ∷ []) out₃ p₃ out₄ p₄ → Wrote (length w + 23) (line w (a ∷ b ∷ [])) out at out₄ p₄
   unfolding line spaced
-  wrote-line-two a b x y end = wrote-as (wrote-then (wrote-then (wrote-then word x) y) end) (joined-two w (32 ∷ decimal a) (32 ∷ decimal b) (10 ∷ [])) (omega arith)
+  wrote-line-two a b x y end =
+      wrote-as (wrote-then (wrote-then (wrote-then word x) y) end) (joined-two w (32 ∷ decimal a) (32 ∷ decimal b) (10 ∷ [])) (omega arith)
 
   pub wrote-line-three : (a b c : ℕ) {out₂ out₃ out₄ out₅ : Bytes} {p₂ p₃ p₄ p₅ : ℕ} → Wrote 11 (32 ∷ decimal a) out₁ p₁ out₂ p₂
       → Wrote 11 (32 ∷ decimal b) out₂ p₂ out₃ p₃ → Wrote 11 (32 ∷ decimal c) out₃ p₃ out₄ p₄ → Wrote 1 (10 ∷ []) out₄ p₄ out₅ p₅
       → Wrote (length w + 34) (line w (a ∷ b ∷ c ∷ [])) out at out₅ p₅
   unfolding line spaced
   wrote-line-three a b c x y z end =
-      wrote-as (wrote-then (wrote-then (wrote-then (wrote-then word x) y) z) end) (joined-three w (32 ∷ decimal a) (32 ∷ decimal b) (32 ∷ decimal c) (10 ∷ [])) (omega arith)
+      wrote-as (wrote-then (wrote-then (wrote-then (wrote-then word x) y) z) end) (joined-three w (32 ∷ decimal a) (32 ∷ decimal b) (32 ∷ decimal c) (10 ∷ []))
+      (omega arith)
 
 -- ---- the line of an element and of a link
 
@@ -212,7 +218,8 @@ pub wrote-element : (d s : ℕ) {out out₁ out₂ out₃ out₄ out₅ : Bytes}
     → Wrote 11 (32 ∷ decimal d) out₁ p₁ out₂ p₂ → Wrote 1 (32 ∷ []) out₂ p₂ out₃ p₃ → Wrote (2 * setSize) (hexadecimal (2 * setSize) s) out₃ p₃ out₄ p₄
     → Wrote 1 (10 ∷ []) out₄ p₄ out₅ p₅
     → Wrote elementMost (elementLine d s) out at out₅ p₅
-wrote-element d s x number space set end = wrote-as (wrote-then (wrote-then (wrote-then (wrote-then x number) space) set) end) (element-joined d s) (omega arith)
+wrote-element d s x number space set end =
+    wrote-as (wrote-then (wrote-then (wrote-then (wrote-then x number) space) set) end) (element-joined d s) (omega arith)
 
 pub wrote-link : (links : Bytes) (i : ℕ) {from role to : ℕ} {out out′ : Bytes} {at next : ℕ} → from ≡ linkAt links i .from → role ≡ linkAt links i .role
     → to ≡ linkAt links i .to → Wrote 35 (line (ascii "L") (from ∷ role ∷ to ∷ [])) out at out′ next → Wrote 35 (linkLine (linkAt links i)) out at out′ next
@@ -228,7 +235,8 @@ wrote-used n w = w
 
 pub wrote-can : (n : Numbers) (elements links : Bytes) {out out₁ out₂ out₃ out₄ : Bytes} {p₁ p₂ p₃ p₄ : ℕ}
     → Wrote 26 (line (ascii "CAN") (n .elements ∷ n .links ∷ [])) out 0 out₁ p₁ → Wrote 38 (usedLine n) out₁ p₁ out₂ p₂
-    → Wrote (elementMost * n .elements) (elementLines elements (n .elements)) out₂ p₂ out₃ p₃ → Wrote (35 * n .links) (linkLines links (n .links)) out₃ p₃ out₄ p₄
+    → Wrote (elementMost * n .elements) (elementLines elements (n .elements)) out₂ p₂ out₃ p₃
+    → Wrote (35 * n .links) (linkLines links (n .links)) out₃ p₃ out₄ p₄
     → Wrote (64 + elementMost * n .elements + 35 * n .links) (canLines n elements links) out 0 out₄ p₄
 unfolding canLines
 wrote-can n elements links head used es ls = wrote-then (wrote-then (wrote-then head used) es) ls

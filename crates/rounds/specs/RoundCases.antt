@@ -112,7 +112,8 @@ module _ {ws : List ℕ} {w : Work} {c : Counts} {n′ e′ a′ : Bytes} {d : C
   fueled : (f : ℕ) × (cap .nodeRoom < withAStatus h + suc f) × (loop (suc f) h ≡ allRounds ws cap g)
   fueled = go (T .rest .0) (T .rest .1) (T .rest .2)
     where
-      go : (f : ℕ) → cap .nodeRoom < withAStatus h + f → loop f h ≡ allRounds ws cap g → (f : ℕ) × (cap .nodeRoom < withAStatus h + suc f) × (loop (suc f) h ≡ allRounds ws cap g)
+      go : (f : ℕ) → cap .nodeRoom < withAStatus h + f → loop f h ≡ allRounds ws cap g
+          → (f : ℕ) × (cap .nodeRoom < withAStatus h + suc f) × (loop (suc f) h ≡ allRounds ws cap g)
       go zero few q = absurd (omega (arith, few, statuses-fit P cap h (T .still)))
       go (suc f) few q = (f, few, q)
 
@@ -130,11 +131,13 @@ module _ {ws : List ℕ} {w : Work} {c : Counts} {n′ e′ a′ : Bytes} {d : C
     turn-done ev = ended (loop-done P cap (fueled .0) h (live L) (sym (W .0 e′ a′ (T .held)) ∙ ap foundOf ev))
 
     pub turn-fresh : {x : ℕ} → v ≡ Found.At x → Fresh x
-    turn-fresh ev = record { live = live L; found = sym (W .0 e′ a′ (T .held)) ∙ ap foundOf ev; passed = subst (λ (v : FoundNode). PassedOver v (isUnsetAt n′)) ev (W .1) }
+    turn-fresh ev =
+        record { live = live L; found = sym (W .0 e′ a′ (T .held)) ∙ ap foundOf ev; passed = subst (λ (v : FoundNode). PassedOver v (isUnsetAt n′)) ev (W .1) }
 
 -- ---- an expansion
 
-module _ {ws : List ℕ} {w : Work} {c : Counts} {n′ e′ a′ : Bytes} {d : Counts} {from : ℕ} {T : RoundsDone ws w c (work n′ e′ a′) d from} {x : ℕ} (F : Fresh T x) where
+module _ {ws : List ℕ} {w : Work} {c : Counts} {n′ e′ a′ : Bytes} {d : Counts} {from : ℕ} {T : RoundsDone ws w c (work n′ e′ a′) d from} {x : ℕ}
+    (F : Fresh T x) where
   there : x < nodeCount (h T)
   there = lowestUnset-some (h T) x (F .found) .0
 
@@ -159,7 +162,8 @@ module _ {ws : List ℕ} {w : Work} {c : Counts} {n′ e′ a′ : Bytes} {d : C
     expanded er = refines-answer G er .meets ∙ ap (λ (q : Capacity). expand (P T) q x (h T)) places
 
     round : {s : Step} → r ≡ s → (resultOf s w″ >>= loop T (fueled T .0)) ≡ allRounds ws (cap T) (g T)
-    round er = ap (λ (q : Result). q >>= loop T (fueled T .0)) (expanded er) ∙ sym (loop-round (P T) (cap T) (fueled T .0) (h T) (F .live) x (F .found)) ∙ fueled T .2
+    round er =
+        ap (λ (q : Result). q >>= loop T (fueled T .0)) (expanded er) ∙ sym (loop-round (P T) (cap T) (fueled T .0) (h T) (F .live) x (F .found)) ∙ fueled T .2
 
     pub turn-short : {p : Area} → r ≡ Full p → RoundsGives ws w c (Full p) w″
     turn-short {p} er = record {
@@ -182,7 +186,8 @@ module _ {ws : List ℕ} {w : Work} {c : Counts} {n′ e′ a′ : Bytes} {d : C
       set-after k l u =
           let was : isUnset (nodeAt (h T) k .status) ≡ false = ap (λ (v : Node). isUnset (v .status)) (graph-node (work n′ e′ a′) d k l) ∙ u in
           ap (λ (v : Node). isUnset (v .status)) (sym (graph-node w″ d₂ k (omega (arith, l, refines-answer G er .held .1 .nodes))))
-          ∙ status-stays (P T) (cap T) (h T) x (T .still) there fresh (graphOf w″ d₂) (sym (expanded er)) k (omega (arith, l, count-nodes (work n′ e′ a′) d)) was
+          ∙ status-stays (P T) (cap T) (h T) x (T .still) there fresh (graphOf w″ d₂) (sym (expanded er)) k
+          (omega (arith, l, count-nodes (work n′ e′ a′) d)) was
 
       pub turn-expanded : RoundsDone ws w c w″ d₂ x
       turn-expanded = let R = refines-answer G er in record {

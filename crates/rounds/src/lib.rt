@@ -27,7 +27,8 @@ fn rounds(
 ) -> Step
     requires { ⌜ RoundsAsks (now problem) (work (now nodes) (now edges) (now alternatives)) c ⌝ }
     ensures { λ r. ⌜ RoundsGives (now (problem .entry))
-        (work (now (nodes .entry)) (now (edges .entry)) (now (alternatives .entry))) c r (work (now (nodes .exit)) (now (edges .exit)) (now (alternatives .exit))) ⌝ }
+        (work (now (nodes .entry)) (now (edges .entry)) (now (alternatives .entry))) c r
+        (work (now (nodes .exit)) (now (edges .exit)) (now (alternatives .exit))) ⌝ }
 {
     let mut cur = c;
     // every node below has a status
@@ -53,7 +54,8 @@ fn rounds(
 pub fn run(problem: &[u64], nodes: &mut [u8], edges: &mut [u8], alternatives: &mut [u8]) -> Step
     requires { ⌜ Decoded (now problem) ⌝ }
     ensures { λ r. ⌜ RunGives (now (problem .entry))
-        (work (now (nodes .entry)) (now (edges .entry)) (now (alternatives .entry))) r (work (now (nodes .exit)) (now (edges .exit)) (now (alternatives .exit))) ⌝ }
+        (work (now (nodes .entry)) (now (edges .entry)) (now (alternatives .entry))) r
+        (work (now (nodes .exit)) (now (edges .exit)) (now (alternatives .exit))) ⌝ }
 {
     let none = Counts {
         nodes: 0,

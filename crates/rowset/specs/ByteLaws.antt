@@ -1,6 +1,6 @@
 -- Laws of sets in the bytes and in the words of a slice, for any number of words.
 use mathlib.Core.Path.{_≡_, refl, sym, ap, ap₂, _∙_}
-use mathlib.Core.Bool.{Bool, true, false}
+use mathlib.Core.Bool.{true, false}
 use mathlib.Core.List.{List}
 use Prim.Native.Nat.{ℕ, zero, suc, _+_, _-_, _*_, _/_, _%_, _^_, _≤_, _<_}
 use native.Mathlib.Nat.{pow-suc}
@@ -14,8 +14,8 @@ use Rattle.words.specs.Words.{leAt, putLe}
 use Rattle.words.specs.WordLaws.{leAt-add, leAt-same, leAt-putLe, below-putLe, above-putLe}
 use Rattle.words.specs.Sizes.{setSize}
 use Rattle.rowset.specs.Widths.{setOf}
-use Rattle.rowset.specs.Joined.{joined, Fit, place, wordAt, setAt, maskAt}
-use Rattle.rowset.specs.JoinedLaws.{mem-joined, joined-same, joined-apart, joined-insert, joined-true, joined-false, place-64}
+use Rattle.rowset.specs.Joined.{joined, Fit, place, wordAt, setAt}
+use Rattle.rowset.specs.JoinedLaws.{mem-joined, joined-same, joined-apart, joined-insert, place-row}
 
 -- every element is a byte
 abbrev pub Bytes : List ℕ → Type 0
@@ -67,7 +67,7 @@ pub set-insert : (b : List ℕ) → Bytes b → (at k n v : ℕ) → k < 64 * n 
 set-insert b h at k n v l room fits e =
     let j : ℕ = k / 64 in
     let i : ℕ = k % 64 in
-    let q : place 64 j i ≡ k = place-64 j i ∙ omega arith in
+    let q : place 64 j i ≡ k = place-row 64 j i ∙ omega arith in
     set-words (putLe b (at + 8 * j) 8 v) n at
     ∙ joined-insert 64 (wordAt b at) (wordAt (putLe b (at + 8 * j) 8 v) at) (word-fits b h at) n j i (omega arith) (omega arith)
     (word-written b at j v room fits ∙ e) (λ m d. word-kept b at j v room m d)
@@ -77,22 +77,17 @@ pub set-mem : (b : List ℕ) → Bytes b → (at k n : ℕ) → k < 64 * n → m
 set-mem b h at k n l =
     let j : ℕ = k / 64 in
     let i : ℕ = k % 64 in
-    let q : place 64 j i ≡ k = place-64 j i ∙ omega arith in
+    let q : place 64 j i ≡ k = place-row 64 j i ∙ omega arith in
     ap₂ mem (sym q) (set-words b n at) ∙ mem-joined 64 (wordAt b at) (word-fits b h at) n j i (omega arith) (omega arith)
 
 -- ---- tests that go from word to word
-
-pub set-none : (b : List ℕ) (at n : ℕ) → ((j : ℕ) → j < n → wordAt b at j ≡ 0) → eqb (setAt b at n) 0 ≡ true
-set-none b at n e = ap (λ (x : ℕ). eqb x 0) (set-words b n at) ∙ joined-true 64 (wordAt b at) n e
-
-pub set-some : (b : List ℕ) → Bytes b → (at n j : ℕ) → j < n → (wordAt b at j ≡ 0 → ⊥) → eqb (setAt b at n) 0 ≡ false
-set-some b h at n j l d = ap (λ (x : ℕ). eqb x 0) (set-words b n at) ∙ joined-false 64 (wordAt b at) (word-fits b h at) n j l d
 
 pub sets-same : (b c : List ℕ) (at there n : ℕ) → ((j : ℕ) → j < n → wordAt b at j ≡ wordAt c there j) → eqb (setAt b at n) (setAt c there n) ≡ true
 sets-same b c at there n e =
     eq-eqb (setAt b at n) (setAt c there n) (set-words b n at ∙ joined-same 64 (wordAt b at) (wordAt c there) n e ∙ sym (set-words c n there))
 
-pub sets-differ : (b c : List ℕ) → Bytes b → Bytes c → (at there n j : ℕ) → j < n → (wordAt b at j ≡ wordAt c there j → ⊥) → eqb (setAt b at n) (setAt c there n) ≡ false
+pub sets-differ : (b c : List ℕ) → Bytes b → Bytes c → (at there n j : ℕ) → j < n → (wordAt b at j ≡ wordAt c there j → ⊥)
+    → eqb (setAt b at n) (setAt c there n) ≡ false
 sets-differ b c hb hc at there n j l d =
     ne-eqb (setAt b at n) (setAt c there n) (λ e.
     d (joined-apart 64 (wordAt b at) (wordAt c there) (word-fits b hb at) (word-fits c hc there) n (sym (set-words b n at) ∙ e ∙ set-words c n there) j l))

@@ -1,15 +1,15 @@
 -- Laws of Joined, for any number of words of any width.
 use mathlib.Core.Path.{_≡_, refl, sym, ap, ap₂, _∙_}
-use mathlib.Core.Bool.{Bool, true, false, not, _&&_, _||_, cond}
-use Prim.Native.Nat.{ℕ, zero, suc, _+_, _-_, _*_, _/_, _%_, _^_, _≤_, _<_}
-use native.Mathlib.Nat.{mod-lt, pow-suc}
+use mathlib.Core.Bool.{Bool, true, false, not, _&&_, _||_}
+use Prim.Native.Nat.{ℕ, zero, suc, _+_, _-_, _*_, _/_, _^_, _≤_, _<_}
+use native.Mathlib.Nat.{pow-suc}
 use native.Mathlib.Decide.{ℕ-discrete}
 use native.Mathlib.Omega.{arith}
-use lib.Dec.{T, not-T, eqb, ltb}
+use lib.Dec.{not-T, eqb}
 use lib.Bits.{block-half, block-odd}
 use lib.Pow.{pow-pos}
 use borrow.Author.Tests.{eq-eqb, ne-eqb}
-use Rattle.concepts.specs.RowSet.{RowSet, mem, union, common, minus, insert, single}
+use Rattle.concepts.specs.RowSet.{mem, union, common, minus, insert, single}
 use Rattle.concepts.specs.RowSetLaws.{mem-empty, mem-suc, mem-zero, mem-union, mem-common, mem-minus, mem-insert, mem-single, mem-lt, insert-lt, set-ext}
 use Rattle.concepts.specs.Tests.{as-false}
 use Rattle.concepts.specs.Lists.{NoneBelow}
@@ -47,6 +47,11 @@ by-part P p lo hi k = elim (ℕ-discrete (suc k - p) 0) [
 
 next : (p : ℕ) (f : ℕ → ℕ) → Fit p f → Fit p (λ (j : ℕ). f (suc j))
 next p f h j = h (suc j)
+
+pub place-row : (p j i : ℕ) → place p j i ≡ p * j + i
+unfolding place
+place-row p zero i = omega arith
+place-row p (suc j) i = ap (λ (x : ℕ). p + x) (place-row p j i) ∙ omega arith
 
 -- row i of word j is the row at that place
 pub mem-joined : (p : ℕ) (f : ℕ → ℕ) → Fit p f → (n j i : ℕ) → j < n → i < p → mem (place p j i) (joined p f n) ≡ mem i (f j)
@@ -185,11 +190,13 @@ joined-in-use p f (suc m) (suc n) l z =
 -- ---- the lowest row
 
 -- the lowest row of the first word that has one
-pub joined-lowest : (p : ℕ) (f : ℕ → ℕ) → Fit p f → (n j i : ℕ) → j < n → i < p → ((m : ℕ) → m < j → f m ≡ 0) → Lowest (f j) i → Lowest (joined p f n) (place p j i)
+pub joined-lowest : (p : ℕ) (f : ℕ → ℕ) → Fit p f → (n j i : ℕ) → j < n → i < p → ((m : ℕ) → m < j → f m ≡ 0) → Lowest (f j) i
+    → Lowest (joined p f n) (place p j i)
 unfolding joined place
 joined-lowest p f ff n j i l b z low = record { member = mem-joined p f ff n j i l b ∙ low .member; least = below f ff n j l z (low .least) }
   where
-    below : (f : ℕ → ℕ) → Fit p f → (n j : ℕ) → j < n → ((m : ℕ) → m < j → f m ≡ 0) → NoneBelow (λ k. mem k (f j)) i → (k : ℕ) → k < place p j i → mem k (joined p f n) ≡ false
+    below : (f : ℕ → ℕ) → Fit p f → (n j : ℕ) → j < n → ((m : ℕ) → m < j → f m ≡ 0) → NoneBelow (λ k. mem k (f j)) i → (k : ℕ) → k < place p j i
+        → mem k (joined p f n) ≡ false
     below f ff zero j l z low k h = absurd (omega arith)
     below f ff (suc n) zero l z low k h = mem-low p k (joined p (λ (j : ℕ). f (suc j)) n) (f 0) (omega arith) ∙ low k h
     below f ff (suc n) (suc j) l z low k h =
@@ -198,12 +205,6 @@ joined-lowest p f ff n j i l b z low = record { member = mem-joined p f ff n j i
         (λ k h.
         mem-high p k (joined p (λ (j : ℕ). f (suc j)) n) (f 0) (ff 0)
         ∙ below (λ (j : ℕ). f (suc j)) (next p f ff) n j (omega arith) (λ m c. z (suc m) (omega arith)) low k (omega arith)) k h
-
--- the rows of words that are all below a row's word are below it
-pub place-64 : (j i : ℕ) → place 64 j i ≡ 64 * j + i
-unfolding place
-place-64 zero i = omega arith
-place-64 (suc j) i = ap (λ (x : ℕ). 64 + x) (place-64 j i) ∙ omega arith
 
 -- ---- tests that go from word to word
 
@@ -216,7 +217,8 @@ joined-false p f ff n j l d = ne-eqb (joined p f n) 0 (λ e. d (joined-apart p f
 -- ---- the set without a row
 
 -- word j without a row
-pub joined-without : (p : ℕ) (f g : ℕ → ℕ) → Fit p f → Fit p g → (n j i : ℕ) → j < n → i < p → g j ≡ minus (f j) (single i) → ((m : ℕ) → (m ≡ j → ⊥) → g m ≡ f m)
+pub joined-without : (p : ℕ) (f g : ℕ → ℕ) → Fit p f → Fit p g → (n j i : ℕ) → j < n → i < p → g j ≡ minus (f j) (single i)
+    → ((m : ℕ) → (m ≡ j → ⊥) → g m ≡ f m)
     → joined p g n ≡ minus (joined p f n) (single (place p j i))
 unfolding joined place
 joined-without p f g ff gf n j i l b e o =

@@ -16,7 +16,7 @@ use Rattle.concepts.specs.RowSetLaws.{mem-empty}
 use Rattle.concepts.specs.Lowest.{Lowest, Above}
 use Rattle.rowset.specs.declared.Next.the-variants.{At, End}
 use Rattle.rowset.specs.Joined.{joined, Fit, place, wordAt, setAt, maskAt, IsNext}
-use Rattle.rowset.specs.JoinedLaws.{mem-high, mem-joined, joined-common, joined-insert, joined-true, joined-false, place-64}
+use Rattle.rowset.specs.JoinedLaws.{mem-high, mem-joined, joined-common, joined-insert, joined-true, joined-false, place-row}
 use Rattle.rowset.specs.ByteLaws.{Bytes, word-fits, set-words}
 
 -- every element is a word
@@ -37,7 +37,7 @@ unfolding maskAt
 mask-insert ws h at k n v l room e =
     let j : ℕ = k / 64 in
     let i : ℕ = k % 64 in
-    let q : place 64 j i ≡ k = place-64 j i ∙ omega arith in
+    let q : place 64 j i ≡ k = place-row 64 j i ∙ omega arith in
     joined-insert 64 (λ (m : ℕ). getD ws (at + m) 0) (λ (m : ℕ). getD (set ws (at + j) v) (at + m) 0) (λ m. h (at + m)) n j i (omega arith) (omega arith)
     (getD-set-same ws (at + j) v 0 room ∙ e) (λ m d. getD-set-other ws (at + j) (at + m) v 0 (λ z. d (omega arith)))
     ∙ ap (λ (x : ℕ). insert x (joined 64 (λ (m : ℕ). getD ws (at + m) 0) n)) q
@@ -60,17 +60,19 @@ picked b at ws mask j = bitAnd (wordAt b at j) (getD ws (mask + j) 0)
 pub picked-fits : (b : List ℕ) (at : ℕ) (ws : List ℕ) (mask : ℕ) → Bytes b → Fit 64 (picked b at ws mask)
 picked-fits b at ws mask h j = omega (arith, word-fits b h at j, and-le-l (wordAt b at j) (getD ws (mask + j) 0))
 
-pub picked-all : (b : List ℕ) (at : ℕ) (ws : List ℕ) (mask n : ℕ) → Bytes b → Words ws → joined 64 (picked b at ws mask) n ≡ common (setAt b at n) (maskAt ws mask n)
+pub picked-all : (b : List ℕ) (at : ℕ) (ws : List ℕ) (mask n : ℕ) → Bytes b → Words ws
+    → joined 64 (picked b at ws mask) n ≡ common (setAt b at n) (maskAt ws mask n)
 unfolding maskAt common
 picked-all b at ws mask n h w =
-    joined-common 64 (wordAt b at) (λ (j : ℕ). getD ws (mask + j) 0) (picked b at ws mask) (word-fits b h at) (λ j. w (mask + j)) (picked-fits b at ws mask h) (λ j. refl) n
+    joined-common 64 (wordAt b at) (λ (j : ℕ). getD ws (mask + j) 0) (picked b at ws mask) (word-fits b h at) (λ j. w (mask + j)) (picked-fits b at ws mask h)
+    (λ j. refl) n
     ∙ ap (λ (x : ℕ). common x (maskAt ws mask n)) (sym (set-words b n at))
 
 -- ---- from word to word
 
 module _ (f : ℕ → ℕ) (fits : Fit 64 f) (n from : ℕ) where
   pub row-of : (j i : ℕ) → j < n → i < 64 → mem (64 * j + i) (joined 64 f n) ≡ mem i (f j)
-  row-of j i l b = ap (λ (x : ℕ). mem x (joined 64 f n)) (sym (place-64 j i)) ∙ mem-joined 64 f fits n j i l b
+  row-of j i l b = ap (λ (x : ℕ). mem x (joined 64 f n)) (sym (place-row 64 j i)) ∙ mem-joined 64 f fits n j i l b
 
 -- no row is beyond the words
 pub joined-beyond : (n : ℕ) (f : ℕ → ℕ) → Fit 64 f → (k : ℕ) → 64 * n ≤ k → mem k (joined 64 f n) ≡ false

@@ -1,10 +1,12 @@
--- What is left of a set while its rows are gone through, word by word and from the lowest row of a word up: nothing of the words before word j, m of word j, and the words after.
+-- What is left of a set while its rows are gone through, word by word and from the lowest row of a word up: nothing of the words before word j, m of
+-- word j, and the words after.
 --
--- A loop over the rows of n words, one of words around one of rows, keeps `left f j m n` as the set that is left: so it is a loop by `Lowest` and `Rest` of one set, as over one word.
+-- A loop over the rows of n words, one of words around one of rows, keeps `left f j m n` as the set that is left: so it is a loop by `Lowest` and
+-- `Rest` of one set, as over one word.
 -- In order: it begins with the whole set; from one word to the next nothing changes; the lowest row; the rest; the end.
-use mathlib.Core.Path.{_≡_, refl, sym, ap, ap₂, _∙_}
-use mathlib.Core.Bool.{Bool, true, false, cond}
-use Prim.Native.Nat.{ℕ, zero, suc, _+_, _-_, _*_, _^_, _≤_, _<_}
+use mathlib.Core.Path.{_≡_, refl, sym, ap, _∙_}
+use mathlib.Core.Bool.{Bool, cond}
+use Prim.Native.Nat.{ℕ, suc, _+_, _-_, _^_, _≤_, _<_}
 use native.Mathlib.Decide.{ℕ-discrete}
 use native.Mathlib.Omega.{arith}
 use lib.Dec.{eqb, ltb}

@@ -10,7 +10,7 @@ use Rattle.concepts.specs.RowSetLaws.{insert-lt}
 use Rattle.words.specs.Words.{leAt, putLe}
 use Rattle.words.specs.WordLaws.{putLe-one}
 use Rattle.rowset.specs.Joined.{joined, place}
-use Rattle.rowset.specs.JoinedLaws.{joined-same, joined-insert, joined-without}
+use Rattle.rowset.specs.JoinedLaws.{place-row, joined-same, joined-insert, joined-without}
 use Rattle.rowset.specs.ByteLaws.{Bytes}
 use Rattle.rowset.specs.WholeLaws.{putLe-bytes, put-between}
 
@@ -29,17 +29,11 @@ number-bytes b (suc n) at =
     joined-same 8 (λ (j : ℕ). byteAt b at (suc j)) (byteAt b (suc at)) n (λ j _. ap (λ (i : ℕ). getD b i 0) (omega arith)) in
     omega (arith, here, rest, number-bytes b n (suc at))
 
--- row i of byte j
-place-8 : (j i : ℕ) → place 8 j i ≡ 8 * j + i
-unfolding place
-place-8 zero i = omega arith
-place-8 (suc j) i = ap (λ (x : ℕ). 8 + x) (place-8 j i) ∙ omega arith
-
 -- ---- the byte that has row k
 
 module _ (b : List ℕ) (h : Bytes b) (at k n : ℕ) (l : k < 8 * n) (room : at + n ≤ length b) where
   row-place : place 8 (k / 8) (k % 8) ≡ k
-  row-place = place-8 (k / 8) (k % 8) ∙ omega arith
+  row-place = place-row 8 (k / 8) (k % 8) ∙ omega arith
 
   stored-bytes : (v : ℕ) → v < 256 → Bytes (set b (at + k / 8) v)
   stored-bytes v small = rw (putLe-one b (at + k / 8) v small) at (putLe-bytes b h (at + k / 8) 1 v)

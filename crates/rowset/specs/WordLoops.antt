@@ -16,7 +16,7 @@ use Rattle.concepts.specs.RowSetLaws.{mem-minus}
 use Rattle.concepts.specs.Lowest.{Lowest}
 use Rattle.concepts.specs.LowestLaws.{trailing-lowest, rest-lowest, rest-lt}
 use Rattle.rowset.specs.Joined.{joined, Fit}
-use Rattle.rowset.specs.JoinedLaws.{place-64}
+use Rattle.rowset.specs.JoinedLaws.{place-row}
 use Rattle.rowset.specs.Pending.{left, left-whole, left-next, left-none, left-lowest, left-rest}
 
 -- the rows of n words are gone through: the words before word j are passed, m is left of word j, and P holds of all that is left
@@ -63,7 +63,7 @@ pub lowest-of-word : {f : ℕ → ℕ} → Fit 64 f → {n : ℕ} {P : RowSet �
 lowest-of-word {f} fits {n} j m h d l =
     let some : 0 < m = elim (ℕ-discrete m 0) [ yes z ↦ absurd (d z) | no z ↦ omega arith ] in
     let (first, b) = trailing-lowest 64 m some (l .small) in
-    let e = place-64 j (trailingZeros 64 m) in
+    let e = place-row 64 j (trailingZeros 64 m) in
     let k = rowAt j m in
     let s = left 64 f j m n in
     let small : bitAnd m (m - 1) < 2 ^ 64 = omega (arith, and-le-l m (m - 1), l .small) in

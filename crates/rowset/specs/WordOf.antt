@@ -1,17 +1,17 @@
 -- Word j of a set, 64 of its rows: the set is its words joined (`joined-words`), a row joins it by its word (`word-insert`), and so do the rows of a list.
 use mathlib.Core.Path.{_≡_, sym, ap, ap₂, _∙_}
-use mathlib.Core.Bool.{Bool, true, false, _||_, cond}
+use mathlib.Core.Bool.{Bool, true, false, _&&_, _||_, cond}
 use mathlib.Core.List.{List}
 use Prim.Native.Nat.{ℕ, zero, suc, _+_, _-_, _*_, _/_, _%_, _^_, _≤_, _<_}
 use native.Mathlib.Nat.{mod-lt, zero-div, div-div-eq-div-mul}
 use native.Mathlib.Numerals.{add-one}
-use native.Mathlib.Decide.{ℕ-discrete}
+use native.Mathlib.Decide.{ℕ-discrete, decLt}
 use native.Mathlib.Omega.{arith}
-use lib.Dec.{eqb, not-T}
+use lib.Dec.{eqb, ltb, not-T}
 use lib.ListN.{length, getD, drop, drop-of-length-le}
 use lib.Seq.{drop-cons}
 use lib.Pow.{pow-add, pow-pos}
-use borrow.Author.Tests.{eq-eqb, ne-eqb}
+use borrow.Author.Tests.{eq-eqb, ne-eqb, lt-ltb, le-ltb}
 use Rattle.concepts.specs.Tests.{as-false}
 use Rattle.concepts.specs.RowSet.{RowSet, mem, empty, single, union, insert, fromList}
 use Rattle.concepts.specs.RowSetLaws.{mem-empty, mem-single, mem-union, mem-insert, mem-lt, union-lt, single-lt, union-empty, union-assoc, set-ext}
@@ -29,6 +29,9 @@ pub word-empty : (j : ℕ) → wordOf empty j ≡ empty
 unfolding wordOf
 word-empty j = ap (λ (x : ℕ). x % 2 ^ 64) (zero-div (2 ^ (64 * j)))
 
+beyond : (x i : ℕ) → x < 2 ^ 64 → 64 ≤ i → mem i x ≡ false
+beyond x i h b = as-false (mem i x) (not-T (mem i x) (λ t. omega (arith, mem-lt 64 i x h t)))
+
 mem-above : (s : RowSet) (p i : ℕ) → mem i (s / 2 ^ p) ≡ mem (p + i) s
 unfolding mem
 mem-above s p i = ap (λ (x : ℕ). eqb (x % 2) 1) (div-div-eq-div-mul s (2 ^ p) (2 ^ i) ∙ ap (λ (x : ℕ). s / x) (sym (pow-add 2 p i)))
@@ -40,6 +43,13 @@ mem-word s j i h =
     let x : ℕ = s / 2 ^ (64 * j) in
     let e : x / 2 ^ 64 * 2 ^ 64 + x % 2 ^ 64 ≡ x = omega arith in
     sym (mem-low 64 i (x / 2 ^ 64) (x % 2 ^ 64) h) ∙ ap (mem i) e ∙ mem-above s (64 * j) i
+
+-- and a word has no other
+pub mem-words : (s : RowSet) (j i : ℕ) → mem i (wordOf s j) ≡ (ltb i 64 && mem (64 * j + i) s)
+mem-words s j i = elim (decLt i 64) [
+  | yes l ↦ mem-word s j i l ∙ ap (λ (x : Bool). x && mem (64 * j + i) s) (sym (lt-ltb i 64 l))
+  | no l ↦ beyond (wordOf s j) i (word-fit s j) (omega arith) ∙ ap (λ (x : Bool). x && mem (64 * j + i) s) (sym (le-ltb i 64 (omega arith)))
+]
 
 -- ---- all words
 
@@ -82,9 +92,6 @@ word-insert s j k = set-ext (wordOf (insert k s) j) (union row (wordOf s j)) (λ
         by : (x : Bool) → cond x (single (k % 64)) empty < 2 ^ 64
         by true = single-lt 64 (k % 64) (omega arith)
         by false = pow-pos 64
-
-    beyond : (x i : ℕ) → x < 2 ^ 64 → 64 ≤ i → mem i x ≡ false
-    beyond x i h b = as-false (mem i x) (not-T (mem i x) (λ t. omega (arith, mem-lt 64 i x h t)))
 
     here : (i : ℕ) → i < 64 → mem i row ≡ eqb (64 * j + i) k
     here i h = elim (ℕ-discrete (k / 64) j) [

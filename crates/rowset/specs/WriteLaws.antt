@@ -5,17 +5,14 @@ use Prim.Native.Nat.{ℕ, zero, suc, _+_, _-_, _*_, _/_, _%_, _^_, _≤_, _<_}
 use lib.Pow.{pow-add}
 use native.Mathlib.Nat.{pow-suc, mul-comm, mul-assoc, div-div-eq-div-mul}
 use native.Mathlib.Omega.{arith}
-use mathlib.Core.Bool.{true, false}
 use lib.Arith.{digits-div}
-use lib.Bits.{bitAnd, and-le-l}
-use lib.Dec.{eqb}
 use lib.ListN.{length, getD, set}
 use Rattle.concepts.specs.RowSet.{union, minus}
 use Rattle.concepts.specs.RowSetLaws.{union-lt}
-use Rattle.words.specs.Words.{leAt, putLe}
+use Rattle.words.specs.Words.{putLe}
 use Rattle.words.specs.WordLaws.{length-putLe, leAt-putLe}
 use Rattle.rowset.specs.Joined.{joined, Fit, lowWord, wordAt, setAt, putWords, maskAt}
-use Rattle.rowset.specs.JoinedLaws.{joined-union, joined-minus, joined-none, joined-true, joined-false}
+use Rattle.rowset.specs.JoinedLaws.{joined-union, joined-minus, joined-none}
 use Rattle.rowset.specs.ByteLaws.{Bytes, leAt-lt, set-words, word-fits, word-kept}
 
 -- the low m bytes and the n above them
@@ -142,16 +139,6 @@ module _ (b c : List ℕ) (hb : Bytes b) (hc : Bytes c) (at there n : ℕ) where
   pub set-minus : at + 8 * n ≤ length b → setAt (putLe b at (8 * n) (minus (setAt b at n) (setAt c there n))) at n ≡ minus (setAt b at n) (setAt c there n)
   unfolding minus
   set-minus room = set-put b at n (minus (setAt b at n) (setAt c there n)) room (omega (arith, set-fits b hb at n))
-
-  pub sets-within : ((j : ℕ) → j < n → bitAnd (wordAt b at j) (wordAt c there j) ≡ wordAt b at j) → eqb (minus (setAt b at n) (setAt c there n)) 0 ≡ true
-  unfolding lacked minus
-  sets-within e = ap (λ (x : ℕ). eqb x 0) (sym lacked-all) ∙ joined-true 64 lacked n (λ j l. omega (arith, e j l))
-
-  pub sets-beyond : (j : ℕ) → j < n → (bitAnd (wordAt b at j) (wordAt c there j) ≡ wordAt b at j → ⊥) → eqb (minus (setAt b at n) (setAt c there n)) 0 ≡ false
-  unfolding lacked minus
-  sets-beyond j l d =
-      ap (λ (x : ℕ). eqb x 0) (sym lacked-all)
-      ∙ joined-false 64 lacked lacked-fits n j l (λ z. d (omega (arith, and-le-l (wordAt b at j) (wordAt c there j))))
 
 -- ---- a set and a mask
 

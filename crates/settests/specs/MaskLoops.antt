@@ -31,33 +31,33 @@ pub record Reading (w : List ℕ) (p : Concept → Bool) (mask : ℕ) (b : List 
   pub room : at + setSize ≤ length b
 
 -- word j of their rows
-abbrev pub wordOf : List ℕ → ℕ → List ℕ → ℕ → ℕ → ℕ
-wordOf w mask b at = picked b at w mask
+abbrev pub commonWord : List ℕ → ℕ → List ℕ → ℕ → ℕ → ℕ
+commonWord w mask b at = picked b at w mask
 
 -- the rows that are left, m of word j and the words after
 abbrev pub leftOver : List ℕ → ℕ → List ℕ → ℕ → ℕ → ℕ → RowSet
-leftOver w mask b at j m = left 64 (wordOf w mask b at) j m (usedOf w)
+leftOver w mask b at j m = left 64 (commonWord w mask b at) j m (usedOf w)
 
 -- P holds of them
 pub record Loop (w : List ℕ) (p : Concept → Bool) (mask : ℕ) (b : List ℕ) (at : ℕ) (P : RowSet → Type 0) (j m : ℕ) : Type 0 where
   pub reading : Reading w p mask b at
-  pub midway : Midway (wordOf w mask b at) (usedOf w) P j m
+  pub midway : Midway (commonWord w mask b at) (usedOf w) P j m
 
 module _ {w : List ℕ} {p : Concept → Bool} {mask : ℕ} {b : List ℕ} {at : ℕ} where
   -- all rows, by words
   module _ (r : Reading w p mask b at) where
-    fits : Fit 64 (wordOf w mask b at)
+    fits : Fit 64 (commonWord w mask b at)
     fits = picked-fits b at w mask (r .bytes)
 
-    all : joined 64 (wordOf w mask b at) (usedOf w) ≡ common (setOf b at) (maskOf w mask)
+    all : joined 64 (commonWord w mask b at) (usedOf w) ≡ common (setOf b at) (maskOf w mask)
     all = picked-all b at w mask (usedOf w) (r .bytes) (r .words) ∙ mask-in-use (r .masking) (r .decoded) (r .words) b (r .bytes) at
 
   module _ {P : RowSet → Type 0} where
-    pub loop-begins : Reading w p mask b at → P (common (setOf b at) (maskOf w mask)) → Loop w p mask b at P 0 (wordOf w mask b at 0)
+    pub loop-begins : Reading w p mask b at → P (common (setOf b at) (maskOf w mask)) → Loop w p mask b at P 0 (commonWord w mask b at 0)
     loop-begins r h = record { reading = r; midway = midway-begins (fits r) (subst P (sym (all r)) h) }
 
     module _ {j m : ℕ} (l : Loop w p mask b at P j m) where
-      pub loop-passes : m ≡ 0 → Loop w p mask b at P (j + 1) (wordOf w mask b at (j + 1))
+      pub loop-passes : m ≡ 0 → Loop w p mask b at P (j + 1) (commonWord w mask b at (j + 1))
       loop-passes z = record { reading = l .reading; midway = midway-passes (fits (l .reading)) j m z (l .midway) }
 
       pub loop-ends : usedOf w ≤ j → P empty
@@ -69,7 +69,7 @@ module _ {w : List ℕ} {p : Concept → Bool} {mask : ℕ} {b : List ℕ} {at :
 
       -- the next row, which is the lowest of them
       pub record NextRow : Type 0 where
-        pub lowest : LowestOfWord (wordOf w mask b at) (usedOf w) j m
+        pub lowest : LowestOfWord (commonWord w mask b at) (usedOf w) j m
         pub below : rowAt j m < countOf w
         pub inside : rowAt j m < length (tableOf w)
         pub passes : p (conceptAt (tableOf w) (rowAt j m)) ≡ true

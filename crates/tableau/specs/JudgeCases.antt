@@ -10,7 +10,8 @@ use Rattle.procedure.specs.Status.{Status}
 use Rattle.procedure.specs.Graph.{toState, Graph, reached, nodeAt, setStatus}
 use Rattle.procedure.specs.GraphLaws.{Child}
 use Rattle.procedure.specs.Tableau.{Put, judgeLinked, judgeBranch, judgeState, judge}
-use Rattle.procedure.specs.TableauLaws.{judge-linked, judge-lapsed, judge-state, judge-branch, linked-sat, linked-unsat, linked-unset, linked-open, linked-toosmall}
+use Rattle.procedure.specs.TableauLaws.{judge-linked, judge-lapsed, judge-state, judge-branch, linked-sat, linked-unsat}
+use Rattle.procedure.specs.TableauLaws.{linked-unset, linked-open, linked-toosmall}
 use Rattle.procedure.proofs.Bare.{bare}
 use Rattle.procedure.proofs.Setting.{Setting}
 use Rattle.procedure.proofs.Invariant.{LinkShape}
@@ -76,10 +77,12 @@ module _ {ws : List ℕ} {n e a : Bytes} {c : Counts} {x : ℕ} (A : JudgeAsks w
     pub judge-lapses : v .link ≡ Link.Lapsed → {n′ : Bytes} → JudgesAs n n′ e c (judgeBranch x) → JudgeGives ws (work n e a) c x (Done c) (work n′ e a)
     judge-lapses q J = nodes-only (judgeBranch x) (λ put. judge-lapsed put x g (linked-as q)) (J a (A .held))
 
-    pub judge-states : v .link ≡ Link.None → v .«is_state» ≡ true → {n′ : Bytes} → JudgesAs n n′ e c (judgeState x) → JudgeGives ws (work n e a) c x (Done c) (work n′ e a)
+    pub judge-states : v .link ≡ Link.None → v .«is_state» ≡ true → {n′ : Bytes} → JudgesAs n n′ e c (judgeState x)
+        → JudgeGives ws (work n e a) c x (Done c) (work n′ e a)
     judge-states q k J = nodes-only (judgeState x) (λ put. judge-state put x g (linked-as q) (kind k)) (J a (A .held))
 
-    pub judge-branches : v .link ≡ Link.None → v .«is_state» ≡ false → {n′ : Bytes} → JudgesAs n n′ e c (judgeBranch x) → JudgeGives ws (work n e a) c x (Done c) (work n′ e a)
+    pub judge-branches : v .link ≡ Link.None → v .«is_state» ≡ false → {n′ : Bytes} → JudgesAs n n′ e c (judgeBranch x)
+        → JudgeGives ws (work n e a) c x (Done c) (work n′ e a)
     judge-branches q k J = nodes-only (judgeBranch x) (λ put. judge-branch put x g (linked-as q) (kind k)) (J a (A .held))
 
 -- ---- a node x that is linked to state y
@@ -88,7 +91,8 @@ module _ {ws : List ℕ} {n e a : Bytes} {c : Counts} {x y : ℕ} (A : LinkedAsk
   pub linked-there : y < c .nodes
   linked-there =
       let B = A .judge in
-      let L : LinkShape (S B) (g B) (nodeAt (g B) x) (toState y) = subst (λ (k : G.Link). LinkShape (S B) (g B) (nodeAt (g B) x) k) (A .link) (B .fit .fit .inv .fact x (B .fit .there) .link) in
+      let L : LinkShape (S B) (g B) (nodeAt (g B) x) (toState y) =
+      subst (λ (k : G.Link). LinkShape (S B) (g B) (nodeAt (g B) x) k) (A .link) (B .fit .fit .inv .fact x (B .fit .there) .link) in
       omega (arith, L .1 .there, count-nodes (work n e a) c)
 
   pub linked-fits : Fits nodeSize n y
@@ -102,29 +106,37 @@ module _ {ws : List ℕ} {n e a : Bytes} {c : Counts} {x y : ℕ} (A : LinkedAsk
     status : {q : DStatus.Status} → v .status ≡ q → nodeAt (g (A .judge)) y .status ≡ statusOf q
     status h = ap (λ (u : G.Node). u .status) (graph-node (work n e a) c y linked-there ∙ sym loaded) ∙ ap statusOf h
 
-    takes : (q r : DStatus.Status) → ((put : Put) → judgeLinked put x y (statusOf q) (g (A .judge)) ≡ reached (setStatus x (statusOf r) (g (A .judge)))) → v .status ≡ q
+    takes : (q r : DStatus.Status) → ((put : Put) → judgeLinked put x y (statusOf q) (g (A .judge)) ≡ reached (setStatus x (statusOf r) (g (A .judge))))
+        → v .status ≡ q
         → {n′ : Bytes} → ChangesNodes n n′ c (setStatus x (statusOf r)) → JudgeGives ws (work n e a) c x (Done c) (work n′ e a)
     takes q r h k C = nodes-only (A .judge) (setStatus x (statusOf r))
-        (λ put. judge-linked put x (g (A .judge)) y (A .link) ∙ ap (λ (u : Status). judgeLinked put x y u (g (A .judge))) (status k) ∙ h put) (C e a (A .judge .held))
+        (λ put. judge-linked put x (g (A .judge)) y (A .link) ∙ ap (λ (u : Status). judgeLinked put x y u (g (A .judge))) (status k) ∙ h put)
+        (C e a (A .judge .held))
 
-    pub takes-sat : v .status ≡ Is.Sat → {n′ : Bytes} → ChangesNodes n n′ c (setStatus x (statusOf Is.Sat)) → JudgeGives ws (work n e a) c x (Done c) (work n′ e a)
+    pub takes-sat : v .status ≡ Is.Sat → {n′ : Bytes} → ChangesNodes n n′ c (setStatus x (statusOf Is.Sat))
+        → JudgeGives ws (work n e a) c x (Done c) (work n′ e a)
     takes-sat = takes Is.Sat Is.Sat (λ put. linked-sat put x y _)
 
-    pub takes-unsat : v .status ≡ Is.Unsat → {n′ : Bytes} → ChangesNodes n n′ c (setStatus x (statusOf Is.Unsat)) → JudgeGives ws (work n e a) c x (Done c) (work n′ e a)
+    pub takes-unsat : v .status ≡ Is.Unsat → {n′ : Bytes} → ChangesNodes n n′ c (setStatus x (statusOf Is.Unsat))
+        → JudgeGives ws (work n e a) c x (Done c) (work n′ e a)
     takes-unsat = takes Is.Unsat Is.Unsat (λ put. linked-unsat put x y _)
 
-    pub takes-unset : v .status ≡ Is.Unset → {n′ : Bytes} → ChangesNodes n n′ c (setStatus x (statusOf Is.Open)) → JudgeGives ws (work n e a) c x (Done c) (work n′ e a)
+    pub takes-unset : v .status ≡ Is.Unset → {n′ : Bytes} → ChangesNodes n n′ c (setStatus x (statusOf Is.Open))
+        → JudgeGives ws (work n e a) c x (Done c) (work n′ e a)
     takes-unset = takes Is.Unset Is.Open (λ put. linked-unset put x y _)
 
-    pub takes-open : v .status ≡ Is.Open → {n′ : Bytes} → ChangesNodes n n′ c (setStatus x (statusOf Is.Open)) → JudgeGives ws (work n e a) c x (Done c) (work n′ e a)
+    pub takes-open : v .status ≡ Is.Open → {n′ : Bytes} → ChangesNodes n n′ c (setStatus x (statusOf Is.Open))
+        → JudgeGives ws (work n e a) c x (Done c) (work n′ e a)
     takes-open = takes Is.Open Is.Open (λ put. linked-open put x y _)
 
     pub linked-small : v .status ≡ Is.TooSmall → SmallAsks ws (work n e a) c x y
     linked-small q = record { linked = A; small = status q }
 
 -- its state is small
-pub small-judges : {ws : List ℕ} {w : Work} {c : Counts} {x y : ℕ} → SmallAsks ws w c x y → {r : Step} {w′ : Work} → SmallGives ws w c x y r w′ → JudgeGives ws w c x r w′
+pub small-judges : {ws : List ℕ} {w : Work} {c : Counts} {x y : ℕ} → SmallAsks ws w c x y → {r : Step} {w′ : Work} → SmallGives ws w c x y r w′
+    → JudgeGives ws w c x r w′
 small-judges {ws} {w} {c} {x} {y} A G f few =
     let put : Put = puts ws f (capacityOf w) in
     refines-as (G f few)
-    (judge-linked put x (graphOf w c) y (A .linked .link) ∙ ap (λ (u : Status). judgeLinked put x y u (graphOf w c)) (A .small) ∙ linked-toosmall put x y (graphOf w c))
+    (judge-linked put x (graphOf w c) y (A .linked .link) ∙ ap (λ (u : Status). judgeLinked put x y u (graphOf w c)) (A .small)
+    ∙ linked-toosmall put x y (graphOf w c))

@@ -1,6 +1,7 @@
 -- The cases of put, on plain values.
 --
--- In order: the places (`Finished`, `Weighed`, `Complete`, `Linked`); a node with no status or never; a lapsed special node; a linked one; its judgement, and its edge.
+-- In order: the places (`Finished`, `Weighed`, `Complete`, `Linked`); a node with no status or never; a lapsed special node; a linked one; its
+-- judgement, and its edge.
 use mathlib.Core.Path.{_≡_, sym, ap, _∙_, subst}
 use mathlib.Core.Bool.{Bool, true, false, not}
 use mathlib.Core.List.{List}
@@ -18,9 +19,9 @@ use Rattle.procedure.specs.Status.{unset, unsat}
 use Rattle.procedure.specs.Problem.{Problem}
 use Rattle.procedure.specs.SetTests.{clash, unfinished, lacking}
 use Rattle.procedure.specs.SetTestLaws.{lacking-no-role}
-use Rattle.procedure.specs.Graph.{unlinked, Node, Graph, Capacity, Result, _>>=_, addEdge, nodeAt, nodeCount}
+use Rattle.procedure.specs.Graph.{Node, Graph, Capacity, Result, _>>=_, addEdge, nodeAt, nodeCount}
 use Rattle.procedure.specs.GraphLaws.{Sure, Child}
-use Rattle.procedure.specs.Tableau.{below, linkSpecial, judge}
+use Rattle.procedure.specs.Tableau.{linkSpecial, judge}
 use Rattle.procedure.specs.TableauLaws.{put-clash, put-unfinished, put-lapsed, put-linked}
 use Rattle.procedure.proofs.Bare.{bare}
 use Rattle.procedure.proofs.Setting.{Setting}
@@ -140,8 +141,10 @@ module _ {ws : List ℕ} {n e a : Bytes} {c : Counts} {m p ρ : ℕ} {s : RowSet
 
 -- ---- a finished set
 
-module _ {ws : List ℕ} {n e a : Bytes} {c : Counts} {m p ρ : ℕ} {s : RowSet} {A : PutAsks ws (work n e a) c m p ρ s} {ι : ℕ} {b : Bool} (W : Weighed A ι b) where
-  pub put-lapses : b ≡ true → {l : RowSet} → l ≡ lacking (P A) s ι (setOf n (nodeSize * p)) → {w′ : Work} {r : Step} → Refines (work n e a) c r w′ (addLapsed m p ρ s l)
+module _ {ws : List ℕ} {n e a : Bytes} {c : Counts} {m p ρ : ℕ} {s : RowSet} {A : PutAsks ws (work n e a) c m p ρ s} {ι : ℕ} {b : Bool}
+    (W : Weighed A ι b) where
+  pub put-lapses : b ≡ true → {l : RowSet} → l ≡ lacking (P A) s ι (setOf n (nodeSize * p)) → {w′ : Work} {r : Step}
+      → Refines (work n e a) c r w′ (addLapsed m p ρ s l)
       → PutGives ws (work n e a) c m p ρ s r w′
   put-lapses q hl {w′} {r} B = fueled A (λ f few.
       refines-as (subst (λ (x : RowSet). Refines (w A) c r w′ (addLapsed m p ρ s x)) (hl ∙ W .turned) B)
@@ -166,14 +169,16 @@ module _ {ws : List ℕ} {n e a : Bytes} {c : Counts} {m p ρ : ℕ} {s : RowSet
 
   module _ {n₁ e₁ : Bytes} {r₁ : Step} (L : AddsBelow n n₁ e e₁ c r₁ (λ k h. linkSpecial k p ρ s h)) where
     pub put-link-short : {x : Area} → r₁ ≡ Full x → PutGives ws (work n e a) c m p ρ s (Full x) (work n₁ e₁ a)
-    put-link-short er = fueled A (λ f few. refines-as (refines-short (refines-short (refines-answer (L a (A .held)) er) (judging f) sized-refl) closing sized-refl) (put-is f))
+    put-link-short er =
+        fueled A (λ f few. refines-as (refines-short (refines-short (refines-answer (L a (A .held)) er) (judging f) sized-refl) closing sized-refl) (put-is f))
 
     pub put-links : {c₁ : Counts} → r₁ ≡ Done c₁ → Linked A (work n₁ e₁ a) c₁
     put-links er = record { complete = K; gives = refines-answer (L a (A .held)) er }
 
 -- ---- the special node is made: its judgement, and its edge
 
-module _ {ws : List ℕ} {n e a : Bytes} {c : Counts} {m p ρ : ℕ} {s : RowSet} {A : PutAsks ws (work n e a) c m p ρ s} {w₁ : Work} {c₁ : Counts} (L : Linked A w₁ c₁) where
+module _ {ws : List ℕ} {n e a : Bytes} {c : Counts} {m p ρ : ℕ} {s : RowSet} {A : PutAsks ws (work n e a) c m p ρ s} {w₁ : Work} {c₁ : Counts}
+    (L : Linked A w₁ c₁) where
   abbrev g₁ : Graph
   g₁ = graphOf w₁ c₁
 
@@ -185,7 +190,8 @@ module _ {ws : List ℕ} {n e a : Bytes} {c : Counts} {m p ρ : ℕ} {s : RowSet
       let B = A .fit .pre in
       let K = L .complete in
       subst (λ (r : Result). Sure (Started S Anyone (g A) p ρ s) r) (sym (L .gives .meets))
-      (special-started S Anyone (g A) p ρ s (A .fit .fit .inv) (B .place) (eqb→eq (lacked A) empty (from-true (eqb (lacked A) empty) (K .nothing))) (anyone-quiet S (g A)) (B .standing) (B .rules)
+      (special-started S Anyone (g A) p ρ s (A .fit .fit .inv) (B .place) (eqb→eq (lacked A) empty (from-true (eqb (lacked A) empty) (K .nothing)))
+      (anyone-quiet S (g A)) (B .standing) (B .rules)
       (from-false (clash (P A) s) (K .finished .clean)) (from-false (unfinished (P A .table) s) (K .finished .finished)))
 
   -- the judgement of the new node may rely on this

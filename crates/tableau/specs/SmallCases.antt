@@ -25,11 +25,12 @@ use Rattle.rowset.specs.Widths.{setOf}
 use Rattle.problem.specs.Decoded.{problemOf}
 use Rattle.records.specs.Areas.{Bytes, roomOf}
 use Rattle.records.specs.Records.{nodeOf, IsNode}
-use Rattle.graph.specs.Graphs.{Work, work, graphOf, capacityOf, Held, Sized, Refines, Changes, ChangesNodes, WithAlternatives}
+use Rattle.graph.specs.Graphs.{Work, work, graphOf, capacityOf, Sized, Refines, Changes, ChangesNodes, WithAlternatives}
 use Rattle.graph.specs.Graphs.{alternativesFrom, AmongAlternatives, Walks, IsNextAlternative}
 use Rattle.graph.specs.GraphLaws.{sized-refl, sized-trans, sized-places, count-nodes, graph-node, graph-set, held-most, held-set, held-alternative}
 use Rattle.graph.specs.SearchLaws.{alternatives-all, alternatives-kept, among-alternatives-same, next-alternative-same}
-use Rattle.graph.specs.RefineLaws.{refines-answer, refines-as, refines-short, refines-changes, changes-both, Course, course-start, course-next, course-short, course-end}
+use Rattle.graph.specs.RefineLaws.{refines-answer, refines-as, refines-short, refines-changes, changes-both}
+use Rattle.graph.specs.RefineLaws.{Course, course-start, course-next, course-short, course-end}
 use Rattle.graph.specs.declared.NextAlternative.{NextAlternative}
 use Rattle.graph.specs.declared.NextAlternative.the-variants as Next
 use Rattle.records.specs.declared.Node as D
@@ -72,26 +73,31 @@ module _ {ws : List ℕ} {w : Work} {c : Counts} {z y : ℕ} (A : SmallAsks ws w
   -- the invariant of the correctness proof, with these alternatives left
   abbrev Alternates : List RowSet → Graph → Type 0
   Alternates todo h =
-      Alternated S (putWithin P (capacityOf w) k) k (within-right S k) Anyone g z y (J .fit .inv) (J .there) (A .linked .link) (J .live) (J .edge y (A .linked .link)) (omega arith) everyone todo h
+      Alternated S (putWithin P (capacityOf w) k) k (within-right S k) Anyone g z y (J .fit .inv) (J .there) (A .linked .link) (J .live)
+      (J .edge y (A .linked .link)) (omega arith) everyone todo h
 
   none-yet : Alternates (alternativesOf g y) g
   none-yet =
-      alternated-none S (putWithin P (capacityOf w) k) k (within-right S k) Anyone g z y (J .fit .inv) (J .there) (A .linked .link) (J .live) (J .edge y (A .linked .link)) (omega arith) everyone
+      alternated-none S (putWithin P (capacityOf w) k) k (within-right S k) Anyone g z y (J .fit .inv) (J .there) (A .linked .link) (J .live)
+      (J .edge y (A .linked .link)) (omega arith) everyone
 
   module _ (b : RowSet) (todo : List RowSet) (h : Graph) (alternates : Alternates (b ∷ todo) h) where
     pre : PutPre S (λ x. Anyone x ⊎ (x ≡ z)) h z (nodeAt g z .pst) (nodeAt g z .prl) (joined b)
     pre =
-        alternate-pre S (putWithin P (capacityOf w) k) k (within-right S k) Anyone g z y (J .fit .inv) (J .there) (A .linked .link) (J .live) (J .edge y (A .linked .link)) (omega arith) everyone
+        alternate-pre S (putWithin P (capacityOf w) k) k (within-right S k) Anyone g z y (J .fit .inv) (J .there) (A .linked .link) (J .live)
+        (J .edge y (A .linked .link)) (omega arith) everyone
         b todo h alternates
 
     fewer : lacks ws (joined b) < k
     fewer =
-        alternate-fewer S (putWithin P (capacityOf w) k) k (within-right S k) Anyone g z y (J .fit .inv) (J .there) (A .linked .link) (J .live) (J .edge y (A .linked .link)) (omega arith) everyone
+        alternate-fewer S (putWithin P (capacityOf w) k) k (within-right S k) Anyone g z y (J .fit .inv) (J .there) (A .linked .link) (J .live)
+        (J .edge y (A .linked .link)) (omega arith) everyone
         b todo h alternates
 
     one-less : (u : Graph) → reached u ≡ step k (capacityOf w) b h → Alternates todo u
     one-less u q =
-        alternate-done S (putWithin P (capacityOf w) k) k (within-right S k) Anyone g z y (J .fit .inv) (J .there) (A .linked .link) (J .live) (J .edge y (A .linked .link)) (omega arith) everyone
+        alternate-done S (putWithin P (capacityOf w) k) k (within-right S k) Anyone g z y (J .fit .inv) (J .there) (A .linked .link) (J .live)
+        (J .edge y (A .linked .link)) (omega arith) everyone
         b todo h alternates u
         (subst (λ (r : Result). Sure (PutPost S (λ x. Anyone x ⊎ (x ≡ z)) h z (nodeAt g z .pst) (nodeAt g z .prl) (joined b)) r) (sym q)
         (within-right S k (λ x. Anyone x ⊎ (x ≡ z)) h z (nodeAt g z .pst) (nodeAt g z .prl) (joined b) (alternates .inv) (alternates .quiet) pre fewer))
@@ -186,7 +192,8 @@ module _ {ws : List ℕ} {w : Work} {c : Counts} {z y : ℕ} {n′ e′ a′ : B
 
     pub turn-judges : Judges n₁ e′ d z
     turn-judges =
-        let q : children (graphOf (work n₁ e′ a′) d) z ≡ children h z = children-edges (graphOf (work n₁ e′ a′) d) h (ap (λ (u : Graph). u .edges) (C .meets)) z in
+        let q : children (graphOf (work n₁ e′ a′) d) z ≡ children h z =
+        children-edges (graphOf (work n₁ e′ a′) d) h (ap (λ (u : Graph). u .edges) (C .meets)) z in
         let inside : (v : ℕ) → Child h z v → v < d .nodes = λ v m. omega (arith, t .alternates .inv .ends z v m .1, count-nodes (work n′ e′ a′) d) in
         record { alternatives = a′; held = C .held; node = there; inside = λ v m. inside v (subst (λ (l : List ℕ). List·Memᴰ v l) q m) }
 
@@ -198,7 +205,8 @@ module _ {ws : List ℕ} {w : Work} {c : Counts} {z y : ℕ} {n′ e′ a′ : B
 
 -- ---- the next alternative
 
-module _ {ws : List ℕ} {n e a : Bytes} {c : Counts} {z y : ℕ} {n′ e′ a′ : Bytes} {d : Counts} {i : ℕ} {t : AlternativesPut ws (work n e a) c z y (work n′ e′ a′) d i} {j : ℕ} {b : RowSet}
+module _ {ws : List ℕ} {n e a : Bytes} {c : Counts} {z y : ℕ} {n′ e′ a′ : Bytes} {d : Counts} {i : ℕ}
+    {t : AlternativesPut ws (work n e a) c z y (work n′ e′ a′) d i} {j : ℕ} {b : RowSet}
     (p : Chosen t j b) where
   pub turn-index : j + 1 ≤ mostRecords
   turn-index = omega (arith, p .below, held-most (A t .linked .judge .held) .2)
@@ -226,8 +234,10 @@ module _ {ws : List ℕ} {n e a : Bytes} {c : Counts} {z y : ℕ} {n′ e′ a�
   -- where both sets stand
   pub turn-sets-inside : (alternativeSize * j + setSize ≤ length a′) × (nodeSize * y + setSize ≤ length n′)
   turn-sets-inside =
-      let l = linked-there (A t .linked) in
-      (held-alternative (so-far t .held) (omega (arith, p .below, so-far t .grown .alternatives)), held-set (so-far t .held) (omega (arith, so-far t .grown .nodes)))
+      let l = linked-there (A t .linked) in (
+        held-alternative (so-far t .held) (omega (arith, p .below, so-far t .grown .alternatives)),
+        held-set (so-far t .held) (omega (arith, so-far t .grown .nodes)),
+      )
 
 -- ---- its put
 
@@ -286,6 +296,7 @@ module _ {ws : List ℕ} {w : Work} {c : Counts} {z y : ℕ} {n′ e′ a′ : B
           place = omega (arith, q .chosen .below);
           among = q .chosen .among;
           sized = sized-trans (t .sized) (B .sized);
-          alternates = one-less (A t) b todo (h t) at-here (graphOf w″ d₂) (B .meets ∙ ap (λ (q : Capacity). step (A t) (k (A t)) q b (h t)) (sized-places (t .sized)));
+          alternates =
+              one-less (A t) b todo (h t) at-here (graphOf w″ d₂) (B .meets ∙ ap (λ (q : Capacity). step (A t) (k (A t)) q b (h t)) (sized-places (t .sized)));
           course = λ f few. course-next (course-here f few) (did er f few);
         }

@@ -64,7 +64,8 @@ pub fn put(
     s: &[u8; SET_BYTES],
 ) -> Step
     requires { ⌜ PutAsks (now problem) (work (now nodes) (now edges) (now alternatives)) c m p role (setOf (now s) 0) ⌝ }
-    ensures { λ r. ⌜ PutGives (now (problem .entry)) (work (now (nodes .entry)) (now (edges .entry)) (now (alternatives .entry))) c m p role (setOf (now (s .entry)) 0)
+    ensures { λ r. ⌜ PutGives (now (problem .entry)) (work (now (nodes .entry)) (now (edges .entry)) (now (alternatives .entry))) c m p role
+        (setOf (now (s .entry)) 0)
         r (work (now (nodes .exit)) (now (edges .exit)) (now (alternatives .exit))) ⌝ }
 {
     if clash(problem, s, 0) {
@@ -101,7 +102,8 @@ pub fn judge(
 ) -> Step
     requires { ⌜ JudgeAsks (now problem) (work (now nodes) (now edges) (now alternatives)) c x ⌝ }
     ensures { λ r. ⌜ JudgeGives (now (problem .entry))
-        (work (now (nodes .entry)) (now (edges .entry)) (now (alternatives .entry))) c x r (work (now (nodes .exit)) (now (edges .exit)) (now (alternatives .exit))) ⌝ }
+        (work (now (nodes .entry)) (now (edges .entry)) (now (alternatives .entry))) c x r
+        (work (now (nodes .exit)) (now (edges .exit)) (now (alternatives .exit))) ⌝ }
 {
     let node = load_node(nodes, x as usize);
     let link = node.link;
@@ -134,7 +136,8 @@ fn judge_linked(
 ) -> Step
     requires { ⌜ LinkedAsks (now problem) (work (now nodes) (now edges) (now alternatives)) c x y ⌝ }
     ensures { λ r. ⌜ JudgeGives (now (problem .entry))
-        (work (now (nodes .entry)) (now (edges .entry)) (now (alternatives .entry))) c x r (work (now (nodes .exit)) (now (edges .exit)) (now (alternatives .exit))) ⌝ }
+        (work (now (nodes .entry)) (now (edges .entry)) (now (alternatives .entry))) c x r
+        (work (now (nodes .exit)) (now (edges .exit)) (now (alternatives .exit))) ⌝ }
 {
     let state = load_node(nodes, y as usize);
     let status = state.status;
@@ -180,7 +183,8 @@ fn put_alternatives(
 ) -> Step
     requires { ⌜ SmallAsks (now problem) (work (now nodes) (now edges) (now alternatives)) c z y ⌝ }
     ensures { λ r. ⌜ SmallGives (now (problem .entry))
-        (work (now (nodes .entry)) (now (edges .entry)) (now (alternatives .entry))) c z y r (work (now (nodes .exit)) (now (edges .exit)) (now (alternatives .exit))) ⌝ }
+        (work (now (nodes .entry)) (now (edges .entry)) (now (alternatives .entry))) c z y r
+        (work (now (nodes .exit)) (now (edges .exit)) (now (alternatives .exit))) ⌝ }
 {
     let node = load_node(nodes, z as usize);
     let mut cur = c;

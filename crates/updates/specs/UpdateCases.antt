@@ -1,6 +1,7 @@
 -- The cases of a node that is judged again, on plain values.
 --
--- In order: a node that is not open; one that is (`Opened`), which is judged: no place; done (`Judged`), and then still open, or settled (`Settles`), with its parents to update.
+-- In order: a node that is not open; one that is (`Opened`), which is judged: no place; done (`Judged`), and then still open, or settled
+-- (`Settles`), with its parents to update.
 use mathlib.Core.Path.{_≡_, sym, ap, _∙_, subst}
 use mathlib.Core.Bool.{Bool, true, false}
 use mathlib.Core.List.{List}
@@ -101,14 +102,16 @@ module _ {ws : List ℕ} {n e a : Bytes} {c : Counts} {x : ℕ} {A : UpdateAsks 
     judged er = refines-answer (J (suc (length (P A .table))) (omega (arith, missing-all (length (P A .table)) (nodeAt (g A) x .rows)))) er
 
     pub update-short : {p : Area} → r₁ ≡ Full p → UpdateGives ws (work n e a) c x (Full p) w₁
-    update-short er = fueled A (λ f few. refines-as (refines-short (judged er) (changing f) sized-refl) (update-open (P A) (capacityOf (w A)) f x (g A) (o .is)))
+    update-short er =
+        fueled A (λ f few. refines-as (refines-short (judged er) (changing f) sized-refl) (update-open (P A) (capacityOf (w A)) f x (g A) (o .is)))
 
     pub update-judged : {d : Counts} → r₁ ≡ Done d → Judged A w₁ d
     update-judged er = record { opened = o; gives = judged er }
 
 -- ---- a node that was judged
 
-module _ {ws : List ℕ} {n e a : Bytes} {c : Counts} {x : ℕ} {A : UpdateAsks ws (work n e a) c x} {n₁ e₁ a₁ : Bytes} {d : Counts} (j : Judged A (work n₁ e₁ a₁) d) where
+module _ {ws : List ℕ} {n e a : Bytes} {c : Counts} {x : ℕ} {A : UpdateAsks ws (work n e a) c x} {n₁ e₁ a₁ : Bytes} {d : Counts}
+    (j : Judged A (work n₁ e₁ a₁) d) where
   abbrev w₁ : Work
   w₁ = work n₁ e₁ a₁
 
@@ -126,10 +129,13 @@ module _ {ws : List ℕ} {n e a : Bytes} {c : Counts} {x : ℕ} {A : UpdateAsks 
 
   -- the update is the judgement, and then what is done with a changed status
   changed : {r : Step} {w₂ : Work} → ((f : ℕ) → Enough (w A) c (suc f) → Refines w₁ d r w₂ (changing (j .opened) f (g A))) → UpdateGives ws (w A) c x r w₂
-  changed next = fueled A (λ f few. refines-as (refines-then (j .gives) (changing (j .opened) f) (next f few)) (update-open (P A) (capacityOf (w A)) f x (g A) (j .opened .is)))
+  changed next =
+      fueled A (λ f few. refines-as (refines-then (j .gives) (changing (j .opened) f) (next f few))
+      (update-open (P A) (capacityOf (w A)) f x (g A) (j .opened .is)))
 
   pub update-kept : Loaded n₁ x true → UpdateGives ws (work n e a) c x (Done d) (work n₁ e₁ a₁)
-  update-kept L = changed (λ f few. refines-as (refines-none (refines-held (j .gives))) (changed-not (updates ws f (capacityOf w₁)) x h (loaded-open w₁ d still L)))
+  update-kept L =
+      changed (λ f few. refines-as (refines-none (refines-held (j .gives))) (changed-not (updates ws f (capacityOf w₁)) x h (loaded-open w₁ d still L)))
 
   module _ (L : Loaded n₁ x false) where
     after : OpenJudged (P A) (capacityOf (w A)) (g A) x (A .fit) (is (j .opened)) h
@@ -154,7 +160,8 @@ module _ {ws : List ℕ} {n e a : Bytes} {c : Counts} {x : ℕ} {A : UpdateAsks 
 
     whole : {r : Step} {w₂ : Work} → ParentsGives ws w₁ d x r w₂ → UpdateGives ws (w A) c x r w₂
     whole G = changed (λ f few.
-        refines-as (G f (omega (arith, few, rises, ap (λ (q : Capacity). q .nodeRoom) places))) (changed-parents (updates ws f (capacityOf w₁)) x h (loaded-open w₁ d still L)))
+        refines-as (G f (omega (arith, few, rises, ap (λ (q : Capacity). q .nodeRoom) places)))
+        (changed-parents (updates ws f (capacityOf w₁)) x h (loaded-open w₁ d still L)))
 
     pub update-settles : Settles ws (work n e a) c x (work n₁ e₁ a₁) d
     update-settles = record {

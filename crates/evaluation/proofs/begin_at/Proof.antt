@@ -10,15 +10,16 @@ use Rattle.words.specs.Sizes.{setWords}
 use Rattle.rowset.specs.Joined.{putWords}
 use Rattle.rowset.specs.ByteLaws.{Bytes}
 use Rattle.rowset.specs.WriteLaws.{put-words-more}
+use Rattle.rowset.specs.WordOf.{wordOf}
 use Rattle.problem.specs.Decoded.{tableOf}
-use Rattle.evaluation.specs.Steps.{literalRows, wordIn}
+use Rattle.evaluation.specs.Steps.{literalRows}
 use Rattle.evaluation.specs.LiteralCases.{literals-written}
 use Rattle.evaluation.proofs.begin_at.Statement.{statement}
 use Rattle.evaluation.proofs.begin_at.Tie as tie
 
 -- word j of the rows of kinds 1 and 2
 abbrev word : List ℕ → ℕ → ℕ → ℕ
-word problem names = wordIn (literalRows (tableOf problem) names)
+word problem names = wordOf (literalRows (tableOf problem) names)
 
 abbrev Inv-loop : tie.InvT-loop
 Inv-loop problem elements₀ at names j₀ elements j =

@@ -31,7 +31,8 @@ inside : (c : tie.After-node-set) → c .node-set .result + setSize ≤ length (
 inside c = omega (arith, c .node-set .ensures, expand-inside (begun c .pre))
 
 -- a conjunction was found
-both : (c : tie.After-left) → let p = the-place (c .before .before) in Both (begun p .pre) (node p .load-node .result) (c .left .given .0 .0) (c .left .given .0 .1 .0)
+both : (c : tie.After-left)
+    → let p = the-place (c .before .before) in Both (begun p .pre) (node p .load-node .result) (c .left .given .0 .0) (c .left .given .0 .1 .0)
 both c =
     let k = c .before .before in
     let p = the-place k in
@@ -51,7 +52,8 @@ made : (c : tie.After-with-rows) → let l = c .before .before .before .before i
 made c =
     let l = c .before .before .before .before in
     let p = the-place (l .before .before) in
-    c .with-rows .ensures ∙ ap (λ (q : ℕ). insert (l .left .given .0 .0) (insert (l .left .given .0 .1 .0) (setOf (begun p .args .nodes .now) q))) (p .node-set .ensures)
+    c .with-rows .ensures
+    ∙ ap (λ (q : ℕ). insert (l .left .given .0 .0) (insert (l .left .given .0 .1 .0) (setOf (begun p .args .nodes .now) q))) (p .node-set .ensures)
 
 -- the areas after the put
 abbrev after : tie.After-put → Work

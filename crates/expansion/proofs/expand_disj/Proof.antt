@@ -37,7 +37,8 @@ with-row : (c : tie.After-node-set) (k : ℕ) {σ : RowSet} → σ ≡ insert k 
 with-row c k e = e ∙ ap (λ (q : ℕ). insert k (setOf (begun c .args .nodes .now) q)) (c .node-set .ensures)
 
 -- a disjunction was found
-either : (c : tie.After-left) → let p = the-place (c .before .before) in Either (begun p .pre) (node p .load-node .result) (c .left .given .0 .0) (c .left .given .0 .1 .0)
+either : (c : tie.After-left)
+    → let p = the-place (c .before .before) in Either (begun p .pre) (node p .load-node .result) (c .left .given .0 .0) (c .left .given .0 .1 .0)
 either c =
     let k = c .before .before in
     let p = the-place k in
@@ -49,7 +50,8 @@ none : (c : tie.After-enum-told) → let a = begun (the-place (c .before .before
 none c =
     let k = c .before .before in
     let p = the-place k in
-    either-none (begun p .pre) (node p .load-node .result) (node p .load-node .ensures) (p .node-set .ensures) (k .lowest-disj .ensures) (c .enum-told .given .1)
+    either-none (begun p .pre) (node p .load-node .result) (node p .load-node .ensures) (p .node-set .ensures) (k .lowest-disj .ensures)
+    (c .enum-told .given .1)
 
 abbrev the-put : tie.After-d → tie.After-put
 the-put c = c .before .before .before .before .before .before .before .before
@@ -98,7 +100,8 @@ expand-disj-spec = tie.close (tie.spec
     -- the end: Full(area)
     (λ c. search needs) (λ c. search needs) (λ c. search needs)
     (λ c. let p : tie.After-put = search in let s = the-sets p in let l = the-left s in
-    left-short (either l) (with-row (the-place (l .before .before)) _ (s .before .before .before .with-row .ensures)) {w₁ = after-first p} (p .put .ensures) (search))
+    left-short (either l) (with-row (the-place (l .before .before)) _ (s .before .before .before .with-row .ensures)) {w₁ = after-first p} (p .put .ensures)
+    (search))
     -- the end: what the second put returned
     (λ c. search needs) (λ c. search needs) (λ c. search needs)
     (λ c. let d : tie.After-d = search in let s = the-sets (the-put d) in let p : tie.After-put2 = search in

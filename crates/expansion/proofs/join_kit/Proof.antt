@@ -1,9 +1,8 @@
 -- `expansion::join_kit` meets its contract: the wanted rows join the empty set, and then the rules.
-use mathlib.Core.Path.{_≡_, ap, ap₂, _∙_}
-use Prim.Native.Nat.{ℕ}
+use mathlib.Core.Path.{ap, ap₂, _∙_}
 use native.Mathlib.Omega.{arith}
 use borrow.Author.Needs.{needs}
-use Rattle.concepts.specs.RowSet.{RowSet, union}
+use Rattle.concepts.specs.RowSet.{union}
 use Rattle.concepts.specs.RowSetLaws.{empty-union}
 use Rattle.problem.specs.Decoded.{maskOf}
 use Rattle.expansion.proofs.join_kit.Statement.{statement}

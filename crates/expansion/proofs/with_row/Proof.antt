@@ -1,5 +1,5 @@
 -- `expansion::with_row` meets its contract: the set is copied, and the row joins it.
-use mathlib.Core.Path.{_≡_, ap, _∙_}
+use mathlib.Core.Path.{ap, _∙_}
 use borrow.Author.Needs.{needs}
 use Rattle.concepts.specs.RowSet.{insert}
 use Rattle.words.specs.Sizes.{setWords}

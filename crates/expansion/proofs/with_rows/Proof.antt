@@ -1,5 +1,5 @@
 -- `expansion::with_rows` meets its contract: the one row is there, and the other joins it.
-use mathlib.Core.Path.{_≡_, ap, _∙_}
+use mathlib.Core.Path.{ap, _∙_}
 use borrow.Author.Needs.{needs}
 use Rattle.concepts.specs.RowSet.{insert}
 use Rattle.words.specs.Sizes.{setWords}

@@ -27,4 +27,5 @@ is-state-with-spec =
     (λ c. other-set _ _ _ (sym (compared (c .before)) ∙ not-true (c .before .same .result) (c .if1 .taken)))
     -- is_state(nodes, x as usize)
     (λ c κs. search needs)
-    (λ c. let e : tie.Else1 = search in same-set _ _ _ (sym (compared (e .before)) ∙ not-false (e .before .same .result) (e .if1 .left)) (c .is-state .ensures)))
+    (λ c. let e : tie.Else1 = search in same-set _ _ _ (sym (compared (e .before)) ∙ not-false (e .before .same .result) (e .if1 .left))
+    (c .is-state .ensures)))

@@ -1,5 +1,4 @@
 -- `printing::byte_digits` meets its contract: the higher digit, and the lower.
-use native.Mathlib.Omega.{arith}
 use Rattle.printing.specs.PrintingLaws.{wrote-byte}
 use borrow.Author.Needs.{needs}
 use Rattle.printing.proofs.byte_digits.Statement.{statement}

@@ -30,7 +30,8 @@ loop-again c =
     let at-loop = at-loop-test .before in
     let start = at-loop .before .before .before in
     let a = start .args in
-    pieces-more (elementLines (a .elements .now)) elementMost (a .count) (at-loop .loop .inv) (at-loop-test .loop-test .taken) (elementLines-more (a .elements .now) (at-loop .loop .d))
+    pieces-more (elementLines (a .elements .now)) elementMost (a .count) (at-loop .loop .inv) (at-loop-test .loop-test .taken)
+    (elementLines-more (a .elements .now) (at-loop .loop .d))
     (at-element-line .element-line .ensures)
 
 same-length : tie.Need-same-length Inv-loop μ-loop

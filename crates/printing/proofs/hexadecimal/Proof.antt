@@ -1,14 +1,13 @@
 -- `printing::hexadecimal` meets its contract: the invariant is that the digits of the `i` highest bytes are written.
-use mathlib.Core.Path.{_≡_, sym, ap, _∙_, subst}
+use mathlib.Core.Path.{_≡_, ap}
 use Prim.Native.Nat.{ℕ, _+_, _*_, _-_, _<_}
 use native.Mathlib.Omega.{arith}
 use borrow.Author.Needs.{needs}
 use lib.ListN.{getD}
-use Rattle.rulefile.specs.Format.{Bytes}
 use Rattle.words.specs.Words.{leAt}
 use Rattle.run.specs.Printed.{hexadecimal}
 use Rattle.run.specs.PrintedLaws.{hexadecimal-none}
-use Rattle.printing.specs.Printing.{Wrote, Pieces}
+use Rattle.printing.specs.Printing.{Pieces}
 use Rattle.printing.specs.PrintingLaws.{wrote-as, wrote-size, highest, highest-more, pieces-none, pieces-more, pieces-all}
 use Rattle.printing.proofs.hexadecimal.Statement.{statement}
 use Rattle.printing.proofs.hexadecimal.Tie as tie

@@ -1,7 +1,6 @@
 -- The rounds: each gives one node more a status.
 --
 -- In order: the invariant, and what falls; the node to expand; the needs, in the code's order.
--- Assumes nothing.
 use Prim.Native.Nat.{_-_}
 use borrow.Author.Needs.{needs}
 use borrow.Author.Tests.{not-true, not-false}

@@ -49,8 +49,12 @@ returns c =
     let e : l .j ≡ a .n = omega arith in
     let hb : Bytes (a .b .now) = λ i. omega (arith, known .before .slice-known .given i) in
     let hc : Bytes (a .c .now) = λ i. omega (arith, known .shared-slice-known .given i) in
-    let put = l .inv .2 ∙ ap (putWords (a .b .now) (a .at) (wordAt (a .c .now) (a .there))) e ∙ put-copy (a .b .now) (a .c .now) hb hc (a .at) (a .there) (a .n) in
-    (put, ap (λ (x : List ℕ). setAt x (a .at) (a .n)) put ∙ set-put (a .b .now) (a .at) (a .n) (setAt (a .c .now) (a .there) (a .n)) (omega arith) (set-fits (a .c .now) hc (a .there) (a .n)))
+    let put =
+    l .inv .2 ∙ ap (putWords (a .b .now) (a .at) (wordAt (a .c .now) (a .there))) e ∙ put-copy (a .b .now) (a .c .now) hb hc (a .at) (a .there) (a .n) in (
+      put,
+      ap (λ (x : List ℕ). setAt x (a .at) (a .n)) put
+          ∙ set-put (a .b .now) (a .at) (a .n) (setAt (a .c .now) (a .there) (a .n)) (omega arith) (set-fits (a .c .now) hc (a .there) (a .n)),
+    )
 
 pub copy-spec : {M : Type 1} → statement M
 copy-spec =

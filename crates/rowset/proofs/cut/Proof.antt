@@ -46,7 +46,8 @@ loop-again c =
     let f : ℕ → ℕ = λ (m : ℕ). minus (wordAt b₀ (a .at) m) (wordAt (a .c .now) (a .there) m) in
     let w : ℕ = word2 .before .before .word .result in
     let first : w ≡ wordAt b₀ (a .at) (l .j) =
-    word2 .before .before .word .ensures ∙ ap (λ (x : List ℕ). wordAt x (a .at) (l .j)) (l .inv .2) ∙ words-kept (l .j) b₀ (a .at) f (l .j) (omega arith) (omega arith) in
+    word2 .before .before .word .ensures ∙ ap (λ (x : List ℕ). wordAt x (a .at) (l .j)) (l .inv .2)
+    ∙ words-kept (l .j) b₀ (a .at) f (l .j) (omega arith) (omega arith) in
     let both : minus w (word2 .word2 .result) ≡ f (l .j) = ap₂ minus first (word2 .word2 .ensures) in (
       omega arith,
       ap length (put .put-word .ensures) ∙ length-putLe (l .b) (a .at + 8 * l .j) 8 (minus w (word2 .word2 .result)) ∙ l .inv .1,
@@ -72,4 +73,5 @@ returns c =
 pub cut-spec : {M : Type 1} → statement M
 cut-spec =
     tie.close (tie.spec
-    Inv-loop μ-loop loop-holds word-requires (λ c κs. omega arith) sub-put-word put-word-requires (λ c. omega arith) (λ c. omega arith) loop-again same-length returns)
+    Inv-loop μ-loop loop-holds word-requires (λ c κs. omega arith) sub-put-word put-word-requires (λ c. omega arith)
+    (λ c. omega arith) loop-again same-length returns)

@@ -1,5 +1,5 @@
 -- `rowset::is_empty_mask` meets its contract: the invariant is that the words passed are 0.
-use mathlib.Core.Path.{_≡_, sym, _∙_}
+use mathlib.Core.Path.{_≡_, sym}
 use Prim.Native.Nat.{ℕ, _+_, _-_, _≤_, _<_}
 use native.Mathlib.Omega.{arith}
 use lib.ListN.{getD}
@@ -23,7 +23,8 @@ returns c =
     let known : tie.After-shared-slice-known Inv-loop μ-loop = search in
     let s : tie.Start Inv-loop μ-loop = search in
     let a = s .args in
-    sym (mask-some (a .ws .now) (λ i. omega (arith, known .shared-slice-known .given i)) (a .at) (a .n) (l .before .loop .j) (l .loop-test .taken) (c .if1 .taken))
+    sym (mask-some (a .ws .now) (λ i. omega (arith, known .shared-slice-known .given i)) (a .at) (a .n) (l .before .loop .j) (l .loop-test .taken)
+    (c .if1 .taken))
 
 loop-again : tie.Need-loop-again Inv-loop μ-loop
 loop-again c =

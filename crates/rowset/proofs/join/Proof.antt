@@ -41,7 +41,8 @@ loop-again c =
     let b₀ = a .b .now in
     let f : ℕ → ℕ = λ (m : ℕ). union (wordAt b₀ (a .at) m) (wordAt (a .c .now) (a .there) m) in
     let first : word2 .before .word .result ≡ wordAt b₀ (a .at) (l .j) =
-    word2 .before .word .ensures ∙ ap (λ (x : List ℕ). wordAt x (a .at) (l .j)) (l .inv .2) ∙ words-kept (l .j) b₀ (a .at) f (l .j) (omega arith) (omega arith) in
+    word2 .before .word .ensures ∙ ap (λ (x : List ℕ). wordAt x (a .at) (l .j)) (l .inv .2)
+    ∙ words-kept (l .j) b₀ (a .at) f (l .j) (omega arith) (omega arith) in
     let both : bitOr (word2 .before .word .result) (word2 .word2 .result) ≡ f (l .j) = ap₂ bitOr first (word2 .word2 .ensures) in (
       omega arith,
       ap length (put .put-word .ensures) ∙ length-putLe (l .b) (a .at + 8 * l .j) 8 (bitOr (word2 .before .word .result) (word2 .word2 .result)) ∙ l .inv .1,

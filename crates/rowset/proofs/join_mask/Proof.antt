@@ -69,4 +69,5 @@ returns c =
 pub join-mask-spec : {M : Type 1} → statement M
 join-mask-spec =
     tie.close (tie.spec
-    Inv-loop μ-loop loop-holds word-requires (λ c. omega arith) (λ c. omega arith) (λ c. omega arith) put-word-requires (λ c. omega arith) (λ c. omega arith) loop-again same-length returns)
+    Inv-loop μ-loop loop-holds word-requires (λ c. omega arith) (λ c. omega arith) (λ c. omega arith) put-word-requires (λ c. omega arith)
+    (λ c. omega arith) loop-again same-length returns)

@@ -1,5 +1,5 @@
 -- `rowset::low` meets its contract, by the number of the word.
-use mathlib.Core.Path.{_≡_, refl, sym, ap, _∙_}
+use mathlib.Core.Path.{_≡_, refl, sym, ap}
 use Prim.Native.Nat.{ℕ, zero, suc}
 use Rattle.rowset.specs.Joined.{lowWord}
 use Rattle.rowset.proofs.low.Statement.{statement}

@@ -6,7 +6,7 @@ use native.Mathlib.Omega.{arith}
 use lib.Bits.{bitOr}
 use lib.ListN.{getD, set}
 use lib.Pow.{shl-exact}
-use Rattle.concepts.specs.RowSet.{single, union, insert}
+use Rattle.concepts.specs.RowSet.{single, union}
 use borrow.Author.Needs.{needs}
 use Rattle.rowset.specs.NextLaws.{mask-insert}
 use Rattle.rowset.proofs.mark.Statement.{statement}

@@ -1,7 +1,7 @@
 -- `rowset::next_row` meets its contract: the invariant is that the words passed have no row from the row on, and m has those of word j.
-use mathlib.Core.Path.{_≡_, refl, sym, ap, subst, _∙_}
+use mathlib.Core.Path.{_≡_, sym, ap, subst}
 use mathlib.Core.List.{List}
-use Prim.Native.Nat.{ℕ, _+_, _*_, _-_, _/_, _%_, _^_, _≤_, _<_}
+use Prim.Native.Nat.{ℕ, _+_, _*_, _-_, _/_, _%_, _^_, _<_}
 use native.Mathlib.Decide.{ℕ-discrete}
 use native.Mathlib.Omega.{arith}
 use lib.Bits.{bitAnd}
@@ -13,7 +13,7 @@ use Rattle.concepts.specs.LowestLaws.{above-shifts, shifts-fit, trailing-lowest
 use borrow.Author.Needs.{needs}
 use Rattle.rowset.specs.declared.Next.{Next}
 use Rattle.rowset.specs.declared.Next.the-variants.{At, End}
-use Rattle.rowset.specs.Joined.{joined, wordAt, setAt, maskAt, IsNext}
+use Rattle.rowset.specs.Joined.{joined, setAt, maskAt, IsNext}
 use Rattle.rowset.specs.ByteLaws.{Bytes}
 use Rattle.rowset.specs.NextLaws.{Words, picked, picked-fits, picked-all, Passed, joined-beyond, pass-start, pass-next, pass-end, pass-found}
 use Rattle.rowset.proofs.next_row.Statement.{statement}
@@ -37,7 +37,8 @@ returns c =
     let hb : Bytes (a .b .now) = λ i. omega (arith, known .before .shared-slice-known .given i) in
     let hw : Words (a .ws .now) = λ i. omega (arith, known .shared-slice-known2 .given i) in
     whole (a .b .now) (a .at) (a .ws .now) (a .mask) (a .n) (a .from) hb hw End
-    (λ k l. joined-beyond (a .n) (picked (a .b .now) (a .at) (a .ws .now) (a .mask)) (picked-fits (a .b .now) (a .at) (a .ws .now) (a .mask) hb) k (omega arith))
+    (λ k l. joined-beyond (a .n) (picked (a .b .now) (a .at) (a .ws .now) (a .mask)) (picked-fits (a .b .now) (a .at) (a .ws .now) (a .mask) hb) k
+    (omega arith))
 
 loop-holds : tie.Need-loop-holds Inv-loop μ-loop
 loop-holds c =

@@ -47,4 +47,5 @@ returns c =
 pub put-low-spec : {M : Type 1} → statement M
 put-low-spec =
     tie.close (tie.spec
-    Inv-loop μ-loop loop-holds (λ c κs. search needs) (λ c κs. omega arith) (λ c. omega arith) (λ c. omega arith) loop-again (λ c. c .before .loop .inv .1) returns)
+    Inv-loop μ-loop loop-holds (λ c κs. search needs) (λ c κs. omega arith) (λ c. omega arith) (λ c. omega arith) loop-again
+    (λ c. c .before .loop .inv .1) returns)

@@ -12,7 +12,7 @@ use Rattle.words.specs.Sizes.{setWords}
 use Rattle.words.specs.WordLaws.{length-putLe}
 use Rattle.rowset.specs.Widths.{setOf}
 use Rattle.problem.specs.Decoded.{tableOf, problemOf, universal}
-use Rattle.settests.specs.MaskLoops.{wordOf, leftOver, Loop, loop-begins, loop-passes, loop-ends, loop-also, NextRow, next-row, loop-after}
+use Rattle.settests.specs.MaskLoops.{commonWord, leftOver, Loop, loop-begins, loop-passes, loop-ends, loop-also, NextRow, next-row, loop-after}
 use Rattle.settests.specs.AnswerLaws.{leftParts, gather-more, gather-none, box-masked}
 use borrow.Author.Needs.{needs}
 use Rattle.settests.proofs.join_box.Statement.{statement}
@@ -35,7 +35,7 @@ abbrev μ-loop2 : tie.MeasureT-loop2
 
 abbrev Inv-loop : tie.InvT-loop
 Inv-loop problem s at role out₀ to mask n j₀ out j =
-    Along problem mask s at role (Gathered problem out₀ to (fromList (box (problemOf problem) (setOf s at) role)) out) j (wordOf problem mask s at j)
+    Along problem mask s at role (Gathered problem out₀ to (fromList (box (problemOf problem) (setOf s at) role)) out) j (commonWord problem mask s at j)
 
 abbrev μ-loop : tie.MeasureT-loop
 μ-loop problem s at role out₀ to mask n j₀ out j = n - j

@@ -12,7 +12,7 @@ use Rattle.procedure.specs.SetTests.{lacking}
 use Rattle.words.specs.Sizes.{setWords}
 use Rattle.rowset.specs.Widths.{setOf}
 use Rattle.problem.specs.Decoded.{tableOf, problemOf, universal}
-use Rattle.settests.specs.MaskLoops.{wordOf, Loop, loop-begins, loop-passes, loop-ends, NextRow, next-row, loop-after}
+use Rattle.settests.specs.MaskLoops.{commonWord, Loop, loop-begins, loop-passes, loop-ends, NextRow, next-row, loop-after}
 use Rattle.settests.specs.AnswerLaws.{leftParts, lacks-here, lacks-later, lacks-none, box-masked, minus-lacking}
 use borrow.Author.Needs.{needs}
 use Rattle.settests.proofs.lacks.Statement.{statement}
@@ -33,7 +33,7 @@ abbrev μ-loop2 : tie.MeasureT-loop2
 μ-loop2 problem s at role above there mask n j m₀ m = m
 
 abbrev Inv-loop : tie.InvT-loop
-Inv-loop problem s at role above there mask n j₀ j = Along problem mask s at role (setOf above there) j (wordOf problem mask s at j)
+Inv-loop problem s at role above there mask n j₀ j = Along problem mask s at role (setOf above there) j (commonWord problem mask s at j)
 
 abbrev μ-loop : tie.MeasureT-loop
 μ-loop problem s at role above there mask n j₀ j = n - j

@@ -12,7 +12,7 @@ use Rattle.concepts.specs.RowSetLaws.{empty-union}
 use Rattle.rowset.specs.Widths.{setOf}
 use Rattle.problem.specs.Decoded.{tableOf, ofKind}
 use Rattle.problem.specs.DecodedLaws.{name-lt}
-use Rattle.settests.specs.MaskLoops.{wordOf, Loop, loop-begins, loop-passes, loop-ends, NextRow, next-row, loop-after}
+use Rattle.settests.specs.MaskLoops.{commonWord, Loop, loop-begins, loop-passes, loop-ends, NextRow, next-row, loop-after}
 use Rattle.settests.specs.AnswerLaws.{leftParts, namesIn, gather-more, gather-none, names-masked}
 use borrow.Author.Needs.{needs}
 use Rattle.settests.proofs.names_in.Statement.{statement}
@@ -29,7 +29,7 @@ abbrev μ-loop2 : tie.MeasureT-loop2
 μ-loop2 problem kind s at mask n names₀ j m₀ names m = m
 
 abbrev Inv-loop : tie.InvT-loop
-Inv-loop problem kind s at mask n names₀ j₀ names j = Loop problem (ofKind kind) mask s at (Gathered problem kind s at names) j (wordOf problem mask s at j)
+Inv-loop problem kind s at mask n names₀ j₀ names j = Loop problem (ofKind kind) mask s at (Gathered problem kind s at names) j (commonWord problem mask s at j)
 
 abbrev μ-loop : tie.MeasureT-loop
 μ-loop problem kind s at mask n names₀ j₀ names j = n - j

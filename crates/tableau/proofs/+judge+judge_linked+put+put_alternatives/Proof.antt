@@ -1,7 +1,7 @@
 -- The proof of the cycle of calls {put, judge, judge_linked, put_alternatives}: each alternative adds a row to its state's set.
 --
 -- In order: what falls from call to call; the places in each function that others speak of; the needs, in the code's order.
-use mathlib.Core.Path.{_≡_, refl, sym, ap, _∙_}
+use mathlib.Core.Path.{refl, ap, _∙_}
 use mathlib.Core.Bool.{not}
 use mathlib.Core.List.{List}
 use Prim.Native.Nat.{ℕ, _+_, _-_, _*_, _≤_, _<_}
@@ -11,7 +11,7 @@ use lib.Dec.{eqb}
 use lib.ListN.{length}
 use borrow.Fn.Kinds.{In, Out}
 use borrow.Fn.PlainCycle.{Measures, is, falls, and}
-use Rattle.concepts.specs.RowSet.{RowSet, empty, union}
+use Rattle.concepts.specs.RowSet.{RowSet, empty}
 use Rattle.procedure.specs.SetTests.{lacking}
 use Rattle.procedure.specs.Graph.{nodeAt}
 use Rattle.problem.specs.Decoded.{problemOf}
@@ -24,7 +24,8 @@ use Rattle.tableau.specs.Contracts.{lacks}
 use Rattle.tableau.specs.JudgeCases.{judge-judges, judge-links, judge-lapses, judge-states, judge-branches, linked-fits, linked-sets}
 use Rattle.tableau.specs.JudgeCases.{takes-sat, takes-unsat, takes-unset, takes-open, linked-small, small-judges}
 use Rattle.tableau.specs.PutCases.{Finished, Weighed, Complete, Linked, put-adds, put-joins, put-clashes, put-waits, put-finished, put-weighed, put-above}
-use Rattle.tableau.specs.PutCases.{put-lapses, put-complete, put-link-short, put-links, put-judge-asks, put-judge-falls, put-judge-short, put-edge-asks, put-judged}
+use Rattle.tableau.specs.PutCases.{put-lapses, put-complete, put-link-short, put-links, put-judge-asks, put-judge-falls}
+use Rattle.tableau.specs.PutCases.{put-judge-short, put-edge-asks, put-judged}
 use Rattle.tableau.specs.SmallCases.{AlternativesPut, Chosen, Joined, turn-start, turn-walks, turn-sets, turn-next, turn-judges, turn-end}
 use Rattle.tableau.specs.SmallCases.{turn-index, turn-less, turn-joined, turn-sets-inside, turn-asks, turn-falls, turn-short, turn-put}
 use Rattle.graph.proofs.add_edge.Reads as add-edge
@@ -182,7 +183,8 @@ weighed t c =
     let i = c .before .before .before in
     let above = ap (setOf (s .args .nodes .now)) (i .before .node-set .ensures) in
     put-weighed (s .pre .1) (finished t (the-else c)) (i .inverse .ensures)
-    (c .lacks .ensures ∙ ap (λ (q : RowSet). not (eqb (lacking (problemOf (s .args .problem .now)) (setOf (s .args .s .now) 0) (i .inverse .result) q) empty)) above)
+    (c .lacks .ensures
+    ∙ ap (λ (q : RowSet). not (eqb (lacking (problemOf (s .args .problem .now)) (setOf (s .args .s .now) 0) (i .inverse .result) q) empty)) above)
 
 -- the set of the state above is there
 above-inside : (t : ℕ) (c : In-put t put-lts.After-node-set) → c .node-set .result + setSize ≤ length (begun (c .before) .args .nodes .now)
@@ -226,7 +228,8 @@ abbrev first : {t : ℕ} → In-small t small-lts.At-loop → In-small t small-l
 first c = c .before .before .before .before .before .before .before
 
 -- an alternative was found
-chosen : (t : ℕ) (c : In-small t small-lts.After-index) → Chosen (the-loop c .loop .inv) (c .index .given .0 .0) (setOf (the-loop c .loop .alternatives) (alternativeSize * c .index .given .0 .0))
+chosen : (t : ℕ) (c : In-small t small-lts.After-index)
+    → Chosen (the-loop c .loop .inv) (c .index .given .0 .0) (setOf (the-loop c .loop .alternatives) (alternativeSize * c .index .given .0 .0))
 chosen t c = turn-next (the-loop c .loop .inv) (c .before .before .next-alternative .ensures) (c .index .given .1)
 
 -- the sets that are joined are there
@@ -323,7 +326,8 @@ pub +judge+judge-linked+put+put-alternatives-spec : {M : Type 1} → statement M
     let s = begun (the-else (w .before)) in let i = w .before .before .before .before in
     put-lapses (weighed t (w .before)) (w .if3 .taken)
     (k .lacking .ensures .1
-    ∙ ap (λ (q : ℕ). lacking (problemOf (s .args .problem .now)) (setOf (s .args .s .now) 0) (i .inverse .result) (setOf (s .args .nodes .now) q)) (i .before .node-set .ensures))
+    ∙ ap (λ (q : ℕ). lacking (problemOf (s .args .problem .now)) (setOf (s .args .s .now) 0) (i .inverse .result) (setOf (s .args .nodes .now) q))
+    (i .before .node-set .ensures))
     (a .add-lapsed .ensures))
     -- link_special(.., p, role, s)
     (λ c κs. search needs) (λ c. search needs) (λ c. search needs)
@@ -353,7 +357,8 @@ pub +judge+judge-linked+put+put-alternatives-spec : {M : Type 1} → statement M
     (λ c. search needs) (λ c. search needs)
     -- set_link(.., z, Lapsed), judge_branch(.., z)
     (λ c κs. search (turn-sets, needs))
-    (λ c κs. let k : In-small t small-lts.After-set-link = search in let l : In-small t small-lts.At-loop = search in turn-judges (l .loop .inv) (k .set-link .ensures))
+    (λ c κs. let k : In-small t small-lts.After-set-link = search in let l : In-small t small-lts.At-loop = search in turn-judges (l .loop .inv)
+    (k .set-link .ensures))
     -- return Done(cur)
     (λ c. search needs) (λ c. search needs) (λ c. search needs)
     (λ c. let l : In-small t small-lts.At-loop = search in let k : In-small t small-lts.After-set-link = search in

@@ -1,6 +1,5 @@
 -- `tableau::join_alternative` meets its contract, by those of the calls.
-use mathlib.Core.Path.{_≡_, ap, ap₂, _∙_}
-use Prim.Native.Nat.{ℕ, _+_, _*_, _≤_}
+use mathlib.Core.Path.{ap, ap₂, _∙_}
 use native.Mathlib.Omega.{arith}
 use borrow.Author.Needs.{needs}
 use Rattle.concepts.specs.RowSet.{union}
@@ -15,7 +14,8 @@ returns c =
     let copied : tie.After-copy = search in
     let place : tie.After-alternative-set = search in
     c .join .ensures .1
-    ∙ ap₂ union (copied .copy .ensures .1 ∙ ap (setOf (s .args .alternatives .now)) (place .alternative-set .ensures)) (ap (setOf (s .args .nodes .now)) (state .node-set .ensures))
+    ∙ ap₂ union (copied .copy .ensures .1 ∙ ap (setOf (s .args .alternatives .now)) (place .alternative-set .ensures))
+    (ap (setOf (s .args .nodes .now)) (state .node-set .ensures))
 
 pub join-alternative-spec : {M : Type 1} → statement M
 join-alternative-spec =

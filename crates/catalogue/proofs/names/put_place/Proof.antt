@@ -31,5 +31,6 @@ put-place-spec =
     -- the end
     (λ c. search needs)
     (λ c. let s : tie.Start = search in let i : tie.Then1 = search in
-    place-put (s .pre .0) _ (s .pre .2) (sym (i .before .kind-at .ensures) ∙ i .if1 .taken) (c .left-at .ensures .0) (omega (arith, c .left-at .ensures .0, name-here (search))))
+    place-put (s .pre .0) _ (s .pre .2) (sym (i .before .kind-at .ensures) ∙ i .if1 .taken) (c .left-at .ensures .0)
+    (omega (arith, c .left-at .ensures .0, name-here (search))))
     (λ c. let s : tie.Start = search in place-other (s .pre .0) _ (s .pre .2) (λ e. c .if1 .left (c .before .kind-at .ensures ∙ e))))
