@@ -17,7 +17,7 @@ use Rattle.procedure.specs.TableauLaws.{alternatives-put}
 use Rattle.procedure.proofs.Bare.{bare}
 use Rattle.procedure.proofs.Setting.{Setting}
 use Rattle.procedure.proofs.Invariant.{QuietBut}
-use Rattle.procedure.proofs.Linked.{PutPre, PutPost, Alternated, alternated-none, alternate-pre, alternate-fewer, alternate-done}
+use Rattle.procedure.proofs.Linked.{PutPre, PutPost, LinkedTo, Alternated, alternated-none, alternate-pre, alternate-fewer, alternate-done}
 use Rattle.procedure.proofs.Put.{within-right}
 use Rattle.procedure.proofs.Fit.{Anyone, pre-anyone, PutFit, JudgeFit}
 use Rattle.words.specs.Sizes.{nodeSize, alternativeSize, setSize, mostRecords}
@@ -70,35 +70,36 @@ module _ {ws : List ℕ} {w : Work} {c : Counts} {z y : ℕ} (A : SmallAsks ws w
   pub everyone : QuietBut S (λ x. Anyone x ⊎ (x ≡ z)) g
   everyone x hx = inl (inl tt)
 
-  -- the invariant of the correctness proof, with these alternatives left
+  -- the correctness proof is about this
+  linked-node : LinkedTo S (putWithin P (capacityOf w) k) k Anyone g z y
+  linked-node = record {
+    right = within-right S k;
+    inv = J .fit .inv;
+    there = J .there;
+    link = A .linked .link;
+    live = J .live;
+    edge = J .edge y (A .linked .link);
+    few = omega arith;
+    quiet = everyone;
+  }
+
+  -- its invariant, with these alternatives left
   abbrev Alternates : List RowSet → Graph → Type 0
-  Alternates todo h =
-      Alternated S (putWithin P (capacityOf w) k) k (within-right S k) Anyone g z y (J .fit .inv) (J .there) (A .linked .link) (J .live)
-      (J .edge y (A .linked .link)) (omega arith) everyone todo h
+  Alternates todo h = Alternated S linked-node todo h
 
   none-yet : Alternates (alternativesOf g y) g
-  none-yet =
-      alternated-none S (putWithin P (capacityOf w) k) k (within-right S k) Anyone g z y (J .fit .inv) (J .there) (A .linked .link) (J .live)
-      (J .edge y (A .linked .link)) (omega arith) everyone
+  none-yet = alternated-none S linked-node
 
   module _ (b : RowSet) (todo : List RowSet) (h : Graph) (alternates : Alternates (b ∷ todo) h) where
     pre : PutPre S (λ x. Anyone x ⊎ (x ≡ z)) h z (nodeAt g z .pst) (nodeAt g z .prl) (joined b)
-    pre =
-        alternate-pre S (putWithin P (capacityOf w) k) k (within-right S k) Anyone g z y (J .fit .inv) (J .there) (A .linked .link) (J .live)
-        (J .edge y (A .linked .link)) (omega arith) everyone
-        b todo h alternates
+    pre = alternate-pre S linked-node b todo h alternates
 
     fewer : lacks ws (joined b) < k
-    fewer =
-        alternate-fewer S (putWithin P (capacityOf w) k) k (within-right S k) Anyone g z y (J .fit .inv) (J .there) (A .linked .link) (J .live)
-        (J .edge y (A .linked .link)) (omega arith) everyone
-        b todo h alternates
+    fewer = alternate-fewer S linked-node b todo h alternates
 
     one-less : (u : Graph) → reached u ≡ step k (capacityOf w) b h → Alternates todo u
     one-less u q =
-        alternate-done S (putWithin P (capacityOf w) k) k (within-right S k) Anyone g z y (J .fit .inv) (J .there) (A .linked .link) (J .live)
-        (J .edge y (A .linked .link)) (omega arith) everyone
-        b todo h alternates u
+        alternate-done S linked-node b todo h alternates u
         (subst (λ (r : Result). Sure (PutPost S (λ x. Anyone x ⊎ (x ≡ z)) h z (nodeAt g z .pst) (nodeAt g z .prl) (joined b)) r) (sym q)
         (within-right S k (λ x. Anyone x ⊎ (x ≡ z)) h z (nodeAt g z .pst) (nodeAt g z .prl) (joined b) (alternates .inv) (alternates .quiet) pre fewer))
 
