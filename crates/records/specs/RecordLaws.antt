@@ -30,10 +30,6 @@ pub node-rows : (b : Bytes) (x : ℕ) → nodeIn b x .rows ≡ setOf b (nodeSize
 unfolding nodeIn
 node-rows b x = refl
 
-pub alternative-rows : (b : Bytes) (i : ℕ) → alternativeIn b i .rows ≡ setOf b (alternativeSize * i)
-unfolding alternativeIn
-alternative-rows b i = refl
-
 -- ---- a record is made of the bytes of its extent
 
 -- the set is before all

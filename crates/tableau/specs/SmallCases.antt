@@ -71,7 +71,7 @@ module _ {ws : List ℕ} {w : Work} {c : Counts} {z y : ℕ} (A : SmallAsks ws w
   everyone x hx = inl (inl tt)
 
   -- the correctness proof is about this
-  linked-node : LinkedTo S (putWithin P (capacityOf w) k) k Anyone g z y
+  pub linked-node : LinkedTo S (putWithin P (capacityOf w) k) k Anyone g z y
   linked-node = record {
     right = within-right S k;
     inv = J .fit .inv;
