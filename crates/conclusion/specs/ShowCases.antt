@@ -15,7 +15,7 @@ use Rattle.procedure.specs.Example.{Example}
 use Rattle.procedure.proofs.Model.{example-right}
 use Rattle.words.specs.Sizes.{mostRecords, setSize, linkSize}
 use Rattle.words.specs.Words.{overwrite}
-use Rattle.evaluation.specs.Layout.{elementBytes, linkBytes}
+use Rattle.listing.specs.Layout.{elementBytes, linkBytes}
 use Rattle.run.specs.Run.{Areas, Lengths, lengths, listing, shown, Used, used, Answer, can, tooLong, fits, answerCan, areasAfter}
 use Rattle.run.specs.ListingLaws.{length-listing, shown-some}
 use Rattle.records.specs.Areas.{Bytes}

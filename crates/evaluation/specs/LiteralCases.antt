@@ -17,13 +17,13 @@ use Rattle.concepts.specs.RowSet.{RowSet, mem, empty, single, union, minus, ins
 use Rattle.concepts.specs.RowSetLaws.{mem-empty, mem-insert, mem-single, mem-minus, mem-union, mem-lt, set-lt, set-ext}
 use Rattle.concepts.specs.Lowest.{Lowest, Rest}
 use Rattle.words.specs.Words.{putLe}
-use Rattle.words.specs.Sizes.{setWords, setSize}
+use Rattle.words.specs.Sizes.{setWords, setSize, width}
 use Rattle.rowset.specs.Joined.{wordAt, maskAt, putWords}
 use Rattle.rowset.specs.ByteLaws.{Bytes, set-mem}
 use Rattle.rowset.specs.WriteLaws.{put-words}
 use Rattle.rowset.specs.NextLaws.{Words, row-of}
 use Rattle.rowset.specs.WordOf.{wordOf, word-fit, mem-words, joined-words}
-use Rattle.rowset.specs.Widths.{width, setOf}
+use Rattle.rowset.specs.SetOf.{setOf}
 use Rattle.decoding.specs.RowParts.{kindOf, leftOf, inRange}
 use Rattle.problem.specs.Decoded.{countOf, tableOf, ofKind, Mask, Decoded}
 use Rattle.problem.specs.DecodedLaws.{length-tableOf, word-parts, name-lt}

@@ -14,11 +14,11 @@ use Rattle.procedure.specs.Tableau.{noRole, put, putKit, putSuccessors, expandS
 use Rattle.procedure.specs.TableauLaws.{expand-conj}
 use Rattle.procedure.proofs.ExpandFit.{conj-puts, disj-puts, kit-puts}
 use Rattle.problem.specs.Decoded.{tableOf, problemOf, rulesOf, wantedOf}
-use Rattle.words.specs.Sizes.{nodeSize}
+use Rattle.words.specs.Sizes.{nodeSize, width}
 use Rattle.records.specs.Areas.{Bytes}
 use Rattle.records.specs.Records.{nodeOf, IsNode}
 use Rattle.records.specs.declared.Node as D
-use Rattle.rowset.specs.Widths.{width, setOf}
+use Rattle.rowset.specs.SetOf.{setOf}
 use Rattle.settests.specs.Answers.{foundOf}
 use Rattle.settests.specs.declared.Found.{Found}
 use Rattle.settests.specs.declared.Found.the-variants as Found

@@ -12,13 +12,13 @@ use Rattle.procedure.specs.GraphLaws.{Sure}
 use Rattle.procedure.specs.Tableau.{put}
 use Rattle.procedure.proofs.Fit.{PutFit}
 use Rattle.procedure.proofs.ExpandFit as E
-use Rattle.words.specs.Sizes.{nodeSize, setSize}
+use Rattle.words.specs.Sizes.{nodeSize, setSize, width}
 use Rattle.problem.specs.Decoded.{tableOf, problemOf}
 use Rattle.problem.specs.DecodedLaws.{length-tableOf}
 use Rattle.records.specs.Areas.{Bytes, Fits}
 use Rattle.records.specs.Records.{nodeOf, IsNode}
 use Rattle.records.specs.declared.Node as D
-use Rattle.rowset.specs.Widths.{width, setOf}
+use Rattle.rowset.specs.SetOf.{setOf}
 use Rattle.graph.specs.Graphs.{Work, work, graphOf, capacityOf, Held, Sized, Refines}
 use Rattle.graph.specs.GraphLaws.{sized-refl, sized-trans, sized-places, count-nodes, graph-node, graph-set, held-node, held-set}
 use Rattle.graph.specs.RefineLaws.{refines-answer, refines-held}

@@ -15,8 +15,8 @@ use Rattle.procedure.specs.Tableau.{put, successor, putSuccessors}
 use Rattle.procedure.proofs.ExpandFit.{successor-puts}
 use Rattle.problem.specs.Decoded.{countOf, tableOf, problemOf}
 use Rattle.problem.specs.DecodedLaws.{length-tableOf}
-use Rattle.words.specs.Sizes.{nodeSize, setSize}
-use Rattle.rowset.specs.Widths.{width, setOf}
+use Rattle.words.specs.Sizes.{nodeSize, setSize, width}
+use Rattle.rowset.specs.SetOf.{setOf}
 use Rattle.settests.specs.Answers.{existsFrom, NextExist}
 use Rattle.settests.specs.ExistLaws.{existsFrom-all}
 use Rattle.settests.specs.declared.Exist.{Exist}

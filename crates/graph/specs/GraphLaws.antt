@@ -9,7 +9,7 @@ use native.Mathlib.Omega.{arith}
 use lib.ListN.{length}
 use Rattle.procedure.specs.Graph as G
 use Rattle.words.specs.Sizes.{nodeSize, edgeSize, alternativeSize, setSize, mostRecords}
-use Rattle.rowset.specs.Widths.{setOf}
+use Rattle.rowset.specs.SetOf.{setOf}
 use Rattle.records.specs.Areas.{Bytes, roomOf, Fits, recordsIn, Stored, Beside}
 use Rattle.records.specs.AreaLaws.{length-records, getD-records, records-set, within-beside}
 use Rattle.records.specs.Layout.{nodeChains, edgeExtent, edgeChains}

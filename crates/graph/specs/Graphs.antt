@@ -12,7 +12,7 @@ use Rattle.concepts.specs.Lists.{NoneBelow}
 use Rattle.concepts.specs.RowSet.{RowSet, empty}
 use Rattle.procedure.specs.Graph as G
 use Rattle.words.specs.Sizes.{nodeSize, edgeSize, alternativeSize}
-use Rattle.rowset.specs.Widths.{setOf}
+use Rattle.rowset.specs.SetOf.{setOf}
 use Rattle.records.specs.Areas.{Bytes, roomOf, recordsIn, chosenFrom}
 use Rattle.records.specs.Records.{nodeIn, edgeIn, alternativeIn}
 use Rattle.chains.specs.Chain.{Behind}

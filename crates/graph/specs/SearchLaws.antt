@@ -18,7 +18,7 @@ use Rattle.procedure.specs.Graph as G
 use Rattle.words.specs.Sizes.{nodeSize, edgeSize, alternativeSize}
 use Rattle.records.specs.Areas.{Bytes, recordsIn, chosenFrom}
 use Rattle.records.specs.AreaLaws.{getD-records, records-kept, chosen-found, chosen-end}
-use Rattle.rowset.specs.Widths.{setOf}
+use Rattle.rowset.specs.SetOf.{setOf}
 use Rattle.records.specs.Records.{nodeIn, isUnsetAt, edgeIn, alternativeIn}
 use Rattle.records.specs.RecordLaws.{node-rows}
 use Rattle.chains.specs.Chain.{First, Behind, following}

@@ -7,7 +7,7 @@ ghost use Prim.Native.Nat.{_≤_, _<_};
 ghost use Rattle.concepts.specs.Lists.{NoneBelow};
 ghost use Rattle.procedure.specs.Graph.{addNode, addEdge, addAlternative, setStatus, setLink, findState, lowestUnset};
 ghost use Rattle.words.specs.Sizes.{nodeSize, edgeSize, alternativeSize};
-ghost use Rattle.rowset.specs.Widths.{setOf};
+ghost use Rattle.rowset.specs.SetOf.{setOf};
 ghost use Rattle.records.specs.Areas.{roomOf, Fits};
 ghost use Rattle.records.specs.Codes as Codes;
 ghost use Rattle.records.specs.Records as Records;

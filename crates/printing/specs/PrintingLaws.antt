@@ -16,7 +16,7 @@ use borrow.Author.Tests.{eqb-true, eqb-false, eq-eqb, ne-eqb}
 use Rattle.rulefile.specs.Format.{Bytes}
 use Rattle.words.specs.Words.{leAt, overwrite}
 use Rattle.words.specs.Sizes.{setSize}
-use Rattle.evaluation.specs.Layout.{linkAt}
+use Rattle.listing.specs.Layout.{linkAt}
 use Rattle.run.specs.Run.{Lengths, Numbers}
 use Rattle.run.specs.RunLaws.{Room}
 use Rattle.run.specs.Printed.{ascii, digit, hexadecimal, decimal, spaced, line, elementLine, linkLine, elementLines}

@@ -8,7 +8,7 @@ ghost use mathlib.Core.List.{[], _∷_};
 ghost use Prim.Native.Nat.{_+_, _*_, _<_};
 ghost use lib.ListN.{length, getD};
 ghost use Rattle.words.specs.Words.{leAt};
-ghost use Rattle.evaluation.specs.Layout.{elementAt, linkAt};
+ghost use Rattle.listing.specs.Layout.{elementAt, linkAt};
 ghost use Rattle.run.specs.Printed as Printed;
 ghost use Rattle.answers.specs.Numbers.{numbersOf};
 ghost use Rattle.printing.specs.Printing.{Countable, elementMost, Wrote, Prints};

@@ -13,8 +13,7 @@ use lib.ListN.{length, getD}
 use borrow.Author.Tests.{eq-eqb, ne-eqb}
 use Rattle.concepts.specs.RowSet.{mem, union, insert, fromList}
 use Rattle.concepts.specs.RowSetLaws.{mem-insert, insert-lt, union-lt, fromList-lt}
-use Rattle.words.specs.Sizes.{setWords}
-use Rattle.rowset.specs.Widths.{width}
+use Rattle.words.specs.Sizes.{setWords, width}
 use Rattle.rowset.specs.Joined.{maskAt}
 use Rattle.rowset.specs.JoinedLaws.{joined-same, joined-union}
 use Rattle.rowset.specs.NextLaws.{Words, words-set, mask-insert}

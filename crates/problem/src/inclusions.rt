@@ -4,8 +4,7 @@
 // a pair of roles more; the inclusion in a row; all.
 ghost use Prim.Native.Nat.{_≤_, _<_};
 ghost use lib.ListN.{length};
-ghost use Rattle.words.specs.Sizes.{setWords};
-ghost use Rattle.rowset.specs.Widths.{width};
+ghost use Rattle.words.specs.Sizes.{setWords, width};
 ghost use Rattle.problem.specs.Layout.{room};
 ghost use Rattle.problem.specs.Decoded.{countOf, RowsDecoded};
 ghost use Rattle.problem.specs.Chaining.{Sames, JoinsWord, JoinsUniversals, JoinsNarrows, InUse, Chains, RolesAt, IncludesRow, Included};

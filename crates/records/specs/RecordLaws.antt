@@ -10,7 +10,7 @@ use Rattle.procedure.specs.Graph as G
 use Rattle.words.specs.Words.{leAt, putLe}
 use Rattle.words.specs.Fields.{Field, putFields, Apart}
 use Rattle.words.specs.Sizes.{nodeSize, edgeSize, alternativeSize, setSize}
-use Rattle.rowset.specs.Widths.{setOf}
+use Rattle.rowset.specs.SetOf.{setOf}
 use Rattle.records.specs.Codes.{statusOf, statusCode, status-back, statusCode-small, flag-back, flagCode-small}
 use Rattle.records.specs.Codes.{linkOf, linkKind, linkNumber, link-back, linkKind-small}
 use Rattle.records.specs.Areas.{Bytes, Fits, field, Beside}

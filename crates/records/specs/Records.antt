@@ -11,7 +11,7 @@ use Rattle.procedure.specs.Status.{isUnset}
 use Rattle.procedure.specs.Graph as G
 use Rattle.words.specs.Fields.{Field}
 use Rattle.words.specs.Sizes.{nodeSize, edgeSize, alternativeSize, setSize}
-use Rattle.rowset.specs.Widths.{setOf}
+use Rattle.rowset.specs.SetOf.{setOf}
 use Rattle.records.specs.Codes.{statusOf, statusCode, statusIn, flagCode, flagIn, linkOf, linkKind, linkNumber, linkIn}
 use Rattle.records.specs.Areas.{Bytes, field, Written}
 use Rattle.records.specs.Layout.{statusAt, isStateAt, pstAt, prlAt, linkKindAt, linkNumberAt, nodeExtent}

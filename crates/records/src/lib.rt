@@ -10,7 +10,7 @@ ghost use Rattle.procedure.specs.Status.{isOpen, isLive};
 ghost use Rattle.procedure.specs.Graph.{withStatus, withLink};
 ghost use Rattle.words.specs.Words.{putLe};
 ghost use Rattle.words.specs.Sizes.{nodeSize, edgeSize, alternativeSize, setSize, mostRecords};
-ghost use Rattle.rowset.specs.Widths.{setOf};
+ghost use Rattle.rowset.specs.SetOf.{setOf};
 ghost use Rattle.records.specs.Codes as Codes;
 ghost use Rattle.records.specs.Areas.{Fits};
 ghost use Rattle.records.specs.Records as Records;

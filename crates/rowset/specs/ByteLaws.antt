@@ -13,7 +13,7 @@ use Rattle.concepts.specs.RowSet.{mem, insert, empty}
 use Rattle.words.specs.Words.{leAt, putLe}
 use Rattle.words.specs.WordLaws.{leAt-add, leAt-same, leAt-putLe, below-putLe, above-putLe}
 use Rattle.words.specs.Sizes.{setSize}
-use Rattle.rowset.specs.Widths.{setOf}
+use Rattle.rowset.specs.SetOf.{setOf}
 use Rattle.rowset.specs.Joined.{joined, Fit, place, wordAt, setAt}
 use Rattle.rowset.specs.JoinedLaws.{mem-joined, joined-same, joined-apart, joined-insert, place-row}
 

@@ -17,7 +17,7 @@ use Rattle.rowset.specs.ByteLaws.{Bytes}
 use Rattle.rowset.specs.NextLaws.{Words, picked, picked-fits, picked-all}
 use Rattle.rowset.specs.Pending.{left}
 use Rattle.rowset.specs.WordLoops.{Midway, midway-begins, midway-passes, midway-ends, midway-also, midway-after, rowAt, LowestOfWord, lowest-of-word}
-use Rattle.rowset.specs.Widths.{setOf}
+use Rattle.rowset.specs.SetOf.{setOf}
 use Rattle.problem.specs.Decoded.{countOf, usedOf, tableOf, maskOf, Mask, Decoded}
 use Rattle.problem.specs.DecodedLaws.{length-tableOf}
 use Rattle.settests.specs.Masks.{common-row, mask-in-use}

@@ -7,7 +7,7 @@ ghost use Rattle.procedure.specs.Status as Procedure;
 ghost use Rattle.procedure.specs.Graph as Graph;
 ghost use Rattle.procedure.specs.Tableau as Tableau;
 ghost use Rattle.words.specs.Sizes.{nodeSize};
-ghost use Rattle.rowset.specs.Widths.{setOf};
+ghost use Rattle.rowset.specs.SetOf.{setOf};
 ghost use Rattle.records.specs.Areas.{roomOf};
 ghost use Rattle.records.specs.Codes as Codes;
 ghost use Rattle.records.specs.Records as Records;

@@ -20,7 +20,7 @@ use Rattle.records.specs.Areas.{Bytes, roomOf, Fits}
 use Rattle.graph.specs.Graphs.{Work, work, graphOf, capacityOf, Changes, ChangesNodes}
 use Rattle.procedure.specs.Graph as G
 use Rattle.words.specs.Sizes.{nodeSize}
-use Rattle.rowset.specs.Widths.{setOf}
+use Rattle.rowset.specs.SetOf.{setOf}
 use Rattle.records.specs.Codes.{statusOf, linkOf}
 use Rattle.records.specs.Records.{nodeOf, IsNode}
 use Rattle.graph.specs.GraphLaws.{count-nodes, graph-node, held-node}

@@ -29,7 +29,7 @@ use Rattle.procedure.proofs.Special.{Started, special-started}
 use Rattle.procedure.proofs.Fit.{Anyone, anyone-quiet, JudgeFit}
 use Rattle.problem.specs.Decoded.{problemOf}
 use Rattle.words.specs.Sizes.{nodeSize, setSize}
-use Rattle.rowset.specs.Widths.{setOf}
+use Rattle.rowset.specs.SetOf.{setOf}
 use Rattle.records.specs.Areas.{Bytes, roomOf}
 use Rattle.records.specs.Records.{nodeOf}
 use Rattle.graph.specs.Graphs.{Work, work, graphOf, capacityOf, Held, Operation, Refines, AddsEdge}

@@ -21,7 +21,7 @@ use Rattle.procedure.proofs.Linked.{PutPre, PutPost, LinkedTo, Alternated, alte
 use Rattle.procedure.proofs.Put.{within-right}
 use Rattle.procedure.proofs.Fit.{Anyone, pre-anyone, PutFit, JudgeFit}
 use Rattle.words.specs.Sizes.{nodeSize, alternativeSize, setSize, mostRecords}
-use Rattle.rowset.specs.Widths.{setOf}
+use Rattle.rowset.specs.SetOf.{setOf}
 use Rattle.problem.specs.Decoded.{problemOf}
 use Rattle.records.specs.Areas.{Bytes, roomOf}
 use Rattle.records.specs.Records.{nodeOf, IsNode}

@@ -8,7 +8,7 @@ ghost use Rattle.concepts.specs.RowSet.{union};
 ghost use Rattle.words.specs.Sizes.{nodeSize, alternativeSize, setSize, mostRecords};
 ghost use Rattle.records.specs.Codes.{statusOf};
 ghost use Rattle.graph.specs.Graphs.{work};
-ghost use Rattle.rowset.specs.Widths.{setOf};
+ghost use Rattle.rowset.specs.SetOf.{setOf};
 ghost use Rattle.tableau.specs.Contracts.{Below, PutAsks, PutGives, JudgeAsks, JudgeGives, LinkedAsks, SmallAsks, SmallGives};
 use graph::Counts;
 use graph::NextAlternative;

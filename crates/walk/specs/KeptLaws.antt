@@ -15,7 +15,7 @@ use Rattle.procedure.specs.Example.{example}
 use Rattle.procedure.specs.WalkLaws.{example-same}
 use Rattle.procedure.proofs.Finished.{Under, Finished}
 use Rattle.words.specs.Sizes.{nodeSize, edgeSize}
-use Rattle.rowset.specs.Widths.{setOf}
+use Rattle.rowset.specs.SetOf.{setOf}
 use Rattle.records.specs.Areas.{Bytes, recordsIn}
 use Rattle.records.specs.AreaLaws.{records-same, beside-refl, beside-then}
 use Rattle.records.specs.Records.{nodeIn, edgeIn, alternativeIn}

@@ -17,8 +17,8 @@ use Rattle.procedure.specs.Example.{Walk, descend, position, meet, walkRows, ro
 use Rattle.procedure.specs.ExampleLaws.{meet-links}
 use Rattle.procedure.specs.WalkLaws.{walkRows-none, walkRows-next, walkRows-grows}
 use Rattle.procedure.proofs.Way.{Way}
-use Rattle.words.specs.Sizes.{nodeSize, edgeSize, setSize, mostRecords}
-use Rattle.rowset.specs.Widths.{width, setOf}
+use Rattle.words.specs.Sizes.{nodeSize, edgeSize, setSize, mostRecords, width}
+use Rattle.rowset.specs.SetOf.{setOf}
 use Rattle.problem.specs.Decoded.{tableOf}
 use Rattle.problem.specs.DecodedLaws.{length-tableOf}
 use Rattle.settests.specs.Answers.{existsFrom, NextExist}

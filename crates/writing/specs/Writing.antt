@@ -17,7 +17,7 @@ use Rattle.words.specs.Words.{overwrite}
 use Rattle.words.specs.Fields.{Field}
 use Rattle.words.specs.Sizes.{nodeSize, edgeSize, setSize, linkSize, mostRecords}
 use Rattle.problem.specs.Decoded.{tableOf, Decoded}
-use Rattle.evaluation.specs.Layout.{elementBytes, linkBytes}
+use Rattle.listing.specs.Layout.{elementBytes, linkBytes}
 use Rattle.run.specs.Run.{listing}
 use Rattle.records.specs.Areas.{Bytes, roomOf}
 use Rattle.records.specs.Records.{nodeIn}

@@ -21,13 +21,13 @@ use Rattle.words.specs.Words.{putLe, littleEndian, overwrite}
 use Rattle.words.specs.WordLaws.{length-putLe, length-littleEndian, putLe-overwrite, overwrite-again}
 use Rattle.words.specs.Fields.{putFields}
 use Rattle.words.specs.FieldLaws.{length-putFields}
-use Rattle.words.specs.Sizes.{nodeSize, setSize, linkSize}
-use Rattle.rowset.specs.Widths.{width, setOf}
+use Rattle.words.specs.Sizes.{nodeSize, setSize, linkSize, width}
+use Rattle.rowset.specs.SetOf.{setOf}
 use Rattle.problem.specs.Decoded.{tableOf, Decoded}
-use Rattle.evaluation.specs.Evaluation.{evaluated}
-use Rattle.evaluation.specs.EvaluationLaws.{length-evaluated}
-use Rattle.evaluation.specs.Layout.{elementAt, linkAt, elementBytes, linkBytes, linksIn, worldIn}
-use Rattle.evaluation.specs.LayoutLaws.{linkRecord, length-elementBytes, length-linkBytes, linkBytes-snoc, LinkFits, links-back}
+use Rattle.listing.specs.Evaluation.{evaluated}
+use Rattle.listing.specs.EvaluationLaws.{length-evaluated}
+use Rattle.listing.specs.Layout.{elementAt, linkAt, elementBytes, linkBytes, linksIn, worldIn}
+use Rattle.listing.specs.LayoutLaws.{linkRecord, length-elementBytes, length-linkBytes, linkBytes-snoc, LinkFits, links-back}
 use Rattle.evaluation.specs.Holding.{Holding}
 use Rattle.evaluation.specs.HoldingLaws.{hold-none, hold-length, hold-get, hold-more}
 use Rattle.evaluation.specs.Contracts.{EvaluateAsks}

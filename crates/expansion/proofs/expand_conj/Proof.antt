@@ -8,7 +8,7 @@ use borrow.Author.Needs.{needs}
 use lib.ListN.{length}
 use Rattle.concepts.specs.RowSet.{insert}
 use Rattle.words.specs.Sizes.{nodeSize, setSize}
-use Rattle.rowset.specs.Widths.{setOf}
+use Rattle.rowset.specs.SetOf.{setOf}
 use Rattle.graph.specs.Graphs.{Work, work}
 use Rattle.expansion.specs.Contracts.{DisjAsks}
 use Rattle.expansion.specs.PutCases.{expand-fits, expand-inside}

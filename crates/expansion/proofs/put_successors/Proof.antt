@@ -7,7 +7,7 @@ use native.Mathlib.Omega.{arith}
 use borrow.Author.Needs.{needs}
 use lib.ListN.{length}
 use Rattle.words.specs.Sizes.{setSize}
-use Rattle.rowset.specs.Widths.{setOf}
+use Rattle.rowset.specs.SetOf.{setOf}
 use Rattle.rowset.specs.ByteLaws.{zeros-empty}
 use Rattle.problem.specs.Decoded.{countOf}
 use Rattle.graph.specs.Graphs.{Work, work}

@@ -2,7 +2,7 @@
 use mathlib.Core.Path.{sym, _∙_}
 use native.Mathlib.Omega.{arith}
 use borrow.Author.Needs.{needs}
-use Rattle.rowset.specs.Widths.{setOf}
+use Rattle.rowset.specs.SetOf.{setOf}
 use Rattle.graph.specs.ChainsLaws.{alternative-sits}
 use Rattle.graph.specs.AddLaws.{add-alternative-known, add-alternative-done, add-alternative-full}
 use Rattle.graph.proofs.add_alternative.Statement.{statement}

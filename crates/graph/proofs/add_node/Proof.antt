@@ -1,7 +1,7 @@
 -- `graph::add_node` meets its contract: by the room that is left.
 use native.Mathlib.Omega.{arith}
 use borrow.Author.Needs.{needs}
-use Rattle.rowset.specs.Widths.{setOf}
+use Rattle.rowset.specs.SetOf.{setOf}
 use Rattle.records.specs.Records.{nodeOf}
 use Rattle.graph.specs.ChainsLaws.{child-sits, parent-sits, alternative-sits}
 use Rattle.graph.specs.AddLaws.{add-node-done, add-node-full}

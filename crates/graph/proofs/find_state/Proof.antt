@@ -4,7 +4,7 @@ use Prim.Native.Nat.{_-_, _≤_}
 use native.Mathlib.Omega.{arith}
 use borrow.Author.Count.{below-none, below-more}
 use Rattle.concepts.specs.Lists.{NoneBelow}
-use Rattle.rowset.specs.Widths.{setOf}
+use Rattle.rowset.specs.SetOf.{setOf}
 use Rattle.graph.specs.Graphs.{work, isStateWith}
 use Rattle.graph.specs.SearchLaws.{state-found, state-nowhere}
 use Rattle.graph.proofs.find_state.Statement.{statement}

@@ -5,7 +5,7 @@ use native.Mathlib.Omega.{arith}
 use borrow.Author.Needs.{needs}
 use lib.Dec.{eqb}
 use Rattle.words.specs.Sizes.{alternativeSize}
-use Rattle.rowset.specs.Widths.{setOf}
+use Rattle.rowset.specs.SetOf.{setOf}
 use Rattle.records.specs.Areas.{Fits}
 use Rattle.records.specs.AreaLaws.{room-fits}
 use Rattle.graph.specs.SearchLaws.{Sought, SoughtAt, sought-start, sought-walks, sought-end, sought-at}

@@ -5,7 +5,7 @@ use borrow.Author.Needs.{needs}
 use borrow.Author.Tests.{not-true, not-false}
 use lib.Dec.{eqb}
 use Rattle.words.specs.Sizes.{nodeSize}
-use Rattle.rowset.specs.Widths.{setOf}
+use Rattle.rowset.specs.SetOf.{setOf}
 use Rattle.graph.specs.SearchLaws.{other-set, same-set}
 use Rattle.graph.proofs.is_state_with.Statement.{statement}
 use Rattle.graph.proofs.is_state_with.Tie as tie

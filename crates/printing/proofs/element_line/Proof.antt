@@ -1,5 +1,5 @@
 -- `printing::element_line` meets its contract: its pieces one after another are the line of the set that it reads.
-use Rattle.evaluation.specs.Layout.{elementAt}
+use Rattle.listing.specs.Layout.{elementAt}
 use Rattle.printing.specs.PrintingLaws.{wrote-element}
 use borrow.Author.Needs.{needs}
 use Rattle.printing.proofs.element_line.Statement.{statement}

@@ -5,7 +5,7 @@ use native.Mathlib.Omega.{arith}
 use borrow.Author.Needs.{needs}
 use Rattle.words.specs.Fields.{Apart}
 use Rattle.words.specs.Sizes.{nodeSize, setSize}
-use Rattle.rowset.specs.Widths.{setOf}
+use Rattle.rowset.specs.SetOf.{setOf}
 use Rattle.records.specs.Codes.{linkNumber}
 use Rattle.records.specs.Layout.{nodeExtent}
 use Rattle.records.specs.Records.{nodeFields}

@@ -10,7 +10,7 @@ use Rattle.concepts.specs.RowSet.{RowSet, union, fromList}
 use Rattle.procedure.specs.SetTests.{box}
 use Rattle.words.specs.Sizes.{setWords}
 use Rattle.words.specs.WordLaws.{length-putLe}
-use Rattle.rowset.specs.Widths.{setOf}
+use Rattle.rowset.specs.SetOf.{setOf}
 use Rattle.problem.specs.Decoded.{tableOf, problemOf, universal}
 use Rattle.settests.specs.MaskLoops.{commonWord, leftOver, Loop, loop-begins, loop-passes, loop-ends, loop-also, NextRow, next-row, loop-after}
 use Rattle.settests.specs.AnswerLaws.{leftParts, gather-more, gather-none, box-masked}

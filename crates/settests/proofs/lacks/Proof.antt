@@ -10,7 +10,7 @@ use Rattle.concepts.specs.Inclusion.{narrower}
 use Rattle.concepts.specs.RowSet.{RowSet, empty, minus}
 use Rattle.procedure.specs.SetTests.{lacking}
 use Rattle.words.specs.Sizes.{setWords}
-use Rattle.rowset.specs.Widths.{setOf}
+use Rattle.rowset.specs.SetOf.{setOf}
 use Rattle.problem.specs.Decoded.{tableOf, problemOf, universal}
 use Rattle.settests.specs.MaskLoops.{commonWord, Loop, loop-begins, loop-passes, loop-ends, NextRow, next-row, loop-after}
 use Rattle.settests.specs.AnswerLaws.{leftParts, lacks-here, lacks-later, lacks-none, box-masked, minus-lacking}

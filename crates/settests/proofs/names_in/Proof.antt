@@ -9,7 +9,7 @@ use borrow.Author.Tests.{eqb-true}
 use lib.Pow.{shl-exact}
 use Rattle.concepts.specs.RowSet.{RowSet, single, union}
 use Rattle.concepts.specs.RowSetLaws.{empty-union}
-use Rattle.rowset.specs.Widths.{setOf}
+use Rattle.rowset.specs.SetOf.{setOf}
 use Rattle.problem.specs.Decoded.{tableOf, ofKind}
 use Rattle.problem.specs.DecodedLaws.{name-lt}
 use Rattle.settests.specs.MaskLoops.{commonWord, Loop, loop-begins, loop-passes, loop-ends, NextRow, next-row, loop-after}

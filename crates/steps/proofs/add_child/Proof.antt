@@ -2,7 +2,7 @@
 use native.Mathlib.Omega.{arith}
 use borrow.Author.Needs.{needs}
 use Rattle.concepts.specs.RowSet.{RowSet}
-use Rattle.rowset.specs.Widths.{setOf}
+use Rattle.rowset.specs.SetOf.{setOf}
 use Rattle.records.specs.Records.{nodeOf}
 use Rattle.steps.specs.StepLaws.{node-held, child-done, child-full}
 use Rattle.steps.proofs.add_child.Statement.{statement}

@@ -5,7 +5,7 @@ use Rattle.concepts.specs.RowSet.{RowSet}
 use Rattle.procedure.specs.Status.{toosmall}
 use Rattle.procedure.specs.Graph as Graph
 use Rattle.procedure.specs.Tableau.{below}
-use Rattle.rowset.specs.Widths.{setOf}
+use Rattle.rowset.specs.SetOf.{setOf}
 use Rattle.steps.specs.StepLaws.{node-held, joined-held, lapsed-done, lapsed-full, lapsed-none}
 use Rattle.steps.proofs.add_lapsed.Statement.{statement}
 use Rattle.steps.proofs.add_lapsed.Tie as tie

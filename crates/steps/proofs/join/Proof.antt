@@ -1,6 +1,6 @@
 -- `steps::join` meets its contract: by the status of the state above.
 use borrow.Author.Needs.{needs}
-use Rattle.rowset.specs.Widths.{setOf}
+use Rattle.rowset.specs.SetOf.{setOf}
 use mathlib.Core.Path.{sym, _∙_}
 use Rattle.graph.specs.GraphLaws.{held-node}
 use Rattle.steps.specs.StepLaws.{join-done, join-not}

@@ -3,7 +3,7 @@ use native.Mathlib.Omega.{arith}
 use borrow.Author.Needs.{needs}
 use Rattle.concepts.specs.RowSet.{RowSet}
 use Rattle.procedure.specs.Tableau.{state}
-use Rattle.rowset.specs.Widths.{setOf}
+use Rattle.rowset.specs.SetOf.{setOf}
 use Rattle.steps.specs.StepLaws.{node-held, found-below, found-there, found-new, found-full}
 use Rattle.steps.proofs.link_found.Statement.{statement}
 use Rattle.steps.proofs.link_found.Tie as tie

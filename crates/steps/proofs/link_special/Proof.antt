@@ -5,7 +5,7 @@ use Rattle.concepts.specs.RowSet.{RowSet}
 use Rattle.procedure.specs.Status.{unset}
 use Rattle.procedure.specs.Graph as Graph
 use Rattle.procedure.specs.Tableau.{below}
-use Rattle.rowset.specs.Widths.{setOf}
+use Rattle.rowset.specs.SetOf.{setOf}
 use Rattle.steps.specs.StepLaws.{node-held, special-done, special-full}
 use Rattle.steps.proofs.link_special.Statement.{statement}
 use Rattle.steps.proofs.link_special.Tie as tie

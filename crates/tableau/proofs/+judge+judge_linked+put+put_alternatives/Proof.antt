@@ -18,7 +18,7 @@ use Rattle.problem.specs.Decoded.{problemOf}
 use Rattle.graph.specs.Graphs.{Work, work, graphOf}
 use Rattle.graph.specs.declared.Counts.{Counts}
 use Rattle.words.specs.Sizes.{nodeSize, alternativeSize, setSize}
-use Rattle.rowset.specs.Widths.{setOf}
+use Rattle.rowset.specs.SetOf.{setOf}
 use Rattle.rowset.specs.ByteLaws.{zeros-empty}
 use Rattle.tableau.specs.Contracts.{lacks}
 use Rattle.tableau.specs.JudgeCases.{judge-judges, judge-links, judge-lapses, judge-states, judge-branches, linked-fits, linked-sets}

@@ -3,7 +3,7 @@ use mathlib.Core.Path.{ap, ap₂, _∙_}
 use native.Mathlib.Omega.{arith}
 use borrow.Author.Needs.{needs}
 use Rattle.concepts.specs.RowSet.{union}
-use Rattle.rowset.specs.Widths.{setOf}
+use Rattle.rowset.specs.SetOf.{setOf}
 use Rattle.tableau.proofs.join_alternative.Statement.{statement}
 use Rattle.tableau.proofs.join_alternative.Tie as tie
 
