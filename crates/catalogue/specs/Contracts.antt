@@ -74,7 +74,7 @@ pub record SameRows (w v : List ℕ) : Type 0 where
 
 -- by the result of a run: "1 if an a that isn't a b cannot exist, 0 if it can, 2 if the work areas didn't suffice"; fuel never runs out
 unfoldable pub entryResult : Result → ℕ
-entryResult (noPlace a) = 2
+entryResult (noPlace a g) = 2
 entryResult (reached g) = cond (goodRoot (nodeAt g 0 .status)) 0 1
 entryResult outOfFuel = 3
 

@@ -41,7 +41,7 @@ module _ {ws : List ℕ} (p q : ℕ) {v : List ℕ} (W : Wants ws (fromList (p �
 
   pub entry-short : {a : Area} → r ≡ Is.Short a → EntryGives ws (capacityOf w) p q 2 v
   unfolding entryResult
-  entry-short h = gives (sym (ap entryResult (was-short G h .ran)))
+  entry-short h = gives (sym (ap entryResult (was-short G h .ran .1)))
 
   pub entry-cannot : {c : Counts} → r ≡ Is.Cannot c → EntryGives ws (capacityOf w) p q 1 v
   unfolding entryResult

@@ -63,7 +63,7 @@ module _ (f : RuleFile) (l : Lengths) where
   result-entry : (r : Result) → Backs f l (answerResult l (f .table) r) → entryOf (answerResult l (f .table) r) ≡ entryResult r
   unfolding answerResult entryOf entryResult
   result-entry (reached g) B = root-entry g (nodeAt g 0 .status) refl B
-  result-entry (noPlace a) B = refl
+  result-entry (noPlace a g) B = refl
   result-entry outOfFuel B = absurd B
 
 -- ---- an accepted file

@@ -1,14 +1,13 @@
 -- What is decided at the end of a run, and what each function gives. Words, areas and counts as in the tableau's contracts.
 --
 -- In order: a decision and the answer that it stands for; what is left in the example areas; the verdict of a run; the example; the decision.
--- Assumes nothing.
 use mathlib.Core.Path.{_≡_}
 use mathlib.Core.Bool.{Bool, true, false}
 use mathlib.Core.List.{List}
 use Prim.Native.Nat.{ℕ, _/_, _≤_, min}
 use lib.ListN.{length}
 use Rattle.procedure.specs.Status.{Status, unset, «open», sat, unsat, toosmall}
-use Rattle.procedure.specs.Graph.{Capacity, reached, noPlace, nodeAt}
+use Rattle.procedure.specs.Graph.{Capacity, reached, FindsNoPlace, nodeAt}
 use Rattle.procedure.specs.Tableau.{run}
 use Rattle.procedure.specs.Example.{Example}
 use Rattle.words.specs.Sizes.{nodeSize, edgeSize, alternativeSize, mostRecords}
@@ -87,7 +86,7 @@ pub record EndsWith (ws : List ℕ) (w : Work) (c : Counts) (w′ : Work) (b : B
 
 -- the run found no place in this area
 pub record ShortOf (ws : List ℕ) (w : Work) (p : Area) : Type 0 where
-  pub ran : run (problemOf ws) (capacityOf w) ≡ noPlace (areaOf p)
+  pub ran : FindsNoPlace (areaOf p) (run (problemOf ws) (capacityOf w))
 
 abbrev pub VerdictCase : List ℕ → Work → Verdict → Work → Type 0
 VerdictCase ws w (Is.Short p) w′ = ShortOf ws w p

@@ -57,7 +57,7 @@ unfolding answerResult areasAfter
 decide-short {ws} {n} {e} {a} elements links {p} S {m} hm hn he ha =
     let before : Areas = areasOf n e a elements links in
     let lent : m ≡ roomFor (capacity (lengths before)) (areaOf p) = hm ∙ (λ i. roomFor (roomIn (hn i) (he i) (ha i)) (areaOf p)) in
-    let k = ap (answerResult (lengths before) (tableOf ws)) (S .ran) ∙ ap (short (areaOf p)) (sym lent) in
+    let k = ap (answerResult (lengths before) (tableOf ws)) (S .ran .1) ∙ ap (short (areaOf p)) (sym lent) in
     record {
       decides = k;
       small = rw lent (roomFor-most (lengths before) (areaOf p));

@@ -7,7 +7,7 @@ use mathlib.Core.List.{List}
 use Prim.Native.Nat.{ℕ, _<_}
 use native.Mathlib.Omega.{arith}
 use Rattle.procedure.specs.Graph.{Node, Result}
-use Rattle.procedure.specs.GraphLaws.{Sure}
+use Rattle.procedure.proofs.Sure.{Sure}
 use Rattle.procedure.proofs.Bare.{bare}
 use Rattle.procedure.proofs.Whole.{Ended, run-ends}
 use Rattle.words.specs.Sizes.{nodeSize}
@@ -31,13 +31,13 @@ use Rattle.conclusion.specs.declared.Verdict.the-variants as Is
 
 module _ {ws : List ℕ} {w : Work} {z : Step} {n e a : Bytes} (R : RunGives ws w z (work n e a)) where
   pub verdict-short : {p : Area} → z ≡ Full p → VerdictGives ws w (Is.Short p) (work n e a)
-  verdict-short er = record { case = record { ran = sym (refines-answer R er .meets) } }
+  verdict-short er = record { case = record { ran = refines-answer R er .meets } }
 
   module _ (ok : Decoded ws) {c : Counts} (er : z ≡ Done c) where
     root-there : 0 < c .nodes
     root-there =
         let S = bare (problemOf ws) (capacityOf w) (decoded-posed ok) in
-        let E : Ended S (graphOf (work n e a) c) = subst (λ (r : Result). Sure (Ended S) r) (sym (refines-answer R er .meets)) (run-ends S) in
+        let E : Ended S (graphOf (work n e a) c) = subst (λ (r : Result). Sure (problemOf ws) (Ended S) r) (sym (refines-answer R er .meets)) (run-ends S) in
         omega (arith, E .inv .root .0, count-nodes (work n e a) c)
 
     pub verdict-fits : Fits nodeSize n 0

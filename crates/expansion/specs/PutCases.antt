@@ -8,7 +8,7 @@ use Rattle.concepts.specs.RowSet.{RowSet}
 use Rattle.concepts.specs.RowSetLaws.{missing-all}
 use Rattle.procedure.specs.Problem.{Problem}
 use Rattle.procedure.specs.Graph.{Node, Graph, Capacity, Result, nodeAt}
-use Rattle.procedure.specs.GraphLaws.{Sure}
+use Rattle.procedure.proofs.Sure.{Sure}
 use Rattle.procedure.specs.Tableau.{put}
 use Rattle.procedure.proofs.Fit.{PutFit}
 use Rattle.procedure.proofs.ExpandFit as E
@@ -124,5 +124,5 @@ module _ {ws : List ℕ} {w : Work} {c : Counts} {x : ℕ} {A : ExpandAsks ws w 
           held = refines-held R;
           sized = sized-trans (N .sized) (R .sized);
           growing =
-              subst (λ (q : Result). Sure (Growing A) q) (sym q) (E.puts-done (P A) (cap A) (g A) x (A .still) (A .there) (A .fresh) h (N .growing) p ρ s M);
+              subst (λ (q : Result). Sure (P A) (Growing A) q) (sym q) (E.puts-done (P A) (cap A) (g A) x (A .still) (A .there) (A .fresh) h (N .growing) p ρ s M);
         }

@@ -42,11 +42,11 @@ module _ {A : Type 0} (x y : A) where
 module _ (k : G.Capacity) (v : G.Node) (g : G.Graph) where
   node-room : G.nodeCount g < k .nodeRoom → G.addNode k v g ≡ G.reached (G.appendNode v g)
   unfolding G.addNode
-  node-room h = picks-first (G.reached (G.appendNode v g)) (G.noPlace G.nodeArea) (ltb (length (g .nodes)) (k .nodeRoom)) (lt-ltb _ _ h)
+  node-room h = picks-first (G.reached (G.appendNode v g)) (G.noPlace G.nodeArea g) (ltb (length (g .nodes)) (k .nodeRoom)) (lt-ltb _ _ h)
 
-  node-none : k .nodeRoom ≤ G.nodeCount g → G.addNode k v g ≡ G.noPlace G.nodeArea
+  node-none : k .nodeRoom ≤ G.nodeCount g → G.addNode k v g ≡ G.noPlace G.nodeArea g
   unfolding G.addNode
-  node-none h = picks-second (G.reached (G.appendNode v g)) (G.noPlace G.nodeArea) (ltb (length (g .nodes)) (k .nodeRoom)) (le-ltb _ _ h)
+  node-none h = picks-second (G.reached (G.appendNode v g)) (G.noPlace G.nodeArea g) (ltb (length (g .nodes)) (k .nodeRoom)) (le-ltb _ _ h)
 
   -- where a node found its place, the graph has it at the end
   pub added-node : (h : G.Graph) → G.reached h ≡ G.addNode k v g → h ≡ G.appendNode v g
@@ -91,7 +91,7 @@ module _ {n n′ : Bytes} (c : Counts) (v : G.Node) where
 
 pub add-node-full : {n : Bytes} (c : Counts) (v : G.Node) → roomOf nodeSize n ≤ c .nodes → AddsNode n n c (Full Nodes) (λ k g. G.addNode k v g)
 add-node-full {n} c v l e a h = record {
-  meets = sym (node-none (capacityOf (work n e a)) v (graphOf (work n e a) c) (omega (arith, count-nodes (work n e a) c)));
+  meets = (graphOf (work n e a) c, node-none (capacityOf (work n e a)) v (graphOf (work n e a) c) (omega (arith, count-nodes (work n e a) c)));
   held = tt;
   sized = sized-refl;
 }
@@ -101,11 +101,11 @@ add-node-full {n} c v l e a h = record {
 module _ (k : G.Capacity) (x y : ℕ) (g : G.Graph) where
   edge-room : length (g .edges) < k .edgeRoom → G.addEdge k x y g ≡ G.reached (G.appendEdge x y g)
   unfolding G.addEdge
-  edge-room h = picks-first (G.reached (G.appendEdge x y g)) (G.noPlace G.edgeArea) (ltb (length (g .edges)) (k .edgeRoom)) (lt-ltb _ _ h)
+  edge-room h = picks-first (G.reached (G.appendEdge x y g)) (G.noPlace G.edgeArea g) (ltb (length (g .edges)) (k .edgeRoom)) (lt-ltb _ _ h)
 
-  edge-none : k .edgeRoom ≤ length (g .edges) → G.addEdge k x y g ≡ G.noPlace G.edgeArea
+  edge-none : k .edgeRoom ≤ length (g .edges) → G.addEdge k x y g ≡ G.noPlace G.edgeArea g
   unfolding G.addEdge
-  edge-none h = picks-second (G.reached (G.appendEdge x y g)) (G.noPlace G.edgeArea) (ltb (length (g .edges)) (k .edgeRoom)) (le-ltb _ _ h)
+  edge-none h = picks-second (G.reached (G.appendEdge x y g)) (G.noPlace G.edgeArea g) (ltb (length (g .edges)) (k .edgeRoom)) (le-ltb _ _ h)
 
 -- nodes that read as before, and one edge more
 graph-append-edge : (n n′ : Bytes) {e e′ : Bytes} (c : Counts) (x y : ℕ) → ((z : ℕ) → nodeIn n′ z ≡ nodeIn n z)
@@ -143,7 +143,7 @@ module _ {n n₁ n₂ e e₁ e₂ e₃ : Bytes} (c : Counts) (x y : ℕ) where
 
 pub add-edge-full : {n e : Bytes} (c : Counts) (x y : ℕ) → roomOf edgeSize e ≤ c .edges → AddsEdge n n e e c (Full Edges) (λ k g. G.addEdge k x y g)
 add-edge-full {n} {e} c x y l a h = record {
-  meets = sym (edge-none (capacityOf (work n e a)) x y (graphOf (work n e a) c) (omega (arith, count-edges (work n e a) c)));
+  meets = (graphOf (work n e a) c, edge-none (capacityOf (work n e a)) x y (graphOf (work n e a) c) (omega (arith, count-edges (work n e a) c)));
   held = tt;
   sized = sized-refl;
 }
@@ -154,7 +154,7 @@ module _ (k : G.Capacity) (x : ℕ) (s : RowSet) (g : G.Graph) where
   abbrev whereRoom : G.Result
   whereRoom = elim (ltb (length (g .alternatives)) (k .alternativeRoom)) as (λ _. G.Result) [
     | true ↦ G.reached (G.appendAlternative x s g)
-    | false ↦ G.noPlace G.alternativeArea
+    | false ↦ G.noPlace G.alternativeArea g
   ]
 
   alternative-known : G.hasAlternative x s g ≡ true → G.addAlternative k x s g ≡ G.reached g
@@ -166,13 +166,16 @@ module _ (k : G.Capacity) (x : ℕ) (s : RowSet) (g : G.Graph) where
   unfolding G.addAlternative
   alternative-room e h =
       picks-second (G.reached g) whereRoom (G.hasAlternative x s g) e
-      ∙ picks-first (G.reached (G.appendAlternative x s g)) (G.noPlace G.alternativeArea) (ltb (length (g .alternatives)) (k .alternativeRoom)) (lt-ltb _ _ h)
+      ∙ picks-first (G.reached (G.appendAlternative x s g)) (G.noPlace G.alternativeArea g)
+      (ltb (length (g .alternatives)) (k .alternativeRoom)) (lt-ltb _ _ h)
 
-  alternative-none : G.hasAlternative x s g ≡ false → k .alternativeRoom ≤ length (g .alternatives) → G.addAlternative k x s g ≡ G.noPlace G.alternativeArea
+  alternative-none : G.hasAlternative x s g ≡ false → k .alternativeRoom ≤ length (g .alternatives)
+      → G.addAlternative k x s g ≡ G.noPlace G.alternativeArea g
   unfolding G.addAlternative
   alternative-none e h =
       picks-second (G.reached g) whereRoom (G.hasAlternative x s g) e
-      ∙ picks-second (G.reached (G.appendAlternative x s g)) (G.noPlace G.alternativeArea) (ltb (length (g .alternatives)) (k .alternativeRoom)) (le-ltb _ _ h)
+      ∙ picks-second (G.reached (G.appendAlternative x s g)) (G.noPlace G.alternativeArea g)
+      (ltb (length (g .alternatives)) (k .alternativeRoom)) (le-ltb _ _ h)
 
 graph-append-alternative : (n n′ : Bytes) {a a′ : Bytes} (c : Counts) (x : ℕ) (s : RowSet) → ((z : ℕ) → nodeIn n′ z ≡ nodeIn n z)
     → Stored alternativeIn a a′ (c .alternatives) (alternativeOf s x) → (e : Bytes)
@@ -217,7 +220,7 @@ module _ {n a : Bytes} (c : Counts) (x : ℕ) (s : RowSet) where
   pub add-alternative-full : ((e : Bytes) → G.hasAlternative x s (graphOf (work n e a) c) ≡ false) → roomOf alternativeSize a ≤ c .alternatives
       → AddsAlternative n n a a c (Full Alternatives) (λ k g. G.addAlternative k x s g)
   add-alternative-full had l e h = record {
-    meets = sym (alternative-none (capacityOf (work n e a)) x s (graphOf (work n e a) c) (had e) (omega (arith, count-alternatives (work n e a) c)));
+    meets = (graphOf (work n e a) c, alternative-none (capacityOf (work n e a)) x s (graphOf (work n e a) c) (had e) (omega (arith, count-alternatives (work n e a) c)));
     held = tt;
     sized = sized-refl;
   }

@@ -81,9 +81,10 @@ areaOf Nodes = G.nodeArea
 areaOf Edges = G.edgeArea
 areaOf Alternatives = G.alternativeArea
 
-abbrev pub resultOf : Step → Work → G.Result
-resultOf (Done c) w = G.reached (graphOf w c)
-resultOf (Full p) w = G.noPlace (areaOf p)
+-- an answer, with the areas that it leaves, says a result; where a record found no place the areas may hold anything
+abbrev pub Meets : Step → Work → G.Result → Type 0
+Meets (Done c) w r = G.reached (graphOf w c) ≡ r
+Meets (Full p) w r = G.FindsNoPlace (areaOf p) r
 
 abbrev pub HeldAfter : Step → Counts → Work → Type 0
 HeldAfter (Done d) c w = Held w d × Grown c d
@@ -95,7 +96,7 @@ Operation = G.Capacity → G.Graph → G.Result
 
 -- from the areas w with counts c, the answer r and the areas w′ are those of f
 pub record Refines (w : Work) (c : Counts) (r : Step) (w′ : Work) (f : Operation) : Type 0 where
-  pub meets : resultOf r w′ ≡ f (capacityOf w) (graphOf w c)
+  pub meets : Meets r w′ (f (capacityOf w) (graphOf w c))
   pub held : HeldAfter r c w′
   pub sized : Sized w w′
 

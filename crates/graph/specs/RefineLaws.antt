@@ -1,12 +1,11 @@
 -- Laws of refinement: steps one after another, changes, and loops over a list.
 --
 -- In order: a step by another name (`refines-as`); a step after a step, and after one that found no place; changes; a loop over `forEach` (`Course`).
--- Assumes nothing.
 use mathlib.Core.Path.{_≡_, refl, sym, ap, _∙_, subst}
 use mathlib.Core.List.{List, [], _∷_}
 use Rattle.procedure.specs.Graph as G
-use Rattle.procedure.specs.TableauLaws.{bind-reached, bind-noPlace, forEach-none, forEach-cons}
-use Rattle.graph.specs.Graphs.{Work, graphOf, capacityOf, Held, Grown, Sized, areaOf, resultOf, HeldAfter, Operation, Refines, Changes}
+use Rattle.procedure.specs.TableauLaws.{bind-reached, short-bind, short-as, forEach-none, forEach-cons}
+use Rattle.graph.specs.Graphs.{Work, graphOf, capacityOf, Held, Grown, Sized, Meets, HeldAfter, Operation, Refines, Changes}
 use Rattle.graph.specs.GraphLaws.{grown-refl, grown-trans, sized-refl, sized-trans, sized-places}
 use Rattle.graph.specs.declared.Counts.{Counts}
 use Rattle.graph.specs.declared.Area.{Area}
@@ -25,7 +24,7 @@ module _ {w : Work} {c : Counts} {r : Step} {w′ : Work} {f : Operation} (R : R
 
   -- an operation that gives the same here
   pub refines-as : {h : Operation} → h (capacityOf w) (graphOf w c) ≡ f (capacityOf w) (graphOf w c) → Refines w c r w′ h
-  refines-as e = record { meets = R .meets ∙ sym e; held = R .held; sized = R .sized }
+  refines-as e = record { meets = subst (Meets r w′) (sym e) (R .meets); held = R .held; sized = R .sized }
 
 -- ---- one step after another; the second may look at the graph of the start
 
@@ -33,10 +32,12 @@ module _ {w : Work} {c d : Counts} {w₁ : Work} {f : Operation} (R : Refines w 
   pub refines-held : Held w₁ d
   refines-held = R .held .0
 
-  pub refines-then : (next : G.Graph → Operation) {r : Step} {w₂ : Work} → Refines w₁ d r w₂ (next (graphOf w c)) → Refines w c r w₂ (λ k g. G._>>=_ (f k g) (next g k))
+  pub refines-then : (next : G.Graph → Operation) {r : Step} {w₂ : Work} → Refines w₁ d r w₂ (next (graphOf w c))
+      → Refines w c r w₂ (λ k g. G._>>=_ (f k g) (next g k))
   refines-then next {r} {w₂} S = record {
-    meets = S .meets ∙ ap (λ (k : G.Capacity). next (graphOf w c) k (graphOf w₁ d)) (sized-places (R .sized))
-        ∙ sym (bind-reached (graphOf w₁ d) (next (graphOf w c) (capacityOf w))) ∙ ap (λ (x : G.Result). G._>>=_ x (next (graphOf w c) (capacityOf w))) (R .meets);
+    meets = subst (Meets r w₂) (ap (λ (k : G.Capacity). next (graphOf w c) k (graphOf w₁ d)) (sized-places (R .sized))
+        ∙ sym (bind-reached (graphOf w₁ d) (next (graphOf w c) (capacityOf w)))
+        ∙ ap (λ (x : G.Result). G._>>=_ x (next (graphOf w c) (capacityOf w))) (R .meets)) (S .meets);
     held = held-further r w₂ (R .held .1) (S .held);
     sized = sized-trans (R .sized) (S .sized);
   }
@@ -44,7 +45,7 @@ module _ {w : Work} {c d : Counts} {w₁ : Work} {f : Operation} (R : Refines w 
 pub refines-short : {w : Work} {c : Counts} {p : Area} {w₁ : Work} {f : Operation} → Refines w c (Full p) w₁ f
     → (next : G.Graph → Operation) {w₂ : Work} → Sized w₁ w₂ → Refines w c (Full p) w₂ (λ k g. G._>>=_ (f k g) (next g k))
 refines-short {w} {c} {p} R next z = record {
-  meets = sym (bind-noPlace (areaOf p) (next (graphOf w c) (capacityOf w))) ∙ ap (λ (x : G.Result). G._>>=_ x (next (graphOf w c) (capacityOf w))) (R .meets);
+  meets = short-bind (R .meets) (next (graphOf w c) (capacityOf w));
   held = tt;
   sized = sized-trans (R .sized) z;
 }
@@ -60,9 +61,11 @@ module _ {w : Work} {c : Counts} {w₁ : Work} {f : G.Graph → G.Graph} (C : Ch
   changes-refines = record { meets = ap G.reached (C .meets); held = (C .held, grown-refl); sized = C .sized }
 
   -- a step after a change
-  pub changes-then : (next : G.Graph → Operation) {r : Step} {w₂ : Work} → Refines w₁ c r w₂ (next (graphOf w c)) → Refines w c r w₂ (λ k g. next g k (f g))
+  pub changes-then : (next : G.Graph → Operation) {r : Step} {w₂ : Work} → Refines w₁ c r w₂ (next (graphOf w c))
+      → Refines w c r w₂ (λ k g. next g k (f g))
   changes-then next {r} {w₂} S = record {
-    meets = S .meets ∙ ap (λ (k : G.Capacity). next (graphOf w c) k (graphOf w₁ c)) (sized-places (C .sized)) ∙ ap (next (graphOf w c) (capacityOf w)) (C .meets);
+    meets = subst (Meets r w₂) (ap (λ (k : G.Capacity). next (graphOf w c) k (graphOf w₁ c)) (sized-places (C .sized))
+        ∙ ap (next (graphOf w c) (capacityOf w)) (C .meets)) (S .meets);
     held = S .held;
     sized = sized-trans (C .sized) (S .sized);
   }
@@ -96,11 +99,13 @@ module _ {A : Type 0} {step : G.Capacity → A → G.Graph → G.Result} {all : 
   }
 
   module _ {x : A} {rest : List A} (L : Course step all w c (x ∷ rest) w′ d) where
-    -- what is left, with the step that was done
-    done : {r : Step} {w″ : Work} → Refines w′ d r w″ (λ k g. step k x g)
-        → G._>>=_ (resultOf r w″) (G.forEach (step (capacityOf w)) rest) ≡ G.forEach (step (capacityOf w)) all (graphOf w c)
-    done R =
-        ap (λ (y : G.Result). G._>>=_ y (G.forEach (step (capacityOf w)) rest)) (R .meets ∙ ap (λ (k : G.Capacity). step k x (graphOf w′ d)) (sized-places (L .sized)))
+    abbrev left-over : G.Graph → G.Result
+    left-over g = G.forEach (step (capacityOf w)) rest g
+
+    -- the next step, and then what is left over
+    step-then : G._>>=_ (step (capacityOf w′) x (graphOf w′ d)) left-over ≡ G.forEach (step (capacityOf w)) all (graphOf w c)
+    step-then =
+        ap (λ (k : G.Capacity). G._>>=_ (step k x (graphOf w′ d)) left-over) (sized-places (L .sized))
         ∙ sym (forEach-cons (step (capacityOf w)) x rest (graphOf w′ d)) ∙ L .left
 
     pub course-next : {w″ : Work} {d′ : Counts} → Refines w′ d (Done d′) w″ (λ k g. step k x g) → Course step all w c rest w″ d′
@@ -108,12 +113,13 @@ module _ {A : Type 0} {step : G.Capacity → A → G.Graph → G.Result} {all : 
       held = R .held .0;
       grown = grown-trans (L .grown) (R .held .1);
       sized = sized-trans (L .sized) (R .sized);
-      left = sym (bind-reached (graphOf w″ d′) (G.forEach (step (capacityOf w)) rest)) ∙ done R;
+      left = sym (bind-reached (graphOf w″ d′) left-over) ∙ ap (λ (y : G.Result). G._>>=_ y left-over) (R .meets) ∙ step-then;
     }
 
-    pub course-short : {w″ : Work} {p : Area} → Refines w′ d (Full p) w″ (λ k g. step k x g) → Refines w c (Full p) w″ (λ k g. G.forEach (step k) all g)
+    pub course-short : {w″ : Work} {p : Area} → Refines w′ d (Full p) w″ (λ k g. step k x g)
+        → Refines w c (Full p) w″ (λ k g. G.forEach (step k) all g)
     course-short {w″} {p} R = record {
-      meets = sym (bind-noPlace (areaOf p) (G.forEach (step (capacityOf w)) rest)) ∙ done R;
+      meets = short-as (short-bind (R .meets) left-over) step-then;
       held = tt;
       sized = sized-trans (L .sized) (R .sized);
     }

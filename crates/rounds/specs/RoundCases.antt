@@ -15,7 +15,7 @@ use Rattle.procedure.specs.Problem.{Problem}
 use Rattle.procedure.specs.Graph.{Node, Graph, Capacity, Result, reached, _>>=_, nodeCount, nodeAt, lowestUnset}
 use Rattle.procedure.specs.GraphLaws.{lowestUnset-some}
 use Rattle.procedure.specs.Tableau.{expand, loopWithin}
-use Rattle.procedure.specs.TableauLaws.{bind-reached, bind-noPlace, loop-settled, loop-done, loop-round}
+use Rattle.procedure.specs.TableauLaws.{bind-reached, short-bind, short-as, loop-settled, loop-done, loop-round}
 use Rattle.procedure.proofs.Measure.{count-le, withAStatus}
 use Rattle.procedure.proofs.ExpandFit.{Still, still-after, status-stays}
 use Rattle.words.specs.Sizes.{nodeSize}
@@ -23,7 +23,7 @@ use Rattle.problem.specs.Decoded.{problemOf}
 use Rattle.records.specs.Areas.{Bytes, roomOf, Fits}
 use Rattle.records.specs.Codes.{statusOf}
 use Rattle.records.specs.Records.{nodeIn, IsNode, isUnsetAt}
-use Rattle.graph.specs.Graphs.{Work, work, graphOf, capacityOf, Held, Grown, Sized, areaOf, resultOf, WithNodes, foundOf, PassedOver}
+use Rattle.graph.specs.Graphs.{Work, work, graphOf, capacityOf, Held, Grown, Sized, WithNodes, foundOf, PassedOver}
 use Rattle.graph.specs.GraphLaws.{grown-refl, grown-trans, sized-refl, sized-trans, sized-places, count-nodes, graph-node, held-node}
 use Rattle.graph.specs.RefineLaws.{refines-answer}
 use Rattle.graph.specs.declared.Counts.{Counts}
@@ -158,23 +158,26 @@ module _ {ws : List ℕ} {w : Work} {c : Counts} {n′ e′ a′ : Bytes} {d : C
 
   module _ {w″ : Work} {r : Step} (G : ExpandGives ws (work n′ e′ a′) d x r w″) where
     -- the expansion, in the places of the start
-    expanded : {s : Step} → r ≡ s → resultOf s w″ ≡ expand (P T) (cap T) x (h T)
-    expanded er = refines-answer G er .meets ∙ ap (λ (q : Capacity). expand (P T) q x (h T)) places
+    same-places : expand (P T) (capacityOf (work n′ e′ a′)) x (h T) ≡ expand (P T) (cap T) x (h T)
+    same-places = ap (λ (q : Capacity). expand (P T) q x (h T)) places
 
-    round : {s : Step} → r ≡ s → (resultOf s w″ >>= loop T (fueled T .0)) ≡ allRounds ws (cap T) (g T)
-    round er =
-        ap (λ (q : Result). q >>= loop T (fueled T .0)) (expanded er) ∙ sym (loop-round (P T) (cap T) (fueled T .0) (h T) (F .live) x (F .found)) ∙ fueled T .2
+    -- the expansion, and then the rounds that are left
+    round : (expand (P T) (cap T) x (h T) >>= loop T (fueled T .0)) ≡ allRounds ws (cap T) (g T)
+    round = sym (loop-round (P T) (cap T) (fueled T .0) (h T) (F .live) x (F .found)) ∙ fueled T .2
 
     pub turn-short : {p : Area} → r ≡ Full p → RoundsGives ws w c (Full p) w″
     turn-short {p} er = record {
-      meets = sym (bind-noPlace (areaOf p) (loop T (fueled T .0))) ∙ round er;
+      meets = short-as (short-bind (short-as (refines-answer G er .meets) same-places) (loop T (fueled T .0))) round;
       held = tt;
       sized = sized-trans (T .sized) (G .sized);
     }
 
     module _ {d₂ : Counts} (er : r ≡ Done d₂) where
+      expanded : reached (graphOf w″ d₂) ≡ expand (P T) (cap T) x (h T)
+      expanded = refines-answer G er .meets ∙ same-places
+
       after : Still (P T) (cap T) (graphOf w″ d₂) × (withAStatus (h T) < withAStatus (graphOf w″ d₂))
-      after = still-after (P T) (cap T) (h T) x (T .still) there fresh (graphOf w″ d₂) (sym (expanded er))
+      after = still-after (P T) (cap T) (h T) x (T .still) there fresh (graphOf w″ d₂) (sym expanded)
 
       -- one node more has a status
       pub turn-less : roomOf nodeSize (w .nodes) - withAStatus (graphOf w″ d₂) < roomOf nodeSize (w .nodes) - withAStatus (graphOf (work n′ e′ a′) d)
@@ -186,8 +189,12 @@ module _ {ws : List ℕ} {w : Work} {c : Counts} {n′ e′ a′ : Bytes} {d : C
       set-after k l u =
           let was : isUnset (nodeAt (h T) k .status) ≡ false = ap (λ (v : Node). isUnset (v .status)) (graph-node (work n′ e′ a′) d k l) ∙ u in
           ap (λ (v : Node). isUnset (v .status)) (sym (graph-node w″ d₂ k (omega (arith, l, refines-answer G er .held .1 .nodes))))
-          ∙ status-stays (P T) (cap T) (h T) x (T .still) there fresh (graphOf w″ d₂) (sym (expanded er)) k
+          ∙ status-stays (P T) (cap T) (h T) x (T .still) there fresh (graphOf w″ d₂) (sym expanded) k
           (omega (arith, l, count-nodes (work n′ e′ a′) d)) was
+
+      left : loop T (fueled T .0) (graphOf w″ d₂) ≡ allRounds ws (cap T) (g T)
+      left =
+          sym (bind-reached (graphOf w″ d₂) (loop T (fueled T .0))) ∙ ap (λ (q : Result). q >>= loop T (fueled T .0)) expanded ∙ round
 
       pub turn-expanded : RoundsDone ws w c w″ d₂ x
       turn-expanded = let R = refines-answer G er in record {
@@ -198,5 +205,5 @@ module _ {ws : List ℕ} {w : Work} {c : Counts} {n′ e′ a′ : Bytes} {d : C
         place = omega (arith, there, count-nodes (work n′ e′ a′) d, R .held .1 .nodes);
         passed = λ k l. set-after k (omega (arith, l, there, count-nodes (work n′ e′ a′) d)) (F .passed k l);
         still = after .0;
-        rest = (fueled T .0, omega (arith, fueled T .1, after .1), sym (bind-reached (graphOf w″ d₂) (loop T (fueled T .0))) ∙ round er);
+        rest = (fueled T .0, omega (arith, fueled T .1, after .1), left);
       }

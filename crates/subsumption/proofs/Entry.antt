@@ -15,7 +15,7 @@ use Rattle.decoding.specs.Decoding.{ruleKinds}
 use Rattle.rulefile.specs.Format.{Bytes, wantedRows, RuleFile, accepted, reading, readingFor}
 use Rattle.rulefile.specs.FormatLaws.{accepted-admitted}
 use Rattle.rulefile.specs.WantedLaws.{wanting, reading-wanting}
-use Rattle.procedure.specs.Graph.{Area, roomFor, noPlace}
+use Rattle.procedure.specs.Graph.{Area, roomFor, FindsNoPlace}
 use Rattle.procedure.specs.Example.{Example, worldOf}
 use Rattle.run.specs.Run.{Lengths, capacity, Answer, refusedFile, short, cannot, can, tooLong, undefined, answerFor, answerResult}
 use Rattle.run.specs.Claim.{Shows}
@@ -88,7 +88,7 @@ module _ (f : RuleFile) (a b : ℕ) (ma : List·Memᴰ a (names (f .table))) (mb
     module _ (l : Lengths) where
       -- a record that finds no place gives no other answer
       abbrev NoPlaceIs : Answer → Type 0
-      NoPlaceIs k = (r : Area) → ranFor f l a b ≡ noPlace r → k ≡ short r (roomFor (capacity l) r)
+      NoPlaceIs k = (r : Area) → FindsNoPlace r (ranFor f l a b) → k ≡ short r (roomFor (capacity l) r)
 
       -- by what backs it
       answered-right : (k : Answer) → Backs (wanting (rowsFor f a b) f) l k → NoPlaceIs k → EntryRight f l a b (entryOf k)
@@ -144,4 +144,4 @@ module _ (file : Bytes) (f : RuleFile) (e : reading file ≡ accepted f) (l : Le
   entry-right =
       let answered = answer-accepted (rowsFor f a b) file l (wanting (rowsFor f a b) f) reads-rows in
       answered-right f a b ma mb (accepted-admitted ruleKinds (wantedRows file) file f e .wellFormed .ordered) l (answerFor (rowsFor f a b) file l)
-      (answer-backed (rowsFor f a b) file l (wanting (rowsFor f a b) f) reads-rows) (λ r q. answered ∙ ap (answerResult l (f .table)) q)
+      (answer-backed (rowsFor f a b) file l (wanting (rowsFor f a b) f) reads-rows) (λ r q. answered ∙ ap (answerResult l (f .table)) (q .1))

@@ -14,7 +14,7 @@ use Rattle.concepts.specs.RowSet.{fromList}
 use Rattle.meaning.specs.Meaning.{World, finite, Obeys, ObeysInclusions}
 use Rattle.rulefile.specs.Format.{Bytes, RuleFile, refused, accepted, reading}
 use Rattle.procedure.specs.Problem.{problem}
-use Rattle.procedure.specs.Graph.{Area, Result, noPlace}
+use Rattle.procedure.specs.Graph.{Area, Result, FindsNoPlace}
 use Rattle.procedure.specs.Tableau.{run}
 use Rattle.run.specs.Run.{Lengths, capacity}
 use Rattle.subsumption.specs.Names.{positive, negative, names}
@@ -46,8 +46,8 @@ Decided v = v ≡ 2 → ⊥
 pub record EntryRight (f : RuleFile) (l : Lengths) (a b v : ℕ) : Type 0 where
   pub value : (v ≡ 0) ⊎ ((v ≡ 1) ⊎ (v ≡ 2))
   -- 2 exactly when a record of that run finds no place
-  pub short : v ≡ 2 → (r : Area) × (ranFor f l a b ≡ noPlace r)
-  pub shortOnly : (r : Area) → ranFor f l a b ≡ noPlace r → v ≡ 2
+  pub short : v ≡ 2 → (r : Area) × FindsNoPlace r (ranFor f l a b)
+  pub shortOnly : (r : Area) → FindsNoPlace r (ranFor f l a b) → v ≡ 2
   -- else 1 exactly when no finite world of any size that obeys the rules has an a that is no b
   pub under : v ≡ 1 → Counterexample f a b → ⊥
   pub underOnly : Decided v → (Counterexample f a b → ⊥) → v ≡ 1

@@ -20,7 +20,8 @@ use Rattle.procedure.specs.Problem.{Problem}
 use Rattle.procedure.specs.SetTests.{clash, unfinished, lacking}
 use Rattle.procedure.specs.SetTestLaws.{lacking-no-role}
 use Rattle.procedure.specs.Graph.{Node, Graph, Capacity, Result, _>>=_, addEdge, nodeAt, nodeCount}
-use Rattle.procedure.specs.GraphLaws.{Sure, Child}
+use Rattle.procedure.specs.GraphLaws.{Child}
+use Rattle.procedure.proofs.Sure.{Sure}
 use Rattle.procedure.specs.Tableau.{linkSpecial, judge}
 use Rattle.procedure.specs.TableauLaws.{put-clash, put-unfinished, put-lapsed, put-linked}
 use Rattle.procedure.proofs.Bare.{bare}
@@ -189,7 +190,7 @@ module _ {ws : List ℕ} {n e a : Bytes} {c : Counts} {m p ρ : ℕ} {s : RowSet
   started =
       let B = A .fit .pre in
       let K = L .complete in
-      subst (λ (r : Result). Sure (Started S Anyone (g A) p ρ s) r) (sym (L .gives .meets))
+      subst (λ (r : Result). Sure (S .problem) (Started S Anyone (g A) p ρ s) r) (sym (L .gives .meets))
       (special-started S Anyone (g A) p ρ s (A .fit .fit .inv) (B .place) (eqb→eq (lacked A) empty (from-true (eqb (lacked A) empty) (K .nothing)))
       (anyone-quiet S (g A)) (B .standing) (B .rules)
       (from-false (clash (P A) s) (K .finished .clean)) (from-false (unfinished (P A .table) s) (K .finished .finished)))

@@ -11,7 +11,8 @@ use lib.ListN.{length}
 use Rattle.concepts.specs.RowSet.{RowSet, union}
 use Rattle.procedure.specs.Problem.{Problem}
 use Rattle.procedure.specs.Graph.{lapsed, Node, Graph, Capacity, Result, reached, nodeAt, children, alternativesOf, setLink}
-use Rattle.procedure.specs.GraphLaws.{Sure, Child, children-edges}
+use Rattle.procedure.specs.GraphLaws.{Child, children-edges}
+use Rattle.procedure.proofs.Sure.{Sure}
 use Rattle.procedure.specs.Tableau.{judgeBranch, putWithin}
 use Rattle.procedure.specs.TableauLaws.{alternatives-put}
 use Rattle.procedure.proofs.Bare.{bare}
@@ -100,7 +101,7 @@ module _ {ws : List ℕ} {w : Work} {c : Counts} {z y : ℕ} (A : SmallAsks ws w
     one-less : (u : Graph) → reached u ≡ step k (capacityOf w) b h → Alternates todo u
     one-less u q =
         alternate-done S linked-node b todo h alternates u
-        (subst (λ (r : Result). Sure (PutPost S (λ x. Anyone x ⊎ (x ≡ z)) h z (nodeAt g z .pst) (nodeAt g z .prl) (joined b)) r) (sym q)
+        (subst (λ (r : Result). Sure (S .problem) (PutPost S (λ x. Anyone x ⊎ (x ≡ z)) h z (nodeAt g z .pst) (nodeAt g z .prl) (joined b)) r) (sym q)
         (within-right S k (λ x. Anyone x ⊎ (x ≡ z)) h z (nodeAt g z .pst) (nodeAt g z .prl) (joined b) (alternates .inv) (alternates .quiet) pre fewer))
 
 -- ---- the loop's invariant

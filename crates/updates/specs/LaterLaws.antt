@@ -1,11 +1,10 @@
 -- Laws of areas some steps later (`Later`): one time after another; what stays as it was; an update that is done leads to such areas.
--- Assumes nothing.
 use mathlib.Core.Path.{_≡_, sym, ap, subst}
 use mathlib.Core.List.{List}
 use Prim.Native.Nat.{ℕ, _+_, _≤_, _<_}
 use native.Mathlib.Omega.{arith}
 use Rattle.procedure.specs.Graph.{Capacity, Result}
-use Rattle.procedure.specs.GraphLaws.{Sure}
+use Rattle.procedure.proofs.Sure.{Sure}
 use Rattle.procedure.proofs.Grows.{grows-refl, grows-trans}
 use Rattle.procedure.proofs.Measure.{settled, settled-grows}
 use Rattle.procedure.proofs.Fit.{Fit, UpdateDone, update-done}
@@ -61,7 +60,7 @@ module _ {ws : List ℕ} {w : Work} {c : Counts} {x : ℕ} {w′ : Work} {d : Co
   meant = G most (omega arith)
 
   done : UpdateDone (problemOf ws) (capacityOf w) (graphOf w c) (graphOf w′ d)
-  done = subst (λ (r : Result). Sure (UpdateDone (problemOf ws) (capacityOf w) (graphOf w c)) r) (sym (meant .meets))
+  done = subst (λ (r : Result). Sure (problemOf ws) (UpdateDone (problemOf ws) (capacityOf w) (graphOf w c)) r) (sym (meant .meets))
       (update-done (problemOf ws) (capacityOf w) (graphOf w c) (A .fit) most x (omega arith))
 
   pub update-later : Later w c w′ d

@@ -14,7 +14,7 @@ use Rattle.procedure.specs.Status.{«open», isOpen}
 use Rattle.procedure.specs.StatusLaws.{is-open}
 use Rattle.procedure.specs.Problem.{Problem}
 use Rattle.procedure.specs.Graph.{Node, Graph, Capacity, Result, nodeAt}
-use Rattle.procedure.specs.GraphLaws.{Sure}
+use Rattle.procedure.proofs.Sure.{Sure}
 use Rattle.procedure.specs.Tableau.{judge, put, updateChanged}
 use Rattle.procedure.specs.TableauLaws.{update-settled, update-open, changed-not, changed-parents}
 use Rattle.procedure.proofs.Measure.{settled}
@@ -140,7 +140,7 @@ module _ {ws : List ℕ} {n e a : Bytes} {c : Counts} {x : ℕ} {A : UpdateAsks 
   module _ (L : Loaded n₁ x false) where
     after : OpenJudged (P A) (capacityOf (w A)) (g A) x (A .fit) (is (j .opened)) h
     after =
-        subst (λ (r : Result). Sure (OpenJudged (P A) (capacityOf (w A)) (g A) x (A .fit) (is (j .opened))) r) (sym (j .gives .meets))
+        subst (λ (r : Result). Sure (P A) (OpenJudged (P A) (capacityOf (w A)) (g A) x (A .fit) (is (j .opened))) r) (sym (j .gives .meets))
         (open-done (P A) (capacityOf (w A)) (g A) x (A .fit) (is (j .opened)))
 
     rises : settled (g A) < settled h
