@@ -15,8 +15,8 @@ use Rattle.problem.specs.Decoded.{problemOf, Decoded}
 use Rattle.problem.specs.DecodedLaws.{decoded-posed}
 use Rattle.records.specs.Areas.{Bytes, Fits}
 use Rattle.records.specs.Codes.{statusOf}
-use Rattle.records.specs.Records.{IsNode}
-use Rattle.records.specs.declared.Node as D
+use Rattle.records.specs.Records.{IsStatus}
+use Rattle.records.specs.declared.Status.{Status}
 use Rattle.graph.specs.Graphs.{Work, work, graphOf, capacityOf}
 use Rattle.graph.specs.GraphLaws.{held-node, count-nodes, graph-node}
 use Rattle.graph.specs.RefineLaws.{refines-answer, refines-held}
@@ -43,13 +43,13 @@ module _ {ws : List ℕ} {w : Work} {z : Step} {n e a : Bytes} (R : RunGives ws 
     pub verdict-fits : Fits nodeSize n 0
     verdict-fits = held-node (refines-held (refines-answer R er)) root-there
 
-    -- the root was loaded, and says "can" or does not
-    module _ {b : Bool} (d : D.Node) (loaded : IsNode n 0 d) (hb : b ≡ goodRoot (statusOf (d .status))) where
+    -- the root's status was loaded, and says "can" or does not
+    module _ {b : Bool} (s : Status) (loaded : IsStatus n 0 s) (hb : b ≡ goodRoot (statusOf s)) where
       says : {v : Bool} → b ≡ v → EndsWith ws w c (work n e a) v
       says hv = record {
         ran = sym (refines-answer R er .meets);
         held = refines-held (refines-answer R er);
-        says = ap (λ (u : Node). goodRoot (u .status)) (graph-node (work n e a) c 0 root-there ∙ sym loaded) ∙ sym hb ∙ hv;
+        says = ap goodRoot (ap (λ (u : Node). u .status) (graph-node (work n e a) c 0 root-there) ∙ sym loaded) ∙ sym hb ∙ hv;
       }
 
       pub verdict-can : b ≡ true → VerdictGives ws w (Is.Can c) (work n e a)

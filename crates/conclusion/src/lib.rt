@@ -22,8 +22,8 @@ use records::ALTERNATIVE_BYTES;
 use records::EDGE_BYTES;
 use records::NODE_BYTES;
 use records::Status;
-use records::load_node;
 use records::room;
+use records::status_of;
 use rounds::run;
 use rowset::SET_BYTES;
 use walk::walk;
@@ -90,8 +90,7 @@ pub fn verdict_of(
     match run(problem, nodes, edges, alternatives) {
         Step::Full(area) => Verdict::Short(area),
         Step::Done(c) => {
-            let root = load_node(nodes, 0);
-            let status = root.status;
+            let status = status_of(nodes, 0);
             if says_can(status) {
                 return Verdict::Can(c);
             }

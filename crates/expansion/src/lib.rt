@@ -16,6 +16,7 @@ use graph::Step;
 use records::is_open;
 use records::load_node;
 use records::node_set;
+use records::status_of;
 use rowset::SET_BYTES;
 use rowset::SET_WORDS;
 use rowset::copy;
@@ -206,8 +207,7 @@ pub fn expand(
         Step::Done(d) => match judge(problem, nodes, edges, alternatives, d, x) {
             Step::Full(area) => Step::Full(area),
             Step::Done(b) => {
-                let node = load_node(nodes, x as usize);
-                let status = node.status;
+                let status = status_of(nodes, x as usize);
                 if is_open(status) {
                     return Step::Done(b);
                 }

@@ -16,6 +16,8 @@ use Rattle.records.specs.Codes.{statusOf, statusCode, statusIn, flagCode
 use Rattle.records.specs.Areas.{Bytes, field, Written}
 use Rattle.records.specs.Layout.{statusAt, isStateAt, pstAt, prlAt, linkKindAt, linkNumberAt, nodeExtent}
 use Rattle.records.specs.Layout.{fromAt, toAt, edgeExtent, ownerAt, alternativeExtent}
+use Rattle.records.specs.declared.Status.{Status}
+use Rattle.records.specs.declared.Link.{Link}
 use Rattle.records.specs.declared.Node.{Node}
 use Rattle.records.specs.declared.Edge.{Edge}
 
@@ -40,6 +42,13 @@ nodeIn b x =
 -- the value d is what node x of an area has besides its set
 abbrev pub IsNode : Bytes → ℕ → Node → Type 0
 IsNode b x d = nodeOf (setOf b (nodeSize * x)) d ≡ nodeIn b x
+
+-- .. what it has as its status, and as its link
+abbrev pub IsStatus : Bytes → ℕ → Status → Type 0
+IsStatus b x s = statusOf s ≡ nodeIn b x .status
+
+abbrev pub IsLink : Bytes → ℕ → Link → Type 0
+IsLink b x l = linkOf l ≡ nodeIn b x .link
 
 abbrev pub nodeFields : RowSet → Node → List Field
 nodeFields s n =

@@ -267,6 +267,25 @@ pub fn store_alternative(alternatives: &mut [u8], i: usize, s: &[u8; SET_BYTES],
     put2(alternatives, at + OWNER_AT, owner);
 }
 
+// The status of node x of the area, and its link.
+pub fn status_of(nodes: &[u8], x: usize) -> Status
+    requires { ⌜ Fits nodeSize (now nodes) x ⌝ }
+    ensures { λ r. ⌜ Records.IsStatus (now (nodes .entry)) x r ⌝ }
+{
+    status_from(get1(nodes, NODE_BYTES * x + STATUS_AT))
+}
+
+pub fn link_of(nodes: &[u8], x: usize) -> Link
+    requires { ⌜ Fits nodeSize (now nodes) x ⌝ }
+    ensures { λ r. ⌜ Records.IsLink (now (nodes .entry)) x r ⌝ }
+{
+    let at = NODE_BYTES * x;
+    link_from(
+        get1(nodes, at + LINK_KIND_AT),
+        get2(nodes, at + LINK_NUMBER_AT),
+    )
+}
+
 // Whether node x of the area has no status.
 pub fn is_unset(nodes: &[u8], x: usize) -> bool
     requires { ⌜ Fits nodeSize (now nodes) x ⌝ }

@@ -22,14 +22,14 @@ use Rattle.words.specs.Sizes.{nodeSize}
 use Rattle.problem.specs.Decoded.{problemOf}
 use Rattle.records.specs.Areas.{Bytes, roomOf, Fits}
 use Rattle.records.specs.Codes.{statusOf}
-use Rattle.records.specs.Records.{nodeIn, IsNode, isUnsetAt}
+use Rattle.records.specs.Records.{nodeIn, IsStatus, isUnsetAt}
 use Rattle.graph.specs.Graphs.{Work, work, graphOf, capacityOf, Held, Grown, Sized, WithNodes, foundOf, PassedOver}
 use Rattle.graph.specs.GraphLaws.{grown-refl, grown-trans, sized-refl, sized-trans, sized-places, count-nodes, graph-node, held-node}
 use Rattle.graph.specs.RefineLaws.{refines-answer}
 use Rattle.graph.specs.declared.Counts.{Counts}
 use Rattle.graph.specs.declared.FoundNode.{FoundNode}
 use Rattle.graph.specs.declared.FoundNode.the-variants as Found
-use Rattle.records.specs.declared.Node as D
+use Rattle.records.specs.declared.Status.{Status}
 use Rattle.graph.specs.declared.Area.{Area}
 use Rattle.graph.specs.declared.Step.{Step}
 use Rattle.graph.specs.declared.Step.the-variants.{Done, Full}
@@ -44,8 +44,8 @@ statuses-fit P c g A = omega (arith, A .inv .fits, count-le (λ n. not (isUnset 
 pub record RootLive (n : Bytes) (b : Bool) : Type 0 where
   pub status : isLive (nodeIn n 0 .status) ≡ b
 
-pub root-live : {n : Bytes} {b v : Bool} (d : D.Node) → IsNode n 0 d → b ≡ isLive (statusOf (d .status)) → b ≡ v → RootLive n v
-root-live d hd hb hv = record { status = ap (λ (u : Node). isLive (u .status)) (sym hd) ∙ sym hb ∙ hv }
+pub root-live : {n : Bytes} {b v : Bool} (s : Status) → IsStatus n 0 s → b ≡ isLive (statusOf s) → b ≡ v → RootLive n v
+root-live s hs hb hv = record { status = ap isLive (sym hs) ∙ sym hb ∙ hv }
 
 -- ---- the loop's invariant
 

@@ -14,7 +14,7 @@ use records::Link;
 use records::Node;
 use records::Status;
 use records::is_live;
-use records::load_node;
+use records::status_of;
 use rowset::SET_BYTES;
 
 // Expands the lowest node without status, which is looked for from the one before on, "until the root is yes, never or small or no node lacks a status".
@@ -34,8 +34,7 @@ fn rounds(
     // every node below has a status
     let mut from: usize = 0;
     loop {
-        let root = load_node(nodes, 0);
-        let status = root.status;
+        let status = status_of(nodes, 0);
         if !is_live(status) {
             return Step::Done(cur);
         }

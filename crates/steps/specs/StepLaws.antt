@@ -13,13 +13,13 @@ use Rattle.procedure.specs.GraphLaws.{find-state}
 use Rattle.procedure.specs.Tableau.{below, state, joinAlternatives, linkTo, linkFound, linkSpecial}
 use Rattle.records.specs.Areas.{Bytes}
 use Rattle.records.specs.Codes.{statusOf}
-use Rattle.records.specs.Records.{nodeOf, nodeIn}
+use Rattle.records.specs.Records.{nodeIn, IsStatus}
 use Rattle.graph.specs.Graphs.{Work, work, graphOf, capacityOf, Held, Operation, Refines, WithNodes, AddsNode, AddsEdge, AddsAlternative, ChangesNodes, foundOf}
 use Rattle.graph.specs.GraphLaws.{sized-refl, count-nodes, graph-node}
 use Rattle.graph.specs.AddLaws.{added-count}
 use Rattle.graph.specs.RefineLaws.{refines-answer, refines-as, refines-held, refines-then, refines-short, refines-none, changes-then}
 use Rattle.graph.specs.declared.Counts.{Counts}
-use Rattle.records.specs.declared.Node.{Node}
+use Rattle.records.specs.declared.Status.{Status}
 use Rattle.graph.specs.declared.Area.{Area}
 use Rattle.graph.specs.declared.Step.{Step}
 use Rattle.graph.specs.declared.Step.the-variants.{Done, Full}
@@ -114,17 +114,17 @@ module _ {n n₁ e : Bytes} {c : Counts} {first : Step} (p ρ : ℕ) (rows : Row
 
 -- ---- a special node that is lapsed
 
--- by the node p that was read and the test of its status
-module _ {n : Bytes} (c : Counts) (p : ℕ) (lacked : RowSet) {s : RowSet} (v : Node) (read : nodeOf s v ≡ nodeIn n p) (l : p < c .nodes) where
-  status-read : (w : Work) → w .nodes ≡ n → isLive (statusOf (v .status)) ≡ isLive (G.nodeAt (graphOf w c) p .status)
-  status-read w q = ap (λ (x : G.Node). isLive (x .status)) (read ∙ ap (λ (b : Bytes). nodeIn b p) (sym q) ∙ sym (graph-node w c p l))
+-- by the status of node p that was read and its test
+module _ {n : Bytes} (c : Counts) (p : ℕ) (lacked : RowSet) (v : Status) (read : IsStatus n p v) (l : p < c .nodes) where
+  status-read : (w : Work) → w .nodes ≡ n → isLive (statusOf v) ≡ isLive (G.nodeAt (graphOf w c) p .status)
+  status-read w q = ap isLive (read ∙ ap (λ (x : G.Node). x .status) (ap (λ (b : Bytes). nodeIn b p) (sym q) ∙ sym (graph-node w c p l)))
 
-  pub join-done : {n′ a a′ : Bytes} {s : Step} → isLive (statusOf (v .status)) ≡ true → AddsAlternative n n′ a a′ c s (λ k g. G.addAlternative k p lacked g)
+  pub join-done : {n′ a a′ : Bytes} {s : Step} → isLive (statusOf v) ≡ true → AddsAlternative n n′ a a′ c s (λ k g. G.addAlternative k p lacked g)
       → AddsAlternative n n′ a a′ c s (λ k g. joinAlternatives k p lacked g)
   unfolding joinAlternatives
   join-done {a = a} live adds e h = refines-as (adds e h) (rw (sym (status-read (work n e a) refl) ∙ live, joinAlternatives))
 
-  pub join-not : {a : Bytes} → isLive (statusOf (v .status)) ≡ false → AddsAlternative n n a a c (Done c) (λ k g. joinAlternatives k p lacked g)
+  pub join-not : {a : Bytes} → isLive (statusOf v) ≡ false → AddsAlternative n n a a c (Done c) (λ k g. joinAlternatives k p lacked g)
   unfolding joinAlternatives
   join-not {a} settled e h = refines-as (refines-none h) (rw (sym (status-read (work n e a) refl) ∙ settled, joinAlternatives))
 

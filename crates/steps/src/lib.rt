@@ -29,7 +29,7 @@ use records::Link;
 use records::Node;
 use records::Status;
 use records::is_live;
-use records::load_node;
+use records::status_of;
 use rowset::SET_BYTES;
 
 // Adds a node with the set s, and the edge to it.
@@ -122,8 +122,7 @@ fn join(
     ensures { λ r. ⌜ AddsAlternative (now (nodes .entry)) (now (nodes .exit)) (now (alternatives .entry)) (now (alternatives .exit)) c r
         (λ k g. Tableau.joinAlternatives k p (setOf (now (lacked .entry)) 0) g) ⌝ }
 {
-    let above = load_node(nodes, p as usize);
-    let status = above.status;
+    let status = status_of(nodes, p as usize);
     if is_live(status) {
         add_alternative(nodes, alternatives, c, p, lacked)
     } else {
@@ -238,8 +237,7 @@ fn fold(nodes: &[u8], edges: &[u8], c: Counts, x: u16, by: Pairs, start: Status)
         let Next::At { index, node } = next_child(nodes, edges, c, x, i) else {
             return v;
         };
-        let child = load_node(nodes, node as usize);
-        let status = child.status;
+        let status = status_of(nodes, node as usize);
         v = entry(by, v, status);
         i = index + 1;
     }

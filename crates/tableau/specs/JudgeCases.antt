@@ -22,7 +22,7 @@ use Rattle.procedure.specs.Graph as G
 use Rattle.words.specs.Sizes.{nodeSize}
 use Rattle.rowset.specs.SetOf.{setOf}
 use Rattle.records.specs.Codes.{statusOf, linkOf}
-use Rattle.records.specs.Records.{nodeOf, IsNode}
+use Rattle.records.specs.Records.{nodeOf, IsNode, IsStatus}
 use Rattle.graph.specs.GraphLaws.{count-nodes, graph-node, held-node}
 use Rattle.graph.specs.RefineLaws.{refines-as, changes-refines}
 use Rattle.records.specs.declared.Node.{Node}
@@ -101,35 +101,35 @@ module _ {ws : List ℕ} {n e a : Bytes} {c : Counts} {x y : ℕ} (A : LinkedAsk
   pub linked-sets : (x < c .nodes) × (c .nodes ≤ roomOf nodeSize n)
   linked-sets = (there (A .judge), A .judge .held .nodes)
 
-  -- with the state as it was loaded
-  module _ (v : Node) (loaded : IsNode n y v) where
-    status : {q : DStatus.Status} → v .status ≡ q → nodeAt (g (A .judge)) y .status ≡ statusOf q
-    status h = ap (λ (u : G.Node). u .status) (graph-node (work n e a) c y linked-there ∙ sym loaded) ∙ ap statusOf h
+  -- with the state's status as it was loaded
+  module _ (v : DStatus.Status) (loaded : IsStatus n y v) where
+    status : {q : DStatus.Status} → v ≡ q → nodeAt (g (A .judge)) y .status ≡ statusOf q
+    status h = ap (λ (u : G.Node). u .status) (graph-node (work n e a) c y linked-there) ∙ sym loaded ∙ ap statusOf h
 
     takes : (q r : DStatus.Status) → ((put : Put) → judgeLinked put x y (statusOf q) (g (A .judge)) ≡ reached (setStatus x (statusOf r) (g (A .judge))))
-        → v .status ≡ q
+        → v ≡ q
         → {n′ : Bytes} → ChangesNodes n n′ c (setStatus x (statusOf r)) → JudgeGives ws (work n e a) c x (Done c) (work n′ e a)
     takes q r h k C = nodes-only (A .judge) (setStatus x (statusOf r))
         (λ put. judge-linked put x (g (A .judge)) y (A .link) ∙ ap (λ (u : Status). judgeLinked put x y u (g (A .judge))) (status k) ∙ h put)
         (C e a (A .judge .held))
 
-    pub takes-sat : v .status ≡ Is.Sat → {n′ : Bytes} → ChangesNodes n n′ c (setStatus x (statusOf Is.Sat))
+    pub takes-sat : v ≡ Is.Sat → {n′ : Bytes} → ChangesNodes n n′ c (setStatus x (statusOf Is.Sat))
         → JudgeGives ws (work n e a) c x (Done c) (work n′ e a)
     takes-sat = takes Is.Sat Is.Sat (λ put. linked-sat put x y _)
 
-    pub takes-unsat : v .status ≡ Is.Unsat → {n′ : Bytes} → ChangesNodes n n′ c (setStatus x (statusOf Is.Unsat))
+    pub takes-unsat : v ≡ Is.Unsat → {n′ : Bytes} → ChangesNodes n n′ c (setStatus x (statusOf Is.Unsat))
         → JudgeGives ws (work n e a) c x (Done c) (work n′ e a)
     takes-unsat = takes Is.Unsat Is.Unsat (λ put. linked-unsat put x y _)
 
-    pub takes-unset : v .status ≡ Is.Unset → {n′ : Bytes} → ChangesNodes n n′ c (setStatus x (statusOf Is.Open))
+    pub takes-unset : v ≡ Is.Unset → {n′ : Bytes} → ChangesNodes n n′ c (setStatus x (statusOf Is.Open))
         → JudgeGives ws (work n e a) c x (Done c) (work n′ e a)
     takes-unset = takes Is.Unset Is.Open (λ put. linked-unset put x y _)
 
-    pub takes-open : v .status ≡ Is.Open → {n′ : Bytes} → ChangesNodes n n′ c (setStatus x (statusOf Is.Open))
+    pub takes-open : v ≡ Is.Open → {n′ : Bytes} → ChangesNodes n n′ c (setStatus x (statusOf Is.Open))
         → JudgeGives ws (work n e a) c x (Done c) (work n′ e a)
     takes-open = takes Is.Open Is.Open (λ put. linked-open put x y _)
 
-    pub linked-small : v .status ≡ Is.TooSmall → SmallAsks ws (work n e a) c x y
+    pub linked-small : v ≡ Is.TooSmall → SmallAsks ws (work n e a) c x y
     linked-small q = record { linked = A; small = status q }
 
 -- its state is small

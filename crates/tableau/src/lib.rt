@@ -24,6 +24,7 @@ use records::Status;
 use records::alternative_set;
 use records::load_node;
 use records::node_set;
+use records::status_of;
 use rowset::SET_BYTES;
 use rowset::SET_WORDS;
 use rowset::copy;
@@ -139,9 +140,7 @@ fn judge_linked(
         (work (now (nodes .entry)) (now (edges .entry)) (now (alternatives .entry))) c x r
         (work (now (nodes .exit)) (now (edges .exit)) (now (alternatives .exit))) ⌝ }
 {
-    let state = load_node(nodes, y as usize);
-    let status = state.status;
-    match status {
+    match status_of(nodes, y as usize) {
         Status::Sat => {
             set_status(nodes, c, x as usize, Status::Sat);
             Step::Done(c)

@@ -23,24 +23,24 @@ use Rattle.words.specs.Sizes.{nodeSize}
 use Rattle.problem.specs.Decoded.{problemOf}
 use Rattle.records.specs.Areas.{Bytes, Fits}
 use Rattle.records.specs.Codes.{statusOf}
-use Rattle.records.specs.Records.{nodeIn, IsNode}
+use Rattle.records.specs.Records.{nodeIn, IsStatus}
 use Rattle.graph.specs.Graphs.{Work, work, graphOf, capacityOf, Operation, Refines}
 use Rattle.graph.specs.GraphLaws.{sized-refl, sized-places, count-nodes, graph-node, held-node}
 use Rattle.graph.specs.RefineLaws.{refines-answer, refines-as, refines-held, refines-then, refines-short, refines-none}
 use Rattle.graph.specs.declared.Counts.{Counts}
-use Rattle.records.specs.declared.Node as D
+use Rattle.records.specs.declared.Status.{Status}
 use Rattle.graph.specs.declared.Area.{Area}
 use Rattle.graph.specs.declared.Step.{Step}
 use Rattle.graph.specs.declared.Step.the-variants.{Done, Full}
 use Rattle.tableau.specs.Contracts.{JudgeAsks, JudgeGives}
 use Rattle.updates.specs.Contracts.{UpdateAsks, Enough, unsettled, updates, UpdateGives, ParentsGives, Settles}
 
--- a node that was loaded is open, or is not
+-- a node whose status was loaded is open, or is not
 pub record Loaded (n : Bytes) (x : ℕ) (b : Bool) : Type 0 where
   pub status : isOpen (nodeIn n x .status) ≡ b
 
-pub loaded : {n : Bytes} {x : ℕ} {b v : Bool} (d : D.Node) → IsNode n x d → b ≡ isOpen (statusOf (d .status)) → b ≡ v → Loaded n x v
-loaded d hd hb hv = record { status = ap (λ (u : Node). isOpen (u .status)) (sym hd) ∙ sym hb ∙ hv }
+pub loaded : {n : Bytes} {x : ℕ} {b v : Bool} (s : Status) → IsStatus n x s → b ≡ isOpen (statusOf s) → b ≡ v → Loaded n x v
+loaded s hs hb hv = record { status = ap isOpen (sym hs) ∙ sym hb ∙ hv }
 
 -- so it is in the graph
 pub loaded-open : {x : ℕ} {b : Bool} (w : Work) (c : Counts) → x < c .nodes → Loaded (w .nodes) x b → isOpen (nodeAt (graphOf w c) x .status) ≡ b

@@ -13,7 +13,7 @@ use graph::Next;
 use graph::Step;
 use graph::next_parent;
 use records::is_open;
-use records::load_node;
+use records::status_of;
 use tableau::judge;
 
 // What judging an open node again came to: the counts, with its status as it was or changed, or the area that had no place.
@@ -36,16 +36,14 @@ fn rejudge(
     ensures { λ r. ⌜ RejudgeGives (now (problem .entry))
         (work (now (nodes .entry)) (now (edges .entry)) (now (alternatives .entry))) c x r (work (now (nodes .exit)) (now (edges .exit)) (now (alternatives .exit))) ⌝ }
 {
-    let before = load_node(nodes, x as usize);
-    let was = before.status;
+    let was = status_of(nodes, x as usize);
     if !is_open(was) {
         return Rejudged::Kept(c);
     }
     match judge(problem, nodes, edges, alternatives, c, x) {
         Step::Full(area) => Rejudged::Full(area),
         Step::Done(d) => {
-            let after = load_node(nodes, x as usize);
-            let is = after.status;
+            let is = status_of(nodes, x as usize);
             if is_open(is) {
                 return Rejudged::Kept(d);
             }

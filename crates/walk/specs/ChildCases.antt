@@ -18,8 +18,9 @@ use Rattle.procedure.proofs.Way.{Way, way-there, way-linked, way-child, way-des
 use Rattle.words.specs.Sizes.{nodeSize, edgeSize, mostRecords}
 use Rattle.records.specs.Areas.{Bytes, roomOf, Fits}
 use Rattle.records.specs.Codes.{statusOf, linkOf}
-use Rattle.records.specs.Records.{IsNode}
-use Rattle.records.specs.declared.Node as D
+use Rattle.records.specs.Records.{IsStatus, IsLink}
+use Rattle.records.specs.declared.Status as DStatus
+use Rattle.records.specs.declared.Link as DLink
 use Rattle.graph.specs.Graphs.{Work, graphOf, childrenFrom, AmongChildren, Walks, foundOf}
 use Rattle.graph.specs.GraphLaws.{count-nodes, graph-node, held-node, held-most}
 use Rattle.graph.specs.SearchLaws.{children-all}
@@ -34,8 +35,8 @@ use Rattle.walk.specs.KeptLaws.{Answer, NextChild, next-walks, next-at, 
 -- ---- the status of a node
 
 module _ {n : Bytes} {c : Counts} {y : ℕ} where
-  pub status-here : (v : D.Node) → y < c .nodes → IsNode n y v → StatusAt n c y (statusOf (v .status))
-  status-here v h p = record { is = λ e. ap (λ (m : Node). m .status) (p ∙ sym (graph-node (nodesEdges n e) c y h)) }
+  pub status-here : (v : DStatus.Status) → y < c .nodes → IsStatus n y v → StatusAt n c y (statusOf v)
+  status-here v h p = record { is = λ e. p ∙ ap (λ (m : Node). m .status) (sym (graph-node (nodesEdges n e) c y h)) }
 
   pub status-past : c .nodes ≤ y → StatusAt n c y unset
   status-past h = record {
@@ -175,8 +176,8 @@ module _ {w : Work} {c : Counts} {start x : ℕ} (G : Going w c start x) where
   pub record Links (f : FoundNode) : Type 0 where
     pub is : foundOf f ≡ stateOf (nodeAt (graphOf w c) x .link)
 
-  pub going-links : (v : D.Node) → IsNode (w .nodes) x v → {f : FoundNode} → foundOf f ≡ stateOf (linkOf (v .link)) → Links f
-  going-links v p k = record { is = k ∙ ap (λ (m : Node). stateOf (m .link)) (p ∙ sym (graph-node w c x there)) }
+  pub going-links : (v : DLink.Link) → IsLink (w .nodes) x v → {f : FoundNode} → foundOf f ≡ stateOf (linkOf v) → Links f
+  going-links v p k = record { is = k ∙ ap stateOf (p ∙ ap (λ (m : Node). m .link) (sym (graph-node w c x there))) }
 
 module _ {w : Work} {c : Counts} {start x : ℕ} {G : Going w c start x} {f : FoundNode} (S : Links G f) where
   abbrev h : Graph

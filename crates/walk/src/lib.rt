@@ -28,8 +28,9 @@ use marks::store_state;
 use records::Link;
 use records::Status;
 use records::is_open;
-use records::load_node;
+use records::link_of;
 use records::node_set;
+use records::status_of;
 use settests::Exist;
 use settests::next_exist;
 
@@ -63,8 +64,7 @@ fn status_at(nodes: &[u8], c: Counts, y: u16) -> Status
 {
     let x = y as usize;
     if x < c.nodes as usize {
-        let node = load_node(nodes, x);
-        return node.status;
+        return status_of(nodes, x);
     }
     Status::Unset
 }
@@ -115,9 +115,7 @@ fn descend(nodes: &[u8], edges: &[u8], c: Counts, from: u16) -> u16
 {
     let mut x = from;
     loop {
-        let node = load_node(nodes, x as usize);
-        let link = node.link;
-        match linked_state(link) {
+        match linked_state(link_of(nodes, x as usize)) {
             FoundNode::At(y) => return y,
             FoundNode::Nothing => match live_child(nodes, edges, c, x) {
                 FoundNode::At(child) => x = child,

@@ -1,5 +1,4 @@
 -- `conclusion::verdict_of` meets its contract: the run, and then what its root says.
--- Assumes nothing.
 use borrow.Author.Needs.{needs}
 use Rattle.conclusion.specs.VerdictCases.{verdict-short, verdict-fits, verdict-can, verdict-cannot}
 use Rattle.conclusion.proofs.verdict_of.Statement.{statement}
@@ -11,17 +10,17 @@ verdict-of-spec =
     -- run(problem, nodes, edges, alternatives)
     (λ c κs. search needs)
     (λ c. search needs) (λ c. search needs)
-    -- load_node(nodes, 0), says_can(status)
+    -- status_of(nodes, 0), says_can(status)
     (λ c κs. let s : tie.Start = search in let r : tie.After-run = search in let d : tie.After-c = search in verdict-fits (r .run .ensures) (s .pre) (d .c .given .1))
     (λ c κs. search needs)
     -- return Can(c)
     (λ c. search needs) (λ c. search needs) (λ c. search needs)
-    (λ c. let s : tie.Start = search in let r : tie.After-run = search in let d : tie.After-c = search in let l : tie.After-load-node = search in
-    verdict-can (r .run .ensures) (s .pre) (d .c .given .1) (l .load-node .result) (l .load-node .ensures) (c .before .says-can .ensures) (c .if1 .taken))
+    (λ c. let s : tie.Start = search in let r : tie.After-run = search in let d : tie.After-c = search in let l : tie.After-status-of = search in
+    verdict-can (r .run .ensures) (s .pre) (d .c .given .1) (l .status-of .result) (l .status-of .ensures) (c .before .says-can .ensures) (c .if1 .taken))
     -- the end: Short(area)
     (λ c. search needs) (λ c. search needs) (λ c. search needs)
     (λ c. let r : tie.After-run = search in let f : tie.After-area = search in verdict-short (r .run .ensures) (f .area .given .1))
     -- the end: Cannot(c)
     (λ c. search needs) (λ c. search needs) (λ c. search needs)
-    (λ c. let s : tie.Start = search in let r : tie.After-run = search in let d : tie.After-c = search in let l : tie.After-load-node = search in
-    verdict-cannot (r .run .ensures) (s .pre) (d .c .given .1) (l .load-node .result) (l .load-node .ensures) (c .before .says-can .ensures) (c .if1 .left)))
+    (λ c. let s : tie.Start = search in let r : tie.After-run = search in let d : tie.After-c = search in let l : tie.After-status-of = search in
+    verdict-cannot (r .run .ensures) (s .pre) (d .c .given .1) (l .status-of .result) (l .status-of .ensures) (c .before .says-can .ensures) (c .if1 .left)))

@@ -1,7 +1,6 @@
 -- The whole expansion: children, judgement, and the updates unless the node is merely open.
 --
 -- In order: the places that later needs speak of; the needs, in the code's order.
--- Assumes nothing.
 use native.Mathlib.Omega.{arith}
 use borrow.Author.Needs.{needs}
 use Rattle.graph.specs.Graphs.{Work, work}
@@ -46,7 +45,7 @@ expand-spec = tie.close (tie.spec
     -- judge(.., d, x)
     (λ c κs. judge-asks (with-children (search)))
     (λ c. search needs) (λ c. search needs)
-    -- load_node(nodes, x), is_open(status)
+    -- status_of(nodes, x), is_open(status)
     (λ c κs. judged-fits (judged (search)))
     (λ c κs. search needs)
     -- return Done(b)

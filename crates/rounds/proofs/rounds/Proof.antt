@@ -31,7 +31,7 @@ fresh c =
 
 pub rounds-spec : {M : Type 1} → statement M
 rounds-spec = tie.close (tie.spec Inv-loop μ-loop
-    -- loop, load_node(nodes, 0), is_live(status)
+    -- loop, status_of(nodes, 0), is_live(status)
     (λ c. search (turn-start, needs))
     (λ c κs. search (turn-fits, needs))
     (λ c κs. search needs)

@@ -1,5 +1,4 @@
 -- `steps::fold` meets its contract: what is left to fold from here gives what the whole gives from the start.
--- Assumes nothing.
 use mathlib.Core.Path.{ap, _∙_}
 use Prim.Native.Nat.{_-_}
 use native.Mathlib.Omega.{arith}
@@ -44,8 +43,8 @@ returns c =
     let n : At tie.After-next-child = search in
     folds-end (l .loop .inv) (next-end (s .pre) _ (l .loop .inv .among) (n .next-child .ensures) (c .enum-told .given .1))
 
-load-node-requires : At tie.Need-load-node-requires
-load-node-requires c κs =
+status-of-requires : At tie.Need-status-of-requires
+status-of-requires c κs =
     let s : At tie.Start = search in
     let l : At tie.At-loop = search in
     held-node (s .pre .held) (folds-node (l .loop .inv) (next (c .before)))
@@ -64,9 +63,9 @@ loop-again c =
     let s : At tie.Start = search in
     let l : At tie.At-loop = search in
     let k : At tie.After-index = search in
-    let d : At tie.After-load-node = search in
+    let d : At tie.After-status-of = search in
     folds-more (l .loop .inv) (next k) (statusOf (c .entry .result))
-    (c .entry .ensures ∙ ap (λ (v : Graph.Node). Procedure.entry (statusTable (s .args .by)) (statusOf (l .loop .v)) (v .status)) (d .load-node .ensures))
+    (c .entry .ensures ∙ ap (Procedure.entry (statusTable (s .args .by)) (statusOf (l .loop .v))) (d .status-of .ensures))
 
 pub fold-spec : {M : Type 1} → statement M
 fold-spec =
@@ -79,9 +78,9 @@ fold-spec =
     next-child-requires
     (λ c. search needs) (λ c. search needs)
     returns
-    -- load_node(nodes, node as usize)
+    -- status_of(nodes, node as usize)
     (λ c. search needs)
-    load-node-requires
+    status-of-requires
     -- entry(by, v, status)
     (λ c κs. search needs)
     -- index + 1

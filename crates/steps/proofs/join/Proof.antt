@@ -10,16 +10,16 @@ use Rattle.steps.proofs.join.Tie as tie
 pub join-spec : {M : Type 1} → statement M
 join-spec =
     tie.close (tie.spec
-    -- load_node(nodes, p), is_live(status)
+    -- status_of(nodes, p), is_live(status)
     (λ c κs. let s : tie.Start = search in held-node (s .pre .held) (s .pre .node)) (λ c κs. search needs)
     -- add_alternative(nodes, alternatives, c, p, lacked)
     (λ c κs. search needs)
     (λ c. search needs) (λ c. search needs)
-    (λ c. let s : tie.Start = search in let l : tie.After-load-node = search in let t : tie.Then1 = search in let a : tie.After-add-alternative = search in
-    join-done (s .args .c) (s .args .p) (setOf (s .args .lacked .now) 0) (l .load-node .result) (l .load-node .ensures)
+    (λ c. let s : tie.Start = search in let l : tie.After-status-of = search in let t : tie.Then1 = search in let a : tie.After-add-alternative = search in
+    join-done (s .args .c) (s .args .p) (setOf (s .args .lacked .now) 0) (l .status-of .result) (l .status-of .ensures)
     (s .pre .node) (sym (t .before .is-live .ensures) ∙ t .if1 .taken) (a .add-alternative .ensures))
     -- Done(c)
     (λ c. search needs)
-    (λ c. let s : tie.Start = search in let l : tie.After-load-node = search in
-    join-not (s .args .c) (s .args .p) (setOf (s .args .lacked .now) 0) (l .load-node .result) (l .load-node .ensures)
+    (λ c. let s : tie.Start = search in let l : tie.After-status-of = search in
+    join-not (s .args .c) (s .args .p) (setOf (s .args .lacked .now) 0) (l .status-of .result) (l .status-of .ensures)
     (s .pre .node) (sym (c .before .is-live .ensures) ∙ c .if1 .left)))

@@ -30,6 +30,7 @@ use Rattle.tableau.specs.SmallCases.{AlternativesPut, Chosen, Joined, tu
 use Rattle.tableau.specs.SmallCases.{turn-index, turn-less, turn-joined, turn-sets-inside, turn-asks, turn-falls, turn-short, turn-put}
 use Rattle.graph.proofs.add_edge.Reads as add-edge
 use Rattle.records.proofs.load_node.Reads as load-node
+use Rattle.records.proofs.status_of.Reads as status-of
 use Rattle.graph.proofs.next_alternative.Reads as next-alternative
 use Rattle.graph.proofs.set_link.Reads as set-link
 use Rattle.graph.proofs.set_status.Reads as set-status
@@ -107,7 +108,7 @@ abbrev judge-calls : ℕ → judge-lts.Claims
 judge-calls t = (load-node.Asked, load-node.Learnt, linked-below t, linked.Post, judge-branch.Asked, judge-branch.Learnt, judge-state.Asked, judge-state.Learnt)
 
 abbrev linked-calls : ℕ → linked-lts.Claims
-linked-calls t = (load-node.Asked, load-node.Learnt, set-status.Asked, set-status.Learnt, small-below t, small.Post)
+linked-calls t = (status-of.Asked, status-of.Learnt, set-status.Asked, set-status.Learnt, small-below t, small.Post)
 
 abbrev put-calls : ℕ → put-lts.Claims
 put-calls t = (
@@ -276,7 +277,7 @@ pub +judge+judge-linked+put+put-alternatives-spec : {M : Type 1} → statement M
     (λ c. search needs) (λ c. search needs)
     (λ c. search (judge-branches, needs)))
     (λ t. linked-lts.spec (linked-calls t) (linked-at t) linked.Post
-    -- load_node(nodes, y)
+    -- status_of(nodes, y)
     (λ c κs. search (linked-fits, needs))
     -- set_status(nodes, c, x, ..)
     (λ c. search needs)

@@ -1,7 +1,6 @@
 -- One node judged again: by its status before, the judgement, and its status after.
 --
 -- In order: the places that later needs speak of; the needs, in the code's order.
--- Assumes nothing.
 use borrow.Author.Needs.{needs}
 use borrow.Author.Tests.{not-true, not-false}
 use Rattle.graph.specs.Graphs.{Work, work}
@@ -33,7 +32,7 @@ judged c = update-judged (opened (the-open c)) (the-judge c .judge .ensures) (c 
 
 pub rejudge-spec : {M : Type 1} → statement M
 rejudge-spec = tie.close (tie.spec
-    -- load_node(nodes, x), is_open(was)
+    -- status_of(nodes, x), is_open(was)
     (λ c κs. search (update-fits, needs))
     (λ c κs. search needs)
     -- return Kept(c)
@@ -42,7 +41,7 @@ rejudge-spec = tie.close (tie.spec
     -- judge(.., c, x)
     (λ c κs. update-asks (opened (search)))
     (λ c. search needs) (λ c. search needs)
-    -- load_node(nodes, x), is_open(is)
+    -- status_of(nodes, x), is_open(is)
     (λ c κs. update-refits (judged (search)))
     (λ c κs. search needs)
     -- return Kept(d)

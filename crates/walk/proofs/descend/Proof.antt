@@ -21,12 +21,12 @@ the-loop c = c .before .before
 
 -- what the link of node x names
 links : (c : At tie.After-linked-state) → Links (the-loop c .loop .inv) (c .linked-state .result)
-links c = going-links (the-loop c .loop .inv) (c .before .load-node .result) (c .before .load-node .ensures) (c .linked-state .ensures)
+links c = going-links (the-loop c .loop .inv) (c .before .link-of .result) (c .before .link-of .ensures) (c .linked-state .ensures)
 
 pub descend-spec : {M : Type 1} → statement M
 descend-spec =
     tie.close (tie.spec Inv-loop μ-loop
-    -- loop, load_node(nodes, x as usize)
+    -- loop, link_of(nodes, x as usize)
     (λ c. search (going-start, needs))
     (λ c. omega (arith, going-fits (c .loop .inv) .0))
     (λ c κs. search (going-fits, needs))
