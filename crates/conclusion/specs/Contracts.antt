@@ -4,13 +4,13 @@
 use mathlib.Core.Path.{_≡_}
 use mathlib.Core.Bool.{Bool, true, false}
 use mathlib.Core.List.{List}
-use Prim.Native.Nat.{ℕ, _/_, _≤_, min}
+use Prim.Native.Nat.{ℕ, _≤_}
 use lib.ListN.{length}
 use Rattle.procedure.specs.Status.{Status, unset, «open», sat, unsat, toosmall}
 use Rattle.procedure.specs.Graph.{Capacity, reached, FindsNoPlace, nodeAt}
 use Rattle.procedure.specs.Tableau.{run}
 use Rattle.procedure.specs.Example.{Example}
-use Rattle.words.specs.Sizes.{nodeSize, edgeSize, alternativeSize, mostRecords}
+use Rattle.words.specs.Sizes.{mostRecords}
 use Rattle.run.specs.Run.{Areas, lengths, shown, Used, used, Answer, short, cannot, can, tooLong, answerCan, answerResult, areasAfter}
 use Rattle.records.specs.Areas.{Bytes}
 use Rattle.graph.specs.Graphs.{Work, work, graphOf, capacityOf, areaOf, Held}
@@ -24,14 +24,6 @@ use Rattle.conclusion.specs.declared.Decision.{Decision}
 use Rattle.conclusion.specs.declared.Decision.the-variants.{Short, Cannot, Can, TooLong}
 
 -- ---- a decision
-
--- how many records of each kind count as lent in areas of these lengths
-abbrev pub roomIn : (nodes edges alternatives : ℕ) → Capacity
-roomIn nodes edges alternatives = record {
-  nodeRoom = min mostRecords (nodes / nodeSize);
-  edgeRoom = min mostRecords (edges / edgeSize);
-  alternativeRoom = min mostRecords (alternatives / alternativeSize);
-}
 
 -- the numbers of records
 abbrev pub usedOf : Counts → Used

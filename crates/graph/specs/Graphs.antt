@@ -134,6 +134,11 @@ AddsAlternative n n′ a a′ c r f = (e : Bytes) → Held (work n e a) c → Re
 abbrev pub ChangesNodes : Bytes → Bytes → Counts → (G.Graph → G.Graph) → Type 0
 ChangesNodes n n′ c f = (e a : Bytes) → Held (work n e a) c → Changes (work n e a) c (work n′ e a) f
 
+-- these nodes and edges hold a graph, with some alternatives
+pub record EdgesHeld (n e : Bytes) (c : Counts) : Type 0 where
+  pub alternatives : Bytes
+  pub held : Held (work n e alternatives) c
+
 -- these nodes and alternatives, with some edges, hold a graph that has the node x
 pub record Owns (n a : Bytes) (c : Counts) (x : ℕ) : Type 0 where
   pub edges : Bytes

@@ -4,12 +4,12 @@
 // written; one part of a node; an area cleared. Where each number stands is in layout.rt. The graph that three areas hold is in crate graph.
 // A set of rows goes by its place and is no part of a value.
 ghost use mathlib.Core.Path.{_≡_};
-ghost use Prim.Native.Nat.{_+_, _*_, _/_, _^_, _≤_, _<_, min};
+ghost use Prim.Native.Nat.{_+_, _*_, _^_, _≤_, _<_};
 ghost use lib.ListN.{length, replicate};
 ghost use Rattle.procedure.specs.Status.{isOpen, isLive};
 ghost use Rattle.procedure.specs.Graph.{withStatus, withLink};
 ghost use Rattle.words.specs.Words.{putLe};
-ghost use Rattle.words.specs.Sizes.{nodeSize, edgeSize, alternativeSize, setSize, mostRecords};
+ghost use Rattle.words.specs.Sizes.{nodeSize, edgeSize, alternativeSize, setSize, mostRecords, recordsLent};
 ghost use Rattle.rowset.specs.SetOf.{setOf};
 ghost use Rattle.records.specs.Codes as Codes;
 ghost use Rattle.records.specs.Areas.{Fits};
@@ -168,7 +168,7 @@ fn link_from(kind: u8, number: u16) -> Link
 // How many records of a size an area of a length holds.
 pub fn room(len: usize, size: usize) -> usize
     requires { ⌜ 0 < size ⌝ }
-    ensures { λ r. ⌜ r ≡ min mostRecords (len / size) ⌝ }
+    ensures { λ r. ⌜ r ≡ recordsLent size len ⌝ }
 {
     let n = len / size;
     if n < MOST { n } else { MOST }

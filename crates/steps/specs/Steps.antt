@@ -1,5 +1,4 @@
 -- What the steps of the tableau answer on the graph in the work areas. Laws are in StepLaws.
--- Assumes nothing.
 use Prim.Native.Nat.{ℕ}
 use Rattle.concepts.specs.RowSet.{RowSet}
 use Rattle.procedure.specs.Status.{toosmall}
@@ -9,10 +8,6 @@ use Rattle.records.specs.Areas.{Bytes}
 use Rattle.graph.specs.Graphs.{work, Held, Operation, Refines}
 use Rattle.graph.specs.declared.Counts.{Counts}
 use Rattle.graph.specs.declared.Step.{Step}
-
--- these nodes and edges hold a graph, with some alternatives
-abbrev pub Holds : Bytes → Bytes → Counts → Type 0
-Holds n e c = (a : Bytes) × Held (work n e a) c
 
 -- nodes n became n′ and edges e e′ with the answer r, as f does with the graph, whatever the alternatives
 abbrev pub AddsBelow : Bytes → Bytes → Bytes → Bytes → Counts → Step → Operation → Type 0

@@ -11,7 +11,7 @@ ghost use Rattle.rowset.specs.SetOf.{setOf};
 ghost use Rattle.records.specs.Areas.{roomOf};
 ghost use Rattle.records.specs.Codes as Codes;
 ghost use Rattle.records.specs.Records as Records;
-ghost use Rattle.graph.specs.Graphs.{work, Held, Refines, AddsAlternative, Owns};
+ghost use Rattle.graph.specs.Graphs.{work, Held, EdgesHeld, Refines, AddsAlternative, Owns};
 ghost use Rattle.steps.specs.Steps as Steps;
 ghost use Rattle.steps.specs.Tables as Tables;
 use graph::Counts;
@@ -41,7 +41,7 @@ pub fn add_child(
     s: &[u8; SET_BYTES],
     node: Node,
 ) -> Step
-    requires { ⌜ (from < c .nodes) × Steps.Holds (now nodes) (now edges) c ⌝ }
+    requires { ⌜ (from < c .nodes) × EdgesHeld (now nodes) (now edges) c ⌝ }
     ensures { λ r. ⌜ Steps.AddsBelow (now (nodes .entry)) (now (nodes .exit)) (now (edges .entry)) (now (edges .exit)) c r
         (Steps.addChild from (Records.nodeOf (setOf (now (s .entry)) 0) node)) ⌝ }
 {
@@ -62,7 +62,7 @@ fn link_to(nodes: &mut [u8], edges: &mut [u8], c: Counts, z: u16, y: u16) -> Ste
 
 // Links node z to the state with the set s, made if new.
 fn link_found(nodes: &mut [u8], edges: &mut [u8], c: Counts, z: u16, s: &[u8; SET_BYTES]) -> Step
-    requires { ⌜ (z < c .nodes) × Steps.Holds (now nodes) (now edges) c ⌝ }
+    requires { ⌜ (z < c .nodes) × EdgesHeld (now nodes) (now edges) c ⌝ }
     ensures { λ r. ⌜ Steps.AddsBelow (now (nodes .entry)) (now (nodes .exit)) (now (edges .entry)) (now (edges .exit)) c r
         (λ k g. Tableau.linkFound k z (setOf (now (s .entry)) 0) (Graph.findState (setOf (now (s .entry)) 0) g) g) ⌝ }
 {
@@ -93,7 +93,7 @@ pub fn link_special(
     role: u8,
     s: &[u8; SET_BYTES],
 ) -> Step
-    requires { ⌜ Steps.Holds (now nodes) (now edges) c ⌝ }
+    requires { ⌜ EdgesHeld (now nodes) (now edges) c ⌝ }
     ensures { λ r. ⌜ Steps.AddsBelow (now (nodes .entry)) (now (nodes .exit)) (now (edges .entry)) (now (edges .exit)) c r
         (λ k g. Tableau.linkSpecial k p role (setOf (now (s .entry)) 0) g) ⌝ }
 {

@@ -33,7 +33,7 @@ use Rattle.words.specs.Sizes.{nodeSize, setSize}
 use Rattle.rowset.specs.SetOf.{setOf}
 use Rattle.records.specs.Areas.{Bytes, roomOf}
 use Rattle.records.specs.Records.{nodeOf}
-use Rattle.graph.specs.Graphs.{Work, work, graphOf, capacityOf, Held, Operation, Refines, AddsEdge}
+use Rattle.graph.specs.Graphs.{Work, work, graphOf, capacityOf, Held, EdgesHeld, Operation, Refines, AddsEdge}
 use Rattle.graph.specs.GraphLaws.{sized-refl, sized-places, count-nodes, graph-set, held-set}
 use Rattle.graph.specs.RefineLaws.{refines-answer, refines-as, refines-held, refines-then, refines-short}
 use Rattle.records.specs.declared.Node as D
@@ -41,7 +41,7 @@ use Rattle.graph.specs.declared.Counts.{Counts}
 use Rattle.graph.specs.declared.Area.{Area}
 use Rattle.graph.specs.declared.Step.{Step}
 use Rattle.graph.specs.declared.Step.the-variants.{Done, Full}
-use Rattle.steps.specs.Steps.{Holds, AddsBelow, addChild, addLapsed}
+use Rattle.steps.specs.Steps.{AddsBelow, addChild, addLapsed}
 use Rattle.tableau.specs.Contracts.{lacks, puts, Below, PutAsks, PutGives, JudgeAsks, JudgeGives}
 
 -- ---- the places
@@ -96,8 +96,8 @@ module _ {ws : List ℕ} {n e a : Bytes} {c : Counts} {m p ρ : ℕ} {s : RowSet
   here = omega (arith, A .fit .pre .there, count-nodes w c)
 
   -- what adding a child, and adding a lapsed node, ask
-  pub put-adds : (m < c .nodes) × Holds n e c
-  put-adds = (here, (a, A .held))
+  pub put-adds : (m < c .nodes) × EdgesHeld n e c
+  put-adds = (here, record { alternatives = a; held = A .held })
 
   pub put-joins : (m < c .nodes) × (p < c .nodes) × Held (work n e a) c
   put-joins = (here, above-there, A .held)

@@ -16,7 +16,7 @@ use Rattle.procedure.proofs.Way.{Way}
 use Rattle.words.specs.Sizes.{nodeSize}
 use Rattle.problem.specs.Decoded.{tableOf, problemOf, Decoded}
 use Rattle.records.specs.Areas.{Bytes, roomOf, recordsIn}
-use Rattle.graph.specs.Graphs.{Work, work, graphOf, Held}
+use Rattle.graph.specs.Graphs.{Work, work, graphOf, Held, EdgesHeld}
 use Rattle.graph.specs.declared.Counts.{Counts}
 use Rattle.marks.specs.Marks.{NodesMarked, EdgesMarked, numberIn, stateIn, roleLinkIn, exampleHeld}
 use Rattle.marks.specs.declared.Sizes.{Sizes}
@@ -30,11 +30,6 @@ nodesEdges n e = work n e []
 -- the same nodes and edges, with these alternatives
 abbrev pub beside : Work → Bytes → Work
 beside w a = work (w .nodes) (w .edges) a
-
--- they hold a graph, with some alternatives
-pub record Holds (w : Work) (c : Counts) : Type 0 where
-  pub alternatives : Bytes
-  pub held : Held (beside w alternatives) c
 
 -- nothing but marks has changed
 pub record Kept (w w′ : Work) : Type 0 where
@@ -59,11 +54,11 @@ stateOf lapsed = none
 
 -- a search among the children of x, which is a node
 pub record ChildAsks (w : Work) (c : Counts) (x : ℕ) : Type 0 where
-  pub holds : Holds w c
+  pub holds : EdgesHeld (w .nodes) (w .edges) c
   pub inside : x < c .nodes
 
 pub record DescendAsks (w : Work) (c : Counts) (x : ℕ) : Type 0 where
-  pub holds : Holds w c
+  pub holds : EdgesHeld (w .nodes) (w .edges) c
   pub end : ℕ
   pub way : Way (graphOf w c) x end
 
@@ -86,7 +81,7 @@ pub record Numbered (n : Bytes) (c : Counts) (count : ℕ) : Type 0 where
 -- ---- meeting a state
 
 pub record MeetAsks (w : Work) (c : Counts) (s : Sizes) (d role y : ℕ) : Type 0 where
-  pub holds : Holds w c
+  pub holds : EdgesHeld (w .nodes) (w .edges) c
   pub numbered : Numbered (w .nodes) c (s .elements)
   pub inside : y < c .nodes
   pub fewStates : length (meet d role y (walkIn w s) .states) ≤ c .nodes
@@ -106,7 +101,7 @@ elementRows ws w c d = rowsOf (tableOf ws) (graphOf w c) (stateIn (w .nodes) d)
 -- element d walked, the walk is `end`, and that finds place; there is a way down from each child
 pub record RowsAsks (ws : List ℕ) (w : Work) (c : Counts) (s : Sizes) (d : ℕ) : Type 0 where
   pub decoded : Decoded ws
-  pub holds : Holds w c
+  pub holds : EdgesHeld (w .nodes) (w .edges) c
   pub numbered : Numbered (w .nodes) c (s .elements)
   pub element : d < s .elements
   pub ways : (r : ℕ × ℕ) → List·Memᴰ r (elementRows ws w c d) → (y : ℕ) × Way (graphOf w c) (r .1) y
@@ -135,7 +130,7 @@ pub record StartGives (n : Bytes) (c : Counts) (y : ℕ) (r : Sizes) (n′ : Byt
 -- the graph is that of a finished run that says "can"
 pub record WalkAsks (ws : List ℕ) (w : Work) (c : Counts) : Type 0 where
   pub decoded : Decoded ws
-  pub holds : Holds w c
+  pub holds : EdgesHeld (w .nodes) (w .edges) c
   pub good : Status → Bool
   pub finished : Finished (problemOf ws) (graphOf (beside w (holds .alternatives)) c) good
 

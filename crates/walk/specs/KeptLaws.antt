@@ -20,12 +20,12 @@ use Rattle.records.specs.Areas.{Bytes, recordsIn}
 use Rattle.records.specs.AreaLaws.{records-same, beside-refl, beside-then}
 use Rattle.records.specs.Records.{nodeIn, edgeIn, alternativeIn}
 use Rattle.records.specs.RecordLaws.{node-beside, edge-beside}
-use Rattle.graph.specs.Graphs.{Work, graphOf, Held, WithEdges, childrenFrom, AmongChildren, Walks, IsNext}
+use Rattle.graph.specs.Graphs.{Work, graphOf, Held, EdgesHeld, WithEdges, childrenFrom, AmongChildren, Walks, IsNext}
 use Rattle.graph.specs.GraphLaws.{grown-refl, held-nodes, held-edges, graph-set}
 use Rattle.graph.specs.declared.Counts.{Counts}
 use Rattle.graph.specs.declared.Next.{Next}
 use Rattle.graph.specs.declared.Next.the-variants as Next
-use Rattle.walk.specs.Contracts.{beside, Holds, Kept}
+use Rattle.walk.specs.Contracts.{beside, Kept}
 
 -- ---- areas that differ by marks alone
 
@@ -62,7 +62,7 @@ module _ {w w′ : Work} (K : Kept w w′) (c : Counts) where
   pub kept-held : {a : Bytes} → Held (beside w a) c → Held (beside w′ a) c
   kept-held h = held-edges (held-nodes h (K .nodes) (omega arith)) (K .edges) (omega arith) (omega arith)
 
-  pub kept-holds : Holds w c → Holds w′ c
+  pub kept-holds : EdgesHeld (w .nodes) (w .edges) c → EdgesHeld (w′ .nodes) (w′ .edges) c
   kept-holds H = record { alternatives = H .alternatives; held = kept-held (H .held) }
 
 -- ---- a step along the children of a node
@@ -78,7 +78,7 @@ pub record NextChild (w : Work) (c : Counts) (x i k y : ℕ) : Type 0 where
   pub more : childrenFrom (graphOf w c) x i ≡ y ∷ childrenFrom (graphOf w c) x (k + 1)
   pub among : AmongChildren (graphOf w c) x (k + 1)
 
-module _ {w : Work} {c : Counts} (H : Holds w c) (x i : ℕ) where
+module _ {w : Work} {c : Counts} (H : EdgesHeld (w .nodes) (w .edges) c) (x i : ℕ) where
   pub next-walks : x < c .nodes → i ≤ c .edges → Walks edgeSize (w .nodes) (w .edges) (c .nodes) (c .edges) x i
   next-walks h l = record { node = h; nodes = H .held .nodes; place = l; records = H .held .edges }
 

@@ -27,7 +27,7 @@ use Rattle.settests.specs.declared.Exist.{Exist}
 use Rattle.settests.specs.declared.Exist.the-variants as Exist
 use Rattle.records.specs.Areas.{Fits}
 use Rattle.records.specs.AreaLaws.{length-records}
-use Rattle.graph.specs.Graphs.{Work, graphOf, childrenFrom, AmongChildren, Walks}
+use Rattle.graph.specs.Graphs.{Work, graphOf, childrenFrom, AmongChildren, Walks, EdgesHeld}
 use Rattle.graph.specs.GraphLaws.{held-set, held-most}
 use Rattle.graph.specs.SearchLaws.{children-all}
 use Rattle.graph.specs.declared.Counts.{Counts}
@@ -35,7 +35,7 @@ use Rattle.graph.specs.declared.Next.{Next}
 use Rattle.graph.specs.declared.Next.the-variants as Next
 use Rattle.marks.specs.Marks.{stateIn, roleLinkIn}
 use Rattle.marks.specs.declared.Sizes.{Sizes}
-use Rattle.walk.specs.Contracts.{Holds, Kept, DescendAsks, DescendGives, walkIn, Numbered, MeetAsks, MeetGives, elementRows, RowsAsks, RowsGives}
+use Rattle.walk.specs.Contracts.{Kept, DescendAsks, DescendGives, walkIn, Numbered, MeetAsks, MeetGives, elementRows, RowsAsks, RowsGives}
 use Rattle.walk.specs.KeptLaws.{Answer, kept-refl, kept-trans, kept-graph, kept-set, kept-holds, next-walks, next-at, next-end}
 
 -- ---- what is left
@@ -137,7 +137,7 @@ module _ {ws : List ℕ} {w : Work} {c : Counts} {s : Sizes} {d x : ℕ} {w′ :
   same : graphOf w′ c ≡ h
   same = kept-graph (T .kept) c
 
-  holds : Holds w′ c
+  holds : EdgesHeld (w′ .nodes) (w′ .edges) c
   holds = kept-holds (T .kept) c (T .asks .holds)
 
   among-now : AmongChildren (graphOf w′ c) x i

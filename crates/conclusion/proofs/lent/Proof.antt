@@ -6,7 +6,7 @@ use borrow.Author.Needs.{needs}
 use Rattle.procedure.specs.Graph.{roomFor}
 use Rattle.graph.specs.Graphs.{areaOf}
 use Rattle.graph.specs.declared.Area.{Area}
-use Rattle.conclusion.specs.Contracts.{roomIn}
+use Rattle.run.specs.Run.{roomIn}
 use Rattle.conclusion.proofs.lent.Statement.{statement}
 use Rattle.conclusion.proofs.lent.Tie as tie
 

@@ -20,7 +20,7 @@ add-child-spec =
     -- add_edge(nodes, edges, d, from, c.nodes)
     (λ c. search needs)
     (λ c κs. let s : tie.Start = search in let n : tie.After-add-node = search in let d : tie.After-d = search in
-    let (held, more) = node-held (nodeOf (rows s) (s .args .node)) (n .add-node .ensures) (d .d .given .1) (s .pre .1 .1) in
+    let (held, more) = node-held (nodeOf (rows s) (s .args .node)) (n .add-node .ensures) (d .d .given .1) (s .pre .1 .held) in
     (omega (arith, s .pre .0, more), omega (arith, more), held .nodes))
     (λ c. search needs)
     -- the end: what add_edge returned

@@ -27,13 +27,13 @@ link-found-spec =
     -- link_to(.., c, z, y)
     (λ c. search needs)
     (λ c κs. let s : tie.Start = search in let f : tie.After-find-state = search in let y : tie.After-y = search in
-    (s .pre .0, found-below (s .args .z) (rows s) (f .find-state .ensures) (y .y .given .1) (s .pre .1 .1), s .pre .1 .1 .nodes))
+    (s .pre .0, found-below (s .args .z) (rows s) (f .find-state .ensures) (y .y .given .1) (s .pre .1 .held), s .pre .1 .held .nodes))
     -- add_node(nodes, c, s, state)
     (λ c. search needs) (λ c κs. search needs)
     -- link_to(.., d, z, c.nodes)
     (λ c. search needs)
     (λ c κs. let s : tie.Start = search in let n : tie.After-add-node = search in let d : tie.After-d = search in
-    let (held, more) = node-held (state (rows s)) (n .add-node .ensures) (d .d .given .1) (s .pre .1 .1) in
+    let (held, more) = node-held (state (rows s)) (n .add-node .ensures) (d .d .given .1) (s .pre .1 .held) in
     (omega (arith, s .pre .0, more), omega (arith, more), held .nodes))
     (λ c. search needs)
     -- the end: what link_to returned, with the state that was found

@@ -22,8 +22,8 @@ link-special-spec =
     -- link_found(.., d, c.nodes, s)
     (λ c. search needs)
     (λ c κs. let s : tie.Start = search in let n : tie.After-add-node = search in let d : tie.After-d = search in
-    let (held, more) = node-held (below (s .args .p) (s .args .role) (rows s) unset Graph.unlinked) (n .add-node .ensures) (d .d .given .1) (s .pre .1) in
-    (omega (arith, more), (s .pre .0, held)))
+    let (held, more) = node-held (below (s .args .p) (s .args .role) (rows s) unset Graph.unlinked) (n .add-node .ensures) (d .d .given .1) (s .pre .held) in
+    (omega (arith, more), record { alternatives = s .pre .alternatives; held = held }))
     (λ c. search needs)
     -- the end: what link_found returned
     (λ c. search needs) (λ c. search needs)
