@@ -77,7 +77,7 @@ looking-start {w} {c} {x} {sat} A = record {
 
 module _ {w : Work} {c : Counts} {x : ℕ} {sat : Bool} {i : ℕ} (L : Looking w c x sat i) where
   pub looking-walks : Walks edgeSize (w .nodes) (w .edges) (c .nodes) (c .edges) x i
-  looking-walks = next-walks (L .asks .holds) x i (L .asks .inside) (L .place)
+  looking-walks = next-walks w (L .asks .holds) x i (L .asks .inside) (L .place)
 
   pub looking-nodes : c .nodes ≤ roomOf nodeSize (w .nodes)
   looking-nodes = L .asks .holds .held .nodes
@@ -88,11 +88,11 @@ module _ {w : Work} {c : Counts} {x : ℕ} {sat : Bool} {i : ℕ} (L : Looking w
 
   module _ {r : Next} (all : Answer w c x i r) where
     pub looking-next : {k y : ℕ} → r ≡ Next.At k y → Follows k y
-    looking-next q = record { next = next-at (L .asks .holds) x i (L .among) all q }
+    looking-next q = record { next = next-at w (L .asks .holds) x i (L .among) all q }
 
     pub looking-end : r ≡ Next.End → none ≡ firstChild (asked sat) (graphOf w c) x
     unfolding first
-    looking-end q = ap (first (ask (asked sat) (graphOf w c))) (sym (next-end (L .asks .holds) x i (L .among) all q)) ∙ L .finds
+    looking-end q = ap (first (ask (asked sat) (graphOf w c))) (sym (next-end w (L .asks .holds) x i (L .among) all q)) ∙ L .finds
 
 module _ {w : Work} {c : Counts} {x : ℕ} {sat : Bool} {i : ℕ} {L : Looking w c x sat i} {k y : ℕ} (F : Follows L k y) where
   pub looking-index : k + 1 ≤ mostRecords

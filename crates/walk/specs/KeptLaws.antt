@@ -78,7 +78,7 @@ pub record NextChild (w : Work) (c : Counts) (x i k y : ℕ) : Type 0 where
   pub more : childrenFrom (graphOf w c) x i ≡ y ∷ childrenFrom (graphOf w c) x (k + 1)
   pub among : AmongChildren (graphOf w c) x (k + 1)
 
-module _ {w : Work} {c : Counts} (H : EdgesHeld (w .nodes) (w .edges) c) (x i : ℕ) where
+module _ (w : Work) {c : Counts} (H : EdgesHeld (w .nodes) (w .edges) c) (x i : ℕ) where
   pub next-walks : x < c .nodes → i ≤ c .edges → Walks edgeSize (w .nodes) (w .edges) (c .nodes) (c .edges) x i
   next-walks h l = record { node = h; nodes = H .held .nodes; place = l; records = H .held .edges }
 

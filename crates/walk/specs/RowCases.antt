@@ -144,7 +144,7 @@ module _ {ws : List ℕ} {w : Work} {c : Counts} {s : Sizes} {d x : ℕ} {w′ :
   among-now = subst (λ (u : Graph). AmongChildren u x i) (sym same) (T .among)
 
   pub row-walks : Walks edgeSize (w′ .nodes) (w′ .edges) (c .nodes) (c .edges) x i
-  row-walks = next-walks holds x i (T .inside) (T .place)
+  row-walks = next-walks w′ holds x i (T .inside) (T .place)
 
   ended : left table h x k i ≡ [] → RowsGives ws w c s d s′ w′
   ended p =
@@ -180,11 +180,11 @@ module _ {ws : List ℕ} {w : Work} {c : Counts} {s : Sizes} {d x : ℕ} {w′ :
     pub row-childless : r ≡ Next.End → RowsGives ws w c s d s′ w′
     row-childless q =
         ended T (left-childless (table T) (h T) x k i ρ l (row + 1) (R .rest)
-        (subst (λ (u : Graph). childrenFrom u x i ≡ []) (same T) (next-end (holds T) x i (among-now T) N q)))
+        (subst (λ (u : Graph). childrenFrom u x i ≡ []) (same T) (next-end w′ (holds T) x i (among-now T) N q)))
 
     pub row-child : {index y : ℕ} → r ≡ Next.At index y → Child T row ρ index y
     row-child {index} {y} q =
-        let next = next-at (holds T) x i (among-now T) N q in
+        let next = next-at w′ (holds T) x i (among-now T) N q in
         record {
           from = next .from;
           below = next .below;
