@@ -1,6 +1,6 @@
 //! The plain program in different areas.
 
-use compare::areas::{check_different_areas, check_just_enough};
+use compare::checks::areas::{check_different_areas, check_just_enough};
 use plain::graph::Capacity;
 use plain::{answer, Lent};
 

@@ -1,6 +1,6 @@
 //! The plain program, lent one record more after each refusal.
 
-use compare::climb::{check_long_climbs, check_random_climbs};
+use compare::checks::records::climbs::{check_long_climbs, check_random_climbs};
 use plain::answer;
 
 #[test]

@@ -1,10 +1,10 @@
 //! Random drafts and towers through the plain converter and the plain engine.
 
 use compare::checks::STACK;
-use compare::conversions::{check_bounds, check_random_drafts, check_towers};
-use compare::draft_worlds::check_draft_worlds;
+use compare::checks::drafts::results::{check_bounds, check_random_drafts, check_towers};
+use compare::checks::drafts::verdicts::check_draft_worlds;
 use compare::on_stack;
-use compare::small_drafts::check_small_drafts;
+use compare::checks::drafts::small::check_small_drafts;
 
 #[test]
 fn small_drafts_become_what_is_expected() {

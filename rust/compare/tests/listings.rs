@@ -1,6 +1,6 @@
 //! What the elements of the plain program's examples list; and that the world is that of the rows which the procedure placed.
 
-use compare::listings::{check_listings_by_hand, check_random_listings};
+use compare::checks::listings::{check_listings_by_hand, check_random_listings};
 use compare::{cases, random_file, Prng, Shape};
 use plain::{answer, answer_as_placed, records, Answer, Lent};
 use worlds::{Example, Ontology, World};

@@ -2,5 +2,5 @@
 
 #[test]
 fn verdicts_agree_with_small_worlds() {
-    compare::small_worlds::check_random_files(plain::answer);
+    compare::checks::small_worlds::check_random_files(plain::answer);
 }

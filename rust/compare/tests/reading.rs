@@ -1,7 +1,7 @@
 //! The text of a file, the order of the checks, the kinds of a draft, and what a table can begin with.
 
 use compare::encode;
-use compare::row_zero::{check_first_rows, check_tables_of_inclusions, check_tables_without_names};
+use compare::checks::first_rows::{check_first_rows, check_tables_of_inclusions, check_tables_without_names};
 use plain::{answer, convert, text, text_wanting, Draft, RuleFile};
 
 const ROWS: [[u8; 4]; 3] = [[1, 0, 0, 0], [5, 31, 0, 0], [6, 0, 1, 0]];

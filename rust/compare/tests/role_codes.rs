@@ -1,6 +1,6 @@
 //! The plain program, on every pair of role codes and on the role of the root's put.
 
-use compare::role_codes::{check_pairs, check_root};
+use compare::checks::role_codes::{check_pairs, check_root};
 use plain::answer;
 
 #[test]

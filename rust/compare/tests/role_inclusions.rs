@@ -1,47 +1,48 @@
 //! The plain program and the plain converter with roles that are narrower than others.
 
-use compare::inclusions::{random_inclusions, Follow, Wider};
-use compare::{inclusion_drafts, inclusion_files, misplaced_inclusions, role_inclusions, Prng};
+use compare::files::inclusions::{random_inclusions, Follow, Wider};
+use compare::checks::inclusions::{drafts, misplaced, narrower_roles, random_files};
+use compare::Prng;
 use plain::concept::{Concept, Kinds};
 use plain::{answer, convert, RoleHierarchy};
 
 #[test]
 fn small_files_by_hand() {
-    role_inclusions::check_by_hand(answer);
+    narrower_roles::check_by_hand(answer);
 }
 
 #[test]
 fn every_single_inclusion() {
-    role_inclusions::check_single_inclusions(answer);
-    role_inclusions::check_single_verdicts(answer);
+    narrower_roles::check_single_inclusions(answer);
+    narrower_roles::check_single_verdicts(answer);
 }
 
 #[test]
 fn the_longest_chains() {
-    role_inclusions::check_longest_chains(answer);
+    narrower_roles::check_longest_chains(answer);
 }
 
 #[test]
 fn the_role_of_the_root_is_narrower_than_none() {
-    role_inclusions::check_root(answer);
+    narrower_roles::check_root(answer);
 }
 
 #[test]
 fn random_files() {
-    inclusion_files::check_random_files(answer);
+    random_files::check_random_files(answer);
 }
 
 #[test]
 fn rows_that_serve_as_something() {
-    misplaced_inclusions::check_by_hand(answer, convert);
-    misplaced_inclusions::check_random(answer, convert);
+    misplaced::check_by_hand(answer, convert);
+    misplaced::check_random(answer, convert);
 }
 
 #[test]
 fn drafts() {
-    inclusion_drafts::check_by_hand(convert);
-    inclusion_drafts::check_most_rows(convert);
-    inclusion_drafts::check_random_drafts(convert, answer);
+    drafts::check_by_hand(convert);
+    drafts::check_most_rows(convert);
+    drafts::check_random_drafts(convert, answer);
 }
 
 /// What is narrower, by a table, is what is reached by going from row to row.

@@ -1,6 +1,6 @@
 //! The sample rule files in the plain program.
 
-use compare::samples::{check_needs, check_samples};
+use compare::checks::samples::{check_needs, check_samples};
 use plain::answer;
 
 #[test]

@@ -1,7 +1,8 @@
 //! Every case of tests/vectors through the plain engine and the plain converter.
 
 use compare::checks::STACK;
-use compare::{check_cases, check_draft_cases, on_stack};
+use compare::checks::vectors::{check_cases, check_draft_cases};
+use compare::on_stack;
 
 #[test]
 fn every_case_prints_what_is_expected() {

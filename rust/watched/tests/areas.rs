@@ -1,7 +1,7 @@
 //! The engine in different areas, in areas just enough, and lent one record more after each refusal.
 
-use compare::areas::{check_different_areas, check_just_enough};
-use compare::climb::{check_long_climbs, check_random_climbs};
+use compare::checks::areas::{check_different_areas, check_just_enough};
+use compare::checks::records::climbs::{check_long_climbs, check_random_climbs};
 use plain::{Answer, Lent};
 use watched::Lending;
 

@@ -1,8 +1,9 @@
 //! The engine's catalogue pages.
 
-use compare::catalogues::{check_by_hand, check_large_examples, check_most_names, check_random_pages};
+use compare::checks::catalogues::{check_by_hand, check_large_examples, check_most_names, check_random_pages};
 use compare::checks::STACK;
-use compare::{check_catalogue_cases, on_stack};
+use compare::checks::vectors::check_catalogue_cases;
+use compare::on_stack;
 use watched::{Cataloguer, Lending};
 
 #[test]

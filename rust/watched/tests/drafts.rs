@@ -2,10 +2,10 @@
 //! of random lengths; random drafts against the meaning of drafts, and what the engine then says of them; towers on a stack of 1 MiB.
 
 use compare::checks::STACK;
-use compare::conversions::{check_bounds, check_random_drafts, check_towers};
-use compare::draft_worlds::check_draft_worlds;
-use compare::inclusions::with_inclusions;
-use compare::small_drafts::check_small_drafts;
+use compare::checks::drafts::results::{check_bounds, check_random_drafts, check_towers};
+use compare::checks::drafts::verdicts::check_draft_worlds;
+use compare::files::inclusions::with_inclusions;
+use compare::checks::drafts::small::check_small_drafts;
 use compare::{damage, draft_cases, on_stack, random_area, random_bytes, random_draft, DraftCounts, Prng, Shape};
 use watched::{Converter, Lending};
 

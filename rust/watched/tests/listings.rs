@@ -1,6 +1,6 @@
 //! What the elements of the engine's examples list.
 
-use compare::listings::{check_listings_by_hand, check_random_listings};
+use compare::checks::listings::{check_listings_by_hand, check_random_listings};
 use watched::Lending;
 
 #[test]

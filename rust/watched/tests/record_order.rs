@@ -1,7 +1,7 @@
 //! The engine, stopped before each record of a run, and short of one of very many.
 
-use compare::long_runs::{check_long_runs, check_longest_runs, check_most_records};
-use compare::record_order::check_record_order;
+use compare::checks::records::long_runs::{check_long_runs, check_longest_runs, check_most_records};
+use compare::checks::records::short_runs::check_record_order;
 use watched::Lending;
 
 #[test]

@@ -1,6 +1,6 @@
 //! The engine, on every pair of role codes, on the role of the root's put and on random files in which all codes are in use.
 
-use compare::role_codes::{check_pairs, check_random, check_root};
+use compare::checks::role_codes::{check_pairs, check_random, check_root};
 use watched::Lending;
 
 #[test]

@@ -1,6 +1,6 @@
 //! What a table can begin with, of the engine and the converter.
 
-use compare::row_zero::{check_first_rows, check_tables_of_inclusions, check_tables_without_names};
+use compare::checks::first_rows::{check_first_rows, check_tables_of_inclusions, check_tables_without_names};
 use watched::{Converter, Lending};
 
 #[test]

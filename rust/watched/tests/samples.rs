@@ -1,6 +1,6 @@
 //! The sample rule files in the engine.
 
-use compare::samples::{check_needs, check_samples};
+use compare::checks::samples::{check_needs, check_samples};
 use watched::Lending;
 
 #[test]

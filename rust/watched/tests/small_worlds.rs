@@ -5,5 +5,5 @@ use watched::Lending;
 #[test]
 fn verdicts_agree_with_small_worlds() {
     let mut lending = Lending::new();
-    compare::small_worlds::check_random_files(|file, lent| lending.answer(file, lent));
+    compare::checks::small_worlds::check_random_files(|file, lent| lending.answer(file, lent));
 }

@@ -1,7 +1,8 @@
 //! Every question of tests/vectors through the engine and the converter.
 
 use compare::checks::STACK;
-use compare::{check_cases, check_draft_cases, on_stack};
+use compare::checks::vectors::{check_cases, check_draft_cases};
+use compare::on_stack;
 use watched::{Converter, Lending};
 
 #[test]

@@ -1,8 +1,9 @@
 //! The engine with lists of wanted rows in place of a file's own.
 
 use compare::checks::STACK;
-use compare::wanted_lists::{check_by_hand, check_long_lists, check_random_lists};
-use compare::{check_wanted_cases, on_stack};
+use compare::checks::wanted::{check_by_hand, check_long_lists, check_random_lists};
+use compare::checks::vectors::check_wanted_cases;
+use compare::on_stack;
 use watched::Lending;
 
 #[test]
