@@ -183,3 +183,14 @@ fn print_can(used: &Used, elements: &[RowSet], links: &[RoleLink]) -> String {
 fn print_used(used: &Used) -> String {
     format!("USED {} {} {}\n", used.nodes, used.edges, used.alternatives)
 }
+
+#[cfg(test)]
+mod tests {
+    use super::*;
+
+    #[test]
+    fn whole_records_count_and_at_most_4096() {
+        let lent = Lent { nodes: 64 * 9 + 63, edges: 16 * 5000, alternatives: 15, elements: 0, links: 0 };
+        assert_eq!(lent.capacity(), Capacity { nodes: 9, edges: 4096, alternatives: 0 });
+    }
+}

@@ -1,19 +1,8 @@
-//! What the elements of the plain program's examples list; and that the world is that of the rows which the procedure placed.
+//! The world of the plain program's example is that of the rows which the procedure placed, and these are listed.
 
-use compare::checks::listings::{check_listings_by_hand, check_random_listings};
 use compare::{cases, random_file, Prng, Shape};
 use plain::{answer, answer_as_placed, records, Answer, Lent};
 use worlds::{Example, Ontology, World};
-
-#[test]
-fn examples_by_hand() {
-    check_listings_by_hand(answer);
-}
-
-#[test]
-fn every_row_that_holds_and_no_other() {
-    check_random_listings(answer);
-}
 
 /// The world that is read from the bytes of an answer's example.
 fn world(file: &[u8], answer: &Answer) -> Option<World> {
