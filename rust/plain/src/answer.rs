@@ -6,18 +6,10 @@ use crate::example::{example, Example};
 use crate::graph::{Area, Capacity, Graph};
 use crate::row_set::RowSet;
 use crate::rulefile::RuleFile;
+use crate::sizes::{ALTERNATIVE, EDGE, ELEMENT, LINK, MOST_RECORDS, NODE};
 use crate::status::Status;
 use crate::tableau::{run, ROOT};
 use std::fmt::Write;
-
-/// Bytes of a record, of each kind.
-pub const NODE: usize = 64;
-pub const EDGE: usize = 16;
-pub const ALTERNATIVE: usize = 16;
-const ELEMENT: usize = RowSet::BYTES;
-const LINK: usize = 6;
-/// Whole records count, and at most so many of each in the three work areas.
-pub const MOST_RECORDS: usize = 4096;
 
 /// The lengths of the five lent areas, in bytes. What the areas hold has no say in the answer.
 #[derive(Clone, Copy, Debug, PartialEq, Eq)]

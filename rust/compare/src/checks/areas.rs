@@ -2,7 +2,7 @@
 //! that a refusal names has to be larger (document 02, \[4\]).
 
 use crate::{check_example, random_file, random_lent, with_broken_records, Answering, Prng, Shape};
-use plain::answer::{ALTERNATIVE, EDGE, NODE};
+use plain::sizes::{ALTERNATIVE, EDGE, NODE};
 use plain::{Answer, Area, Lent, Used};
 
 const SHAPE: Shape = Shape { names: 2, roles: 1, compound: 14, rules: 4, text: 8 };

@@ -1,7 +1,7 @@
 //! Lengths of areas to lend for a file, at random.
 
 use super::random::Prng;
-use plain::answer::{ALTERNATIVE, EDGE, NODE};
+use plain::sizes::{ALTERNATIVE, EDGE, NODE};
 use plain::{Lent, Used};
 
 /// Areas of odd lengths: a broken last record doesn't count.

@@ -6,7 +6,7 @@ use crate::files::chains::{alternatives, clocked_line, delay_line, ladder, Clock
 use crate::files::orders::{count, Order};
 use crate::files::wide::wide;
 use crate::{random_file, Answering, Prng, Shape};
-use plain::answer::MOST_RECORDS;
+use plain::sizes::MOST_RECORDS;
 use plain::{Answer, Area, Lent, Used};
 
 /// The records in order of their refusals, and the answer when no more are lent.

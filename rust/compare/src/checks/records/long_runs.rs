@@ -5,7 +5,7 @@ use super::stops::{check_areas, check_order, check_stop, check_whole};
 use crate::files::long_runs::{answers, branches, crowd, first_of_ladder, signals, LongRun};
 use crate::files::orders::count;
 use crate::{with_broken_records, Answering, Prng};
-use plain::answer::MOST_RECORDS;
+use plain::sizes::MOST_RECORDS;
 use plain::{Answer, Area, Lent, Used};
 
 /// Runs of hundreds of records are stopped before each of them.
