@@ -93,7 +93,7 @@ pub fn random_question(prng: &mut Prng, shape: Shape) -> Vec<u8> {
 /// 32 names, each with both rows, in no order of name. Every part has the names of the one list and none of the other: these are the rules.
 pub fn most_names(every: &[u8], none: &[u8]) -> Vec<u8> {
     let mut table = Table::default();
-    let name = |k: u8| k * 37 % NAMES;
+    let name = |k: u8| k.wrapping_mul(37) % NAMES;
     for k in 0..32 {
         table.not_name(name(k));
         table.name(name(31 - k));
