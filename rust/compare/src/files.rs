@@ -1,4 +1,20 @@
-//! Rule files written row by row.
+//! Rule files and drafts: here written row by row.
+//!
+//! [`random`], [`drafts`], [`wanted`] and [`kinds`] make them at random, [`parts`], [`inclusions`] and [`misplaced`] change them. Large ones
+//! are in [`chains`], [`wide`] and, with the [`orders`] of their records, in [`long_runs`]. [`lent`] has areas for them.
+
+pub mod chains;
+pub mod drafts;
+pub mod inclusions;
+pub mod kinds;
+pub mod lent;
+pub mod long_runs;
+pub mod misplaced;
+pub mod orders;
+pub mod parts;
+pub mod random;
+pub mod wanted;
+pub mod wide;
 
 pub use gumbyra_table::Table;
 pub use plain::concept::Row;

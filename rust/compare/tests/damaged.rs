@@ -1,6 +1,6 @@
 //! Damaged files get an answer, never a panic; and a file that is accepted all the same gets a right one. The same with drafts.
 
-use compare::inclusions::with_inclusions;
+use compare::files::inclusions::with_inclusions;
 use compare::{
     cases, check_example, damage, draft_cases, random_bytes, random_draft, random_file, DraftCounts, Prng, Shape,
 };

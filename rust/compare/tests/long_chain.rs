@@ -1,11 +1,11 @@
 //! A cascade of updates through a long chain of states, on a small stack; large examples; and how deep updates and puts nest.
 
-use compare::chains::{
+use compare::files::chains::{
     clocked_line, delay_line, ladder, shift_register, with_other_name, CONTENTS, DEEPEST, OTHER_NAME, RUNGS,
     RUNGS_AGAIN, RUNGS_OF_KINDS, THOUSAND_STATES,
 };
-use compare::inclusions::Parts;
-use compare::wide::{wide, wide_with_inclusions};
+use compare::files::parts::Parts;
+use compare::files::wide::{wide, wide_with_inclusions};
 use compare::{check_example, on_stack};
 use plain::graph::{Edge, Graph, Link, Node};
 use plain::status::Status;

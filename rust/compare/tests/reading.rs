@@ -1,8 +1,7 @@
-//! The text of a file, the order of the checks, the kinds of a draft, and what a table can begin with.
+//! The text of a file, the order of the checks and the kinds of a draft.
 
 use compare::encode;
-use compare::row_zero::{check_first_rows, check_tables_of_inclusions, check_tables_without_names};
-use plain::{answer, convert, text, text_wanting, Draft, RuleFile};
+use plain::{text, text_wanting, Draft, RuleFile};
 
 const ROWS: [[u8; 4]; 3] = [[1, 0, 0, 0], [5, 31, 0, 0], [6, 0, 1, 0]];
 
@@ -72,19 +71,4 @@ fn a_draft_has_two_kinds_more() {
     for row in [[8, 0, 1, 0], [9, 0, 1, 0], [9, 0, 0, 1]] {
         assert_eq!(refusals(row), (Some(5), Some(6)), "{row:?}");
     }
-}
-
-#[test]
-fn every_first_row() {
-    check_first_rows(answer, convert);
-}
-
-#[test]
-fn tables_without_names() {
-    check_tables_without_names(answer, convert);
-}
-
-#[test]
-fn tables_of_inclusions() {
-    check_tables_of_inclusions(answer, convert);
 }

@@ -1,8 +1,8 @@
 //! The plain converter against a slow one: it writes each rule out as one expression, turns its parts round where "not" and "if" ask
 //! for it, and then numbers the parts as they end, equal parts once, after the kind 7 rows.
 
+use compare::files::inclusions::with_inclusions;
 use compare::files::{encode, Row};
-use compare::inclusions::with_inclusions;
 use compare::{random_draft, Conversion, Prng, Shape};
 use worlds::ontology::RoleUse;
 use worlds::{Concept, Ontology};

@@ -35,145 +35,63 @@ pub struct Page {
     pub names: u64,
 }
 
+/// Functions of gumbyra.h: each is declared, and called by a safe function of the same name. Before the semicolon stand
+/// the slices that the call reads, behind it those that it writes; in C each is a pointer and a length.
+///
+/// To add one is to say of it what the header says of them all: it reads and writes nothing but these slices and
+/// constants, keeps no pointer and has no state of its own.
+macro_rules! calls {
+    ($($(#[$doc:meta])* $vis:vis fn $name:ident($($read:ident),+; $($written:ident),*) -> $given:ty;)+) => {$(
+        $(#[$doc])*
+        $vis fn $name($($read: &[u8],)+ $($written: &mut [u8],)*) -> $given {
+            extern "C" {
+                fn $name($($read: *const u8, _: usize,)+ $($written: *mut u8, _: usize,)*) -> $given;
+            }
+            // SAFETY: each pointer comes with the length of its slice. The slices are borrowed until the call ends,
+            // those that it writes alone, so none of these overlaps another; the others it only reads. It keeps no
+            // pointer and has no state of its own.
+            unsafe { $name($($read.as_ptr(), $read.len(),)+ $($written.as_mut_ptr(), $written.len(),)*) }
+        }
+    )+};
+}
+
+calls! {
+    /// Decides a rule file.
+    fn gumbyra_fit(file; nodes, edges, alternatives, elements, links) -> Answer;
+    /// Decides a rule file with these wanted rows in place of its own.
+    fn gumbyra_fit_wanted(file, wanted; nodes, edges, alternatives, elements, links) -> Answer;
+    /// Fills the table of a rule file's kinds.
+    fn gumbyra_catalogue(file; nodes, edges, alternatives, table) -> Page;
+    /// How many leading bytes of a rule file are its text.
+    pub fn gumbyra_text(file;) -> usize;
+    /// The same with these wanted rows in place of its own.
+    pub fn gumbyra_text_wanted(file, wanted;) -> usize;
+    /// Converts a draft.
+    pub fn gumbyra_convert(draft; area) -> Conversion;
+}
+
+/// Decides a rule file in these areas.
+pub fn fit(file: &[u8], areas: &mut Areas) -> Answer {
+    let Areas { nodes, edges, alternatives, elements, links } = areas;
+    gumbyra_fit(file, nodes, edges, alternatives, elements, links)
+}
+
+/// Decides it with these wanted rows in place of its own.
+pub fn fit_wanted(file: &[u8], wanted: &[u8], areas: &mut Areas) -> Answer {
+    let Areas { nodes, edges, alternatives, elements, links } = areas;
+    gumbyra_fit_wanted(file, wanted, nodes, edges, alternatives, elements, links)
+}
+
+/// Fills the table of its kinds.
+pub fn catalogue(file: &[u8], work: WorkAreas, table: &mut [u8]) -> Page {
+    let WorkAreas { nodes, edges, alternatives } = work;
+    gumbyra_catalogue(file, nodes, edges, alternatives, table)
+}
+
 extern "C" {
-    fn gumbyra_fit(
-        file: *const u8,
-        file_len: usize,
-        nodes: *mut u8,
-        nodes_len: usize,
-        edges: *mut u8,
-        edges_len: usize,
-        alternatives: *mut u8,
-        alternatives_len: usize,
-        elements: *mut u8,
-        elements_len: usize,
-        links: *mut u8,
-        links_len: usize,
-    ) -> Answer;
-
-    fn gumbyra_fit_wanted(
-        file: *const u8,
-        file_len: usize,
-        wanted: *const u8,
-        wanted_len: usize,
-        nodes: *mut u8,
-        nodes_len: usize,
-        edges: *mut u8,
-        edges_len: usize,
-        alternatives: *mut u8,
-        alternatives_len: usize,
-        elements: *mut u8,
-        elements_len: usize,
-        links: *mut u8,
-        links_len: usize,
-    ) -> Answer;
-
-    fn gumbyra_catalogue(
-        file: *const u8,
-        file_len: usize,
-        nodes: *mut u8,
-        nodes_len: usize,
-        edges: *mut u8,
-        edges_len: usize,
-        alternatives: *mut u8,
-        alternatives_len: usize,
-        table: *mut u8,
-        table_len: usize,
-    ) -> Page;
-
-    fn gumbyra_text(file: *const u8, file_len: usize) -> usize;
-
-    fn gumbyra_text_wanted(file: *const u8, file_len: usize, wanted: *const u8, wanted_len: usize) -> usize;
-
-    fn gumbyra_convert(draft: *const u8, draft_len: usize, area: *mut u8, area_len: usize) -> Conversion;
-
     fn gumbyra_version() -> u32;
 
     fn gumbyra_sentence(refusal: u32) -> *const c_char;
-}
-
-/// Decides a rule file.
-pub fn fit(file: &[u8], areas: &mut Areas) -> Answer {
-    // SAFETY: each pointer comes with the length of its slice. The slices are borrowed until the call ends, the areas
-    // alone, so no two overlap. The engine keeps no pointer and has no state of its own.
-    unsafe {
-        gumbyra_fit(
-            file.as_ptr(),
-            file.len(),
-            areas.nodes.as_mut_ptr(),
-            areas.nodes.len(),
-            areas.edges.as_mut_ptr(),
-            areas.edges.len(),
-            areas.alternatives.as_mut_ptr(),
-            areas.alternatives.len(),
-            areas.elements.as_mut_ptr(),
-            areas.elements.len(),
-            areas.links.as_mut_ptr(),
-            areas.links.len(),
-        )
-    }
-}
-
-/// Decides a rule file with these wanted rows in place of its own.
-pub fn fit_wanted(file: &[u8], wanted: &[u8], areas: &mut Areas) -> Answer {
-    // SAFETY: as for `fit`. The wanted rows are only read, and only during the call.
-    unsafe {
-        gumbyra_fit_wanted(
-            file.as_ptr(),
-            file.len(),
-            wanted.as_ptr(),
-            wanted.len(),
-            areas.nodes.as_mut_ptr(),
-            areas.nodes.len(),
-            areas.edges.as_mut_ptr(),
-            areas.edges.len(),
-            areas.alternatives.as_mut_ptr(),
-            areas.alternatives.len(),
-            areas.elements.as_mut_ptr(),
-            areas.elements.len(),
-            areas.links.as_mut_ptr(),
-            areas.links.len(),
-        )
-    }
-}
-
-/// Fills the table of a rule file's kinds.
-pub fn catalogue(file: &[u8], work: WorkAreas, table: &mut [u8]) -> Page {
-    // SAFETY: each pointer comes with the length of its slice. The slices are borrowed until the call ends, the areas
-    // alone, so no two overlap. The catalogue keeps no pointer and has no state of its own.
-    unsafe {
-        gumbyra_catalogue(
-            file.as_ptr(),
-            file.len(),
-            work.nodes.as_mut_ptr(),
-            work.nodes.len(),
-            work.edges.as_mut_ptr(),
-            work.edges.len(),
-            work.alternatives.as_mut_ptr(),
-            work.alternatives.len(),
-            table.as_mut_ptr(),
-            table.len(),
-        )
-    }
-}
-
-/// How many leading bytes of a rule file are its text.
-pub fn text_len(file: &[u8]) -> usize {
-    // SAFETY: the pointer comes with the length of its slice, which the engine only reads, and only during the call.
-    unsafe { gumbyra_text(file.as_ptr(), file.len()) }
-}
-
-/// The same with these wanted rows in place of its own.
-pub fn text_wanted_len(file: &[u8], wanted: &[u8]) -> usize {
-    // SAFETY: each pointer comes with the length of its slice, which the engine only reads, and only during the call.
-    unsafe { gumbyra_text_wanted(file.as_ptr(), file.len(), wanted.as_ptr(), wanted.len()) }
-}
-
-/// Converts a draft.
-pub fn convert(draft: &[u8], area: &mut [u8]) -> Conversion {
-    // SAFETY: each pointer comes with the length of its slice. The area is borrowed alone, so the two do not overlap,
-    // and the converter keeps no pointer.
-    unsafe { gumbyra_convert(draft.as_ptr(), draft.len(), area.as_mut_ptr(), area.len()) }
 }
 
 /// The library's version.

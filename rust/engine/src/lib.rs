@@ -215,7 +215,7 @@ pub fn catalogue<'a>(file: &[u8], work: WorkAreas, table: &'a mut [u8]) -> Resul
 /// assert_eq!(gumbyra::text(&file), b"");
 /// ```
 pub fn text(file: &[u8]) -> &[u8] {
-    &file[..convention::text_len(file)]
+    &file[..convention::gumbyra_text(file)]
 }
 
 /// The text of a rule file that is read with a list of wanted rows in place of its own, as [`fit_wanted`] reads it. Of
@@ -238,7 +238,7 @@ pub fn text(file: &[u8]) -> &[u8] {
 /// assert_eq!((text_wanted(&file, &[7]), text(&file)), (b"".as_slice(), b"abc".as_slice()));
 /// ```
 pub fn text_wanted<'a>(file: &'a [u8], wanted: &[u8]) -> &'a [u8] {
-    &file[..convention::text_wanted_len(file, wanted)]
+    &file[..convention::gumbyra_text_wanted(file, wanted)]
 }
 
 /// Converts a draft, a rule file with two more kinds of row: 8, not the left row, and 9, if left then right. Gives the
@@ -276,6 +276,6 @@ pub fn text_wanted<'a>(file: &'a [u8], wanted: &[u8]) -> &'a [u8] {
 /// # Panics
 /// If the numbers that come back are of no answer: then the library is not the one that this crate was written for.
 pub fn convert<'a>(draft: &[u8], area: &'a mut [u8]) -> Result<&'a [u8], Refusal> {
-    let answer = convention::convert(draft, area);
+    let answer = convention::gumbyra_convert(draft, area);
     conversion::outcome(&answer, area).unwrap_or_else(|| panic!("no answer of the converter: {answer:?}"))
 }

@@ -6,18 +6,10 @@ use crate::example::{example, Example};
 use crate::graph::{Area, Capacity, Graph};
 use crate::row_set::RowSet;
 use crate::rulefile::RuleFile;
+use crate::sizes::{ALTERNATIVE, EDGE, ELEMENT, LINK, MOST_RECORDS, NODE};
 use crate::status::Status;
 use crate::tableau::{run, ROOT};
 use std::fmt::Write;
-
-/// Bytes of a record, of each kind.
-pub const NODE: usize = 64;
-pub const EDGE: usize = 16;
-pub const ALTERNATIVE: usize = 16;
-const ELEMENT: usize = RowSet::BYTES;
-const LINK: usize = 6;
-/// Whole records count, and at most so many of each in the three work areas.
-pub const MOST_RECORDS: usize = 4096;
 
 /// The lengths of the five lent areas, in bytes. What the areas hold has no say in the answer.
 #[derive(Clone, Copy, Debug, PartialEq, Eq)]
@@ -182,4 +174,15 @@ fn print_can(used: &Used, elements: &[RowSet], links: &[RoleLink]) -> String {
 
 fn print_used(used: &Used) -> String {
     format!("USED {} {} {}\n", used.nodes, used.edges, used.alternatives)
+}
+
+#[cfg(test)]
+mod tests {
+    use super::*;
+
+    #[test]
+    fn whole_records_count_and_at_most_4096() {
+        let lent = Lent { nodes: 64 * 9 + 63, edges: 16 * 5000, alternatives: 15, elements: 0, links: 0 };
+        assert_eq!(lent.capacity(), Capacity { nodes: 9, edges: 4096, alternatives: 0 });
+    }
 }

@@ -4,6 +4,7 @@ use crate::answer::{is_can, Lent};
 use crate::concept::Concept;
 use crate::graph::Capacity;
 use crate::rulefile::RuleFile;
+use crate::sizes::NAMES;
 use crate::tableau::run;
 
 /// The entries of a table: an a that isn't a b can exist, cannot, or the work areas did not suffice.
@@ -58,7 +59,7 @@ fn listed(concepts: &[Concept]) -> Vec<Kind> {
         let (is_one, is_none) = (place(Concept::Atomic(name))?, place(Concept::Negated(name))?);
         Some(Kind { name, is_one, is_none })
     };
-    (0..=63).filter_map(kind).collect()
+    (0..NAMES).filter_map(kind).collect()
 }
 
 /// The entry by a run of its own.

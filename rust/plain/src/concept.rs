@@ -1,10 +1,12 @@
 //! Concepts (document 01's rows), role inclusions (document 02, \[6\]) and role codes.
 
+use crate::sizes::{CODES, NAMES};
+
 /// A role code: 2k is role k, 2k + 1 its inverse.
 pub type Role = u16;
 
 /// The role of the root's put: no row has it, and none has its inverse.
-pub const NO_ROLE: Role = 32;
+pub const NO_ROLE: Role = CODES as Role;
 
 /// The role turned round: add one to an even code, take one from an odd code.
 pub fn inverse(role: Role) -> Role {
@@ -56,13 +58,15 @@ impl Kinds for Concept {
     fn of_row([kind, role, left, right]: Row) -> Option<Concept> {
         let (l, r) = (usize::from(left), usize::from(right));
         match kind {
-            1 if role == 0 && right == 0 && left <= 63 => Some(Concept::Atomic(left)),
-            2 if role == 0 && right == 0 && left <= 63 => Some(Concept::Negated(left)),
+            1 if role == 0 && right == 0 && left < NAMES => Some(Concept::Atomic(left)),
+            2 if role == 0 && right == 0 && left < NAMES => Some(Concept::Negated(left)),
             3 if role == 0 => Some(Concept::Conj(l, r)),
             4 if role == 0 => Some(Concept::Disj(l, r)),
-            5 if right == 0 && role <= 31 => Some(Concept::Univ(Role::from(role), l)),
-            6 if right == 0 && role <= 31 => Some(Concept::Exist(Role::from(role), l)),
-            7 if right == 0 && role <= 31 && left <= 31 => Some(Concept::Inclusion(Role::from(role), Role::from(left))),
+            5 if right == 0 && role < CODES => Some(Concept::Univ(Role::from(role), l)),
+            6 if right == 0 && role < CODES => Some(Concept::Exist(Role::from(role), l)),
+            7 if right == 0 && role < CODES && left < CODES => {
+                Some(Concept::Inclusion(Role::from(role), Role::from(left)))
+            }
             _ => None,
         }
     }

@@ -3,7 +3,8 @@
 
 use crate::concept::{Concept, Kinds, Role, Row};
 use crate::draft::DraftConcept;
-use crate::rulefile::{encode, Draft, LONGEST_FILE, MOST_ROWS};
+use crate::rulefile::{encode, Draft};
+use crate::sizes::{LONGEST_FILE, MOST_ROWS};
 
 /// The refusal of a result that needs more than 64 rows, more than 4,096 bytes or more than the area.
 const TOO_LONG: u8 = 12;

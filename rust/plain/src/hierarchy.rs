@@ -2,9 +2,9 @@
 //! row, is reflexive and transitive, and has two codes turned round whenever it has these.
 
 use crate::concept::{inverse, Kinds, Role};
+use crate::sizes;
 
-/// Role codes, "0 to 31".
-const CODES: usize = 32;
+const CODES: usize = sizes::CODES as usize;
 
 /// A set of role codes: code c as bit c.
 type Codes = u32;

@@ -4,8 +4,8 @@
 //! ([`rulefile`]) with the roles that it says are narrower than others ([`hierarchy`]), the procedure ([`status`], [`set_tests`],
 //! [`graph`], [`tableau`]), the example ([`example`]) with every row that holds in it ([`evaluate`](mod@evaluate)), and the whole run
 //! with its printing ([`answer`](mod@answer)). Drafts ([`draft`]) pass the checks of a rule file, and [`convert`](mod@convert) turns
-//! them into one. [`catalogue`](mod@catalogue) tells which of a file's names are which, by a run for each two of them. Names follow source
-//! document 001; where document 01 has a word of its own, a comment at the definition gives it.
+//! them into one. [`catalogue`](mod@catalogue) tells which of a file's names are which, by a run for each two of them. [`sizes`] has
+//! the numbers. Names follow source document 001; where document 01 has a word of its own, a comment at the definition gives it.
 
 pub mod answer;
 pub mod catalogue;
@@ -19,6 +19,7 @@ pub mod hierarchy;
 pub mod row_set;
 pub mod rulefile;
 pub mod set_tests;
+pub mod sizes;
 pub mod status;
 pub mod tableau;
 

@@ -1,5 +1,6 @@
 //! Sets of rows: row k is bit k.
 
+use crate::sizes::{ELEMENT, MOST_ROWS};
 use std::fmt;
 
 /// A set of rows, at most 64 of them. It prints as hexadecimal digits, the highest row first.
@@ -7,9 +8,6 @@ use std::fmt;
 pub struct RowSet(u64);
 
 impl RowSet {
-    /// Bytes of a set, and so of an element's record.
-    pub const BYTES: usize = 8;
-
     /// The set without a row.
     pub const EMPTY: RowSet = RowSet(0);
 
@@ -40,11 +38,11 @@ impl RowSet {
 
     /// The rows of the set, rising.
     pub fn rows(self) -> impl Iterator<Item = usize> {
-        (0..64).filter(move |&row| self.contains(row))
+        (0..MOST_ROWS).filter(move |&row| self.contains(row))
     }
 
     /// An element's record: low byte first.
-    pub fn record(self) -> [u8; RowSet::BYTES] {
+    pub fn record(self) -> [u8; ELEMENT] {
         self.0.to_le_bytes()
     }
 }

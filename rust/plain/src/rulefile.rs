@@ -4,12 +4,10 @@
 
 use crate::concept::{Concept, Kinds, Row, ROW};
 use crate::draft::DraftConcept;
+use crate::sizes::{LONGEST_FILE, MOST_ROWS, MOST_RULES};
 
-pub const LONGEST_FILE: usize = 4096;
-pub const MOST_ROWS: usize = 64;
 const TRAILER: usize = 8;
 const MARK: [u8; 3] = [0x46, 0x49, 0x54];
-const MOST_RULES: usize = 64;
 
 /// What an accepted file or draft holds.
 #[derive(Clone, Debug, PartialEq, Eq)]

@@ -3,7 +3,7 @@
 mod common;
 
 use common::{fit, shown};
-use compare::inclusions::with_inclusions;
+use compare::files::inclusions::with_inclusions;
 use compare::{damage, random_bytes, random_draft, random_file, Prng, Shape};
 use gumbyra::{convert, Assembly, Link, Row, Sizes, Table, LONGEST_FILE};
 use prose::answer::Answer;

@@ -2,14 +2,13 @@
 //! engine's call, and by its call with wanted rows, which has the file's own row to go by and is another copy of the code; and updates and
 //! puts that nest deep in an entry of a catalogue.
 
-use compare::chains::{
+use compare::files::chains::{
     clocked_line, delay_line, ladder, shift_register, with_other_name, DEEPEST, OTHER_NAME, RUNGS, RUNGS_AGAIN,
     RUNGS_OF_KINDS, THOUSAND_STATES,
 };
-use compare::checks::STACK;
-use compare::inclusions::Parts;
-use compare::on_stack;
-use compare::wide::{wide, wide_with_inclusions};
+use compare::files::parts::Parts;
+use compare::files::wide::{wide, wide_with_inclusions};
+use compare::{on_stack, STACK};
 use plain::catalogue::{CAN, CANNOT};
 use plain::{print, Lent, Page};
 use watched::{Cataloguer, Lending};

@@ -1,7 +1,7 @@
 //! The engine against the plain program: the answer and every byte of all five areas, on valid and damaged files in areas of
 //! random lengths.
 
-use compare::inclusions::with_inclusions;
+use compare::files::inclusions::with_inclusions;
 use compare::{cases, check_example, damage, random_bytes, random_file, random_lent, Prng, Shape};
 use gumbyra::{ALTERNATIVE_BYTES, EDGE_BYTES, NODE_BYTES};
 use plain::{Answer, Lent};

@@ -1,13 +1,9 @@
 //! The converter against the plain one: the answer and every byte of the area, on valid and damaged drafts and random bytes in areas
-//! of random lengths; random drafts against the meaning of drafts, and what the engine then says of them; towers on a stack of 1 MiB.
+//! of random lengths.
 
-use compare::checks::STACK;
-use compare::conversions::{check_bounds, check_random_drafts, check_towers};
-use compare::draft_worlds::check_draft_worlds;
-use compare::inclusions::with_inclusions;
-use compare::small_drafts::check_small_drafts;
-use compare::{damage, draft_cases, on_stack, random_area, random_bytes, random_draft, DraftCounts, Prng, Shape};
-use watched::{Converter, Lending};
+use compare::files::inclusions::with_inclusions;
+use compare::{damage, draft_cases, random_area, random_bytes, random_draft, DraftCounts, Prng, Shape};
+use watched::Converter;
 
 /// The area must be as the plain converter's answer says.
 fn check(converter: &mut Converter, draft: &[u8], area: usize, counts: &mut DraftCounts) {
@@ -73,34 +69,4 @@ fn bytes_at_random() {
     }
     println!("random bytes: {counts:?}");
     counts.assert_each_refusal(40);
-}
-
-#[test]
-fn small_drafts_become_what_is_expected() {
-    let mut converter = Converter::new();
-    check_small_drafts(|draft, area| converter.convert(draft, area));
-}
-
-#[test]
-fn results_mean_what_the_drafts_mean() {
-    let mut converter = Converter::new();
-    check_random_drafts(|draft, area| converter.convert(draft, area));
-}
-
-#[test]
-fn results_of_4096_bytes_and_more() {
-    let mut converter = Converter::new();
-    check_bounds(|draft, area| converter.convert(draft, area));
-}
-
-#[test]
-fn rows_that_very_many_ways_lead_to_are_soon_converted() {
-    let mut converter = Converter::new();
-    on_stack(STACK, move || check_towers(|draft, area| converter.convert(draft, area)));
-}
-
-#[test]
-fn verdicts_are_true_of_the_drafts() {
-    let (mut converter, mut lending) = (Converter::new(), Lending::new());
-    check_draft_worlds(|draft, area| converter.convert(draft, area), |file, lent| lending.answer(file, lent));
 }

@@ -1,10 +1,10 @@
 //! A hosting desk that begins with nothing lent and enlarges what was short, by `Sizes::enlarged` (document 02, \[4\]) or
 //! by `Space::fit_enlarging`.
 
-use compare::long_orders::{branches, signals};
-use compare::tally::Tally;
-use compare::wanted_lists::random_question;
-use compare::wide::{wide, wide_kinds, wide_with_inclusions};
+use compare::counts::Tally;
+use compare::files::long_runs::{branches, signals};
+use compare::files::wanted::random_question;
+use compare::files::wide::{wide, wide_kinds, wide_with_inclusions};
 use compare::{cases, random_file, Prng, Shape};
 use gumbyra::{Refusal, Sizes, Space, Verdict, MOST_RECORDS};
 

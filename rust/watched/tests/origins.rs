@@ -1,10 +1,10 @@
 //! What the rows of a converted draft stand for (`gumbyra_table::origins`), on what the converter writes: by the
 //! meaning of the rows in random worlds, and not told of any other bytes.
 
-use compare::conversions::random_world;
-use compare::drafts::tower;
-use compare::inclusions::with_inclusions;
-use compare::tally::Tally;
+use compare::checks::drafts::results::random_world;
+use compare::counts::Tally;
+use compare::files::drafts::tower;
+use compare::files::inclusions::with_inclusions;
 use compare::{draft_cases, random_draft, Prng, Shape};
 use gumbyra::{convert, LONGEST_FILE};
 use gumbyra_table::{origins, Origin, Row, Table};

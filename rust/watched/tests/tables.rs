@@ -2,12 +2,13 @@
 //! wrong, and what they write. The engine is asked with nothing lent: then a file that passes every check gets refusal
 //! 13, and a draft 12.
 
-use compare::cases::{catalogue_cases, wanted_cases};
-use compare::catalogue_files::random_question as random_kinds;
-use compare::inclusions::{with_inclusions, Parts, INCLUSION};
-use compare::misplaced_inclusions::with_misplaced;
-use compare::tally::{cases_of_checks, Tally};
-use compare::wanted_lists::random_question as random_wanted;
+use compare::counts::{cases_of_checks, Tally};
+use compare::files::inclusions::with_inclusions;
+use compare::files::kinds::random_question as random_kinds;
+use compare::files::misplaced::with_misplaced;
+use compare::files::parts::{Parts, INCLUSION};
+use compare::files::wanted::random_question as random_wanted;
+use compare::protocol::cases::{catalogue_cases, wanted_cases};
 use compare::{cases, damage, draft_cases, encode, random_bytes, random_draft, random_file, Prng, Shape};
 use gumbyra::{convert, Refusal, Sizes, Space};
 use gumbyra_table::{Fault, Place, Row, Table};

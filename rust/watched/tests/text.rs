@@ -1,11 +1,11 @@
 //! The text of a file from the engine: that part of the file which the plain program says, uncopied. Of a file with its own wanted row,
 //! then of one with a list of wanted rows in its place.
 
-use compare::cases::wanted_cases;
+use compare::counts::{cases_of_checks, Tally};
+use compare::files::inclusions::with_inclusions;
+use compare::files::wanted::random_question;
 use compare::files::{encode, Row};
-use compare::inclusions::with_inclusions;
-use compare::tally::{cases_of_checks, Tally};
-use compare::wanted_lists::random_question;
+use compare::protocol::cases::wanted_cases;
 use compare::{cases, damage, random_bytes, random_file, Prng, Shape};
 use gumbyra::{text, text_wanted};
 use plain::RuleFile;

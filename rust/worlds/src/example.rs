@@ -2,12 +2,8 @@
 //! lists, the links, and the world that is read from both.
 
 use crate::ontology::{Concept, Ontology};
+use crate::sizes::{ELEMENT, LINK};
 use crate::world::{Truth, World};
-
-/// Bytes of an element's record: the row set, row k as bit k, low byte first.
-const ELEMENT: usize = 8;
-/// Bytes of a link's record: from, role code, to, two bytes each, low byte first.
-const LINK: usize = 6;
 
 /// The records of an example.
 pub struct Example<'a> {

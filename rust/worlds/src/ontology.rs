@@ -1,5 +1,7 @@
 //! The rows, the TBox and the wanted concept of a rule file or a draft.
 
+use crate::sizes::{CODES, LONGEST_FILE, MOST_ROWS, MOST_RULES, NAMES};
+
 /// A role read forwards or, with `inverse`, backwards.
 #[derive(Clone, Copy, Debug, PartialEq, Eq)]
 pub struct RoleUse {
@@ -70,14 +72,14 @@ impl Ontology {
     }
 
     fn decode_kinds(file: &[u8], kinds: &[u8], wanted: Option<&[u8]>) -> Option<Ontology> {
-        if file.len() > 4096 {
+        if file.len() > LONGEST_FILE {
             return None;
         }
         let (body, trailer) = file.split_last_chunk::<8>()?;
         let &[low, high, rows, rules, own, b'F', b'I', b'T'] = trailer else { return None };
         let (rows, rules) = (usize::from(rows), usize::from(rules));
         let table = body.get(usize::from(low) + 256 * usize::from(high)..)?;
-        if rows == 0 || rows > 64 || rules > 64 || table.len() != 4 * rows + rules {
+        if rows == 0 || rows > MOST_ROWS || rules > MOST_RULES || table.len() != 4 * rows + rules {
             return None;
         }
         let (table, tbox) = table.split_at(4 * rows);
@@ -92,7 +94,7 @@ impl Ontology {
     pub fn kinds(&self) -> Vec<usize> {
         let has_both =
             |&name: &usize| [Concept::Name(name), Concept::NotName(name)].iter().all(|c| self.rows.contains(c));
-        (0..64).filter(has_both).collect()
+        (0..NAMES).filter(has_both).collect()
     }
 
     /// The same rules, and wanted is an `a` that isn't a `b`. This is said in two rows of its own, whichever the file has.
@@ -141,13 +143,13 @@ fn decode_row(kind: u8, role: u8, left: u8, right: u8, lower: &[Concept]) -> Opt
     let (l, r) = (usize::from(left), usize::from(right));
     let [of_left, of_right] = [l, r].map(|row| speaks_of_elements(lower, row));
     let concept = match kind {
-        1 if l < 64 => Concept::Name(l),
-        2 if l < 64 => Concept::NotName(l),
+        1 if l < NAMES => Concept::Name(l),
+        2 if l < NAMES => Concept::NotName(l),
         3 if of_left && of_right => Concept::Both(l, r),
         4 if of_left && of_right => Concept::Either(l, r),
-        5 if of_left && role < 32 => Concept::All(along, l),
-        6 if of_left && role < 32 => Concept::Some(along, l),
-        7 if role < 32 && left < 32 => Concept::Narrower(along, RoleUse::of_code(left)),
+        5 if of_left && role < CODES => Concept::All(along, l),
+        6 if of_left && role < CODES => Concept::Some(along, l),
+        7 if role < CODES && left < CODES => Concept::Narrower(along, RoleUse::of_code(left)),
         8 if of_left => Concept::Not(l),
         9 if of_left && of_right => Concept::IfThen(l, r),
         _ => return None,

@@ -4,15 +4,14 @@
 //! settled with it, so every completion in which open pairs belong to no role obeys these rows.
 
 use crate::ontology::{Concept, Ontology, RoleUse};
-use crate::world::{World, ROLES};
+use crate::sizes::{NAMES, ROLES};
+use crate::world::World;
 
 /// A set of elements.
 type Elements = u8;
 
 /// The most elements of a partial world.
 pub const MOST_ELEMENTS: usize = 8;
-
-const NAMES: usize = 64;
 
 /// One thing to settle: does the name hold there, does the pair belong to the role?
 #[derive(Clone, Copy, Debug, PartialEq, Eq)]

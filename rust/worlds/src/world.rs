@@ -1,9 +1,7 @@
 //! Finite worlds (interpretations), when a row holds at an element, and when a world obeys rules and kind 7 rows.
 
 use crate::ontology::{Concept, Ontology, RoleUse};
-
-/// How many roles there are.
-pub const ROLES: usize = 16;
+use crate::sizes::ROLES;
 
 /// Elements 0 to n - 1; where each name holds, and which pairs belong to each role.
 #[derive(Clone, Debug, PartialEq, Eq)]

@@ -1,7 +1,7 @@
 //! The order program, in C and in Python: the same files, the same answers.
 
 use crate::tools::{built, compiled, example, interface, library, printed, repository, run, scratch, written};
-use compare::long_orders::branches;
+use compare::files::long_runs::branches;
 use gumbyra::{convert, Row, Table, LONGEST_FILE};
 use std::fs;
 use std::path::{Path, PathBuf};

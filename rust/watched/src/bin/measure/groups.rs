@@ -1,10 +1,11 @@
 //! The files and drafts that are timed, in their groups. All files get a verdict in the areas of their group, each entry of a catalogue page
 //! is decided there, and all drafts are converted.
 
-use compare::catalogue_files::{chain, most_names, random_kinds, LONGEST_CHAIN};
-use compare::chains::{alternatives, delay_line, shift_register, Delay, THOUSAND_STATES};
-use compare::inclusions::{long_chain, Parts};
-use compare::wide::wide;
+use compare::files::chains::{alternatives, delay_line, shift_register, Delay, THOUSAND_STATES};
+use compare::files::inclusions::long_chain;
+use compare::files::kinds::{chain, most_names, random_kinds, LONGEST_CHAIN};
+use compare::files::parts::Parts;
+use compare::files::wide::wide;
 use compare::{random_draft, random_file, Prng, Shape};
 use plain::{answer, answer_wanting, Answer, Lent, Page, Used};
 use std::ops::Range;

@@ -1,6 +1,0 @@
-//! Random small files: the plain engine against the meaning of ALCI.
-
-#[test]
-fn verdicts_agree_with_small_worlds() {
-    compare::small_worlds::check_random_files(plain::answer);
-}
