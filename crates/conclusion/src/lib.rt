@@ -13,20 +13,20 @@ ghost use Rattle.run.specs.Run.{areasOf};
 ghost use Rattle.problem.specs.Decoded.{Decoded};
 ghost use Rattle.walk.specs.Contracts.{nodesEdges, WalkAsks};
 ghost use Rattle.conclusion.specs.Contracts.{roomIn, SmallSizes, goodRoot, VerdictGives, ShowGives, DecideGives};
-use evaluation::LINK_BYTES;
 use graph::Area;
 use graph::Counts;
 use graph::Step;
 use marks::Sizes;
-use records::ALTERNATIVE_BYTES;
-use records::EDGE_BYTES;
-use records::NODE_BYTES;
 use records::Status;
 use records::load_node;
 use records::room;
 use rounds::run;
-use rowset::SET_BYTES;
 use walk::walk;
+use words::sizes::ALTERNATIVE_BYTES;
+use words::sizes::EDGE_BYTES;
+use words::sizes::LINK_BYTES;
+use words::sizes::NODE_BYTES;
+use words::sizes::SET_BYTES;
 use writing::write_example;
 
 // A record found no place in an area; "cannot" or "can", with the records used.

@@ -16,11 +16,8 @@ use chains::Places;
 use chains::append;
 use chains::begin;
 use chains::follow;
-use records::ALTERNATIVE_BYTES;
-use records::EDGE_BYTES;
 use records::Edge;
 use records::Link;
-use records::NODE_BYTES;
 use records::Node;
 use records::Status;
 use records::alternative_set;
@@ -43,9 +40,12 @@ use records::store_edge;
 use records::store_link;
 use records::store_node;
 use records::store_status;
-use rowset::SET_BYTES;
-use rowset::SET_WORDS;
 use rowset::same;
+use words::sizes::ALTERNATIVE_BYTES;
+use words::sizes::EDGE_BYTES;
+use words::sizes::NODE_BYTES;
+use words::sizes::SET_BYTES;
+use words::sizes::SET_WORDS;
 
 // How many records each area has in use, at most 4,096 of each. In 2 bytes each, since nearly every function takes counts and answers with counts.
 pub struct Counts {

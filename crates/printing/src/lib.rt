@@ -18,10 +18,8 @@ use answers::CANNOT;
 use answers::NO_ALTERNATIVE;
 use answers::NO_NODE;
 use answers::TOO_LONG;
-use rowset::SET_BYTES;
-
-// The bytes of a link. An element is a set.
-const LINK: usize = 6;
+use words::sizes::LINK_BYTES;
+use words::sizes::SET_BYTES;
 
 // Writes one byte.
 fn put(out: &mut [u8], at: usize, byte: u8) -> usize
@@ -173,7 +171,7 @@ fn link_line(out: &mut [u8], at: usize, links: &[u8], i: u32) -> usize
     requires { ⌜ Countable at 35 ⌝ }
     ensures { λ r. ⌜ Wrote 35 (Printed.linkLine (linkAt (now (links .entry)) i)) (now (out .entry)) at (now (out .exit)) r ⌝ }
 {
-    let place = LINK * (i as usize);
+    let place = LINK_BYTES * (i as usize);
     let from = half_of(links, place) as u32;
     let role = half_of(links, place + 2) as u32;
     let to = half_of(links, place + 4) as u32;

@@ -17,7 +17,7 @@ use crate::UNIVERSALS;
 use crate::USED;
 use crate::inverse;
 use crate::word_if;
-use rowset::SET_WORDS;
+use words::sizes::SET_WORDS;
 
 // Each role is narrower than itself.
 pub fn put_sames(out: &mut [u64])

@@ -30,7 +30,7 @@ use records::Node;
 use records::Status;
 use records::is_live;
 use records::load_node;
-use rowset::SET_BYTES;
+use words::sizes::SET_BYTES;
 
 // Adds a node with the set s, and the edge to it.
 pub fn add_child(

@@ -24,8 +24,6 @@ use records::Status;
 use records::alternative_set;
 use records::load_node;
 use records::node_set;
-use rowset::SET_BYTES;
-use rowset::SET_WORDS;
 use rowset::copy;
 use rowset::join;
 use settests::clash;
@@ -37,6 +35,8 @@ use steps::add_lapsed;
 use steps::judge_branch;
 use steps::judge_state;
 use steps::link_special;
+use words::sizes::SET_BYTES;
+use words::sizes::SET_WORDS;
 
 // A node with this place and status, and no link; with any set.
 fn below(p: u16, role: u8, status: Status) -> Node
