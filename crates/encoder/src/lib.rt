@@ -7,9 +7,7 @@ ghost use lib.ListN.{length};
 ghost use lib.Seq.{sets};
 ghost use Rattle.words.specs.Words.{overwrite};
 ghost use Rattle.encoder.specs.Encoder.{wordBytes, wordsBytes, trailerBytes, partsBytes, RowsAsk, TrailerAsks, FileAsks};
-
-// The bytes of a row.
-const ROW: usize = 4;
+use rulefile::ROW;
 
 // Writes some bytes from place `at` on.
 fn copy(area: &mut [u8], at: usize, bytes: &[u8])
