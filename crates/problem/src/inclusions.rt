@@ -9,7 +9,6 @@ ghost use Rattle.problem.specs.Layout.{room};
 ghost use Rattle.problem.specs.Decoded.{countOf, RowsDecoded};
 ghost use Rattle.problem.specs.Chaining.{Sames, JoinsWord, JoinsUniversals, JoinsNarrows, InUse, Chains, RolesAt, IncludesRow, Included};
 use crate::COUNT;
-use crate::INCLUSION;
 use crate::NARROWS;
 use crate::ROLES;
 use crate::ROWS;
@@ -17,6 +16,7 @@ use crate::UNIVERSALS;
 use crate::USED;
 use crate::inverse;
 use crate::word_if;
+use decoding::kinds::INCLUSION;
 use words::sizes::SET_WORDS;
 
 // Each role is narrower than itself.
