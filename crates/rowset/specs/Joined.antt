@@ -3,7 +3,7 @@ use mathlib.Core.Path.{_≡_}
 use mathlib.Core.Bool.{Bool, true, false}
 use mathlib.Core.List.{List}
 use Prim.Native.Nat.{ℕ, zero, suc, _+_, _*_, _^_, _≤_, _<_}
-use lib.ListN.{getD}
+use lib.ListN.{length, getD}
 use Rattle.concepts.specs.RowSet.{RowSet, mem, insert}
 use Rattle.words.specs.Words.{leAt, putLe}
 use Rattle.rowset.specs.declared.Next.{Next}
@@ -42,6 +42,12 @@ maskAt ws at n = joined 64 (λ (j : ℕ). getD ws (at + j) 0) n
 unfoldable pub putWords : List ℕ → ℕ → (ℕ → ℕ) → ℕ → List ℕ
 putWords b at f zero = b
 putWords b at f (suc n) = putWords (putLe b at 8 (f 0)) (at + 8) (λ (j : ℕ). f (suc j)) n
+
+-- of n words that are to be written over those of b, the first j are
+pub record WordsPut (f : ℕ → ℕ) (b : List ℕ) (at n : ℕ) (c : List ℕ) (j : ℕ) : Type 0 where
+  pub few : j ≤ n
+  pub size : length c ≡ length b
+  pub is : c ≡ putWords b at f j
 
 -- ---- what contracts say of a set at a place, for any number of words
 
