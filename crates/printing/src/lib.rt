@@ -109,7 +109,8 @@ fn line_of_two(out: &mut [u8], at: usize, w: &[u8], a: u32, b: u32) -> usize
 // Writes a line of a word and three numbers.
 fn line_of_three(out: &mut [u8], at: usize, w: &[u8], a: u32, b: u32, c: u32) -> usize
     requires { ⌜ Countable at (length (now w) + 34) ⌝ }
-    ensures { λ r. ⌜ Wrote (length (now (w .entry)) + 34) (Printed.line (now (w .entry)) (a ∷ b ∷ c ∷ [])) (now (out .entry)) at (now (out .exit)) r ⌝ }
+    ensures { λ r. ⌜ Wrote (length (now (w .entry)) + 34) (Printed.line (now (w .entry)) (a ∷ b ∷ c ∷ []))
+        (now (out .entry)) at (now (out .exit)) r ⌝ }
 {
     let first = word(out, at, w);
     let second = number(out, first, a);
