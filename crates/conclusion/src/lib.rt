@@ -1,6 +1,7 @@
 // What a run decides (01, The procedure; The example; Refusals; 02, [4]): the verdict, and with "can" the example in its areas.
 //
-// In order: a verdict; a decision; how many records are lent; whether an example fits; whether a status of the root says "can"; the verdict of a run, with no example; the example; the decision.
+// In order: a verdict; a decision; how many records are lent; whether an example fits; whether a status of the root says "can";
+// the verdict of a run, with no example; the example; the decision.
 ghost use mathlib.Core.Path.{_≡_};
 ghost use mathlib.Core.Bool.{_&&_};
 ghost use Prim.Native.Nat.{_*_};
@@ -36,7 +37,8 @@ pub enum Verdict {
     Can(Counts),
 }
 
-// A record found no place in an area, where so many count as lent; "cannot", with the records used; "can", with these and the example's sizes; "can", and an example area is too short.
+// A record found no place in an area, where so many count as lent; "cannot", with the records used; "can", with these and the example's sizes;
+// "can", and an example area is too short.
 pub enum Decision {
     Short(Area, usize),
     Cannot(Counts),
@@ -131,7 +133,8 @@ pub fn decide(
     links: &mut [u8],
 ) -> Decision
     requires { ⌜ Decoded (now problem) ⌝ }
-    ensures { λ r. ⌜ DecideGives (now (problem .entry)) (areasOf (now (nodes .entry)) (now (edges .entry)) (now (alternatives .entry)) (now (elements .entry)) (now (links .entry)))
+    ensures { λ r. ⌜ DecideGives (now (problem .entry))
+        (areasOf (now (nodes .entry)) (now (edges .entry)) (now (alternatives .entry)) (now (elements .entry)) (now (links .entry)))
         r (now (elements .exit)) (now (links .exit)) ⌝ }
 {
     match verdict_of(problem, nodes, edges, alternatives) {

@@ -47,7 +47,8 @@ fn write_rows(area: &mut [u8], at: usize, written: &[u32], count: usize)
     }
 }
 
-// Writes the trailer: "place of the first row (2 bytes, low byte first), number of rows, number of rules, number of the wanted row (1 byte each), then hexadecimal 46 49 54".
+// Writes the trailer: "place of the first row (2 bytes, low byte first), number of rows, number of rules,
+// number of the wanted row (1 byte each), then hexadecimal 46 49 54".
 fn write_trailer(area: &mut [u8], at: usize, first: usize, count: usize, rules: usize, wanted: u8)
     requires { ⌜ TrailerAsks (now area) at first count rules ⌝ }
     ensures { λ _. ⌜ now (area .exit) ≡ sets (now (area .entry)) at (trailerBytes first count rules wanted) ⌝ }

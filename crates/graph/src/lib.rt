@@ -184,7 +184,8 @@ pub fn add_node(nodes: &mut [u8], c: Counts, s: &[u8; SET_BYTES], n: Node) -> St
 // Adds an edge at the end.
 pub fn add_edge(nodes: &mut [u8], edges: &mut [u8], c: Counts, from: u16, to: u16) -> Step
     requires { ⌜ (from < c .nodes) × (to < c .nodes) × (c .nodes ≤ roomOf nodeSize (now nodes)) ⌝ }
-    ensures { λ r. ⌜ Graphs.AddsEdge (now (nodes .entry)) (now (nodes .exit)) (now (edges .entry)) (now (edges .exit)) c r (λ k g. addEdge k from to g) ⌝ }
+    ensures { λ r. ⌜ Graphs.AddsEdge (now (nodes .entry)) (now (nodes .exit)) (now (edges .entry)) (now (edges .exit)) c r
+        (λ k g. addEdge k from to g) ⌝ }
 {
     let i = c.edges as usize;
     if i < room(edges.len(), EDGE_BYTES) {

@@ -289,7 +289,8 @@ pub fn store_status(nodes: &mut [u8], x: usize, status: Status)
 // Gives node x of the area a link.
 pub fn store_link(nodes: &mut [u8], x: usize, link: Link)
     requires { ⌜ Fits nodeSize (now nodes) x ⌝ }
-    ensures { λ _. ⌜ Records.NodeWritten (now (nodes .entry)) (now (nodes .exit)) x (withLink (Codes.linkOf link) (Records.nodeIn (now (nodes .entry)) x)) ⌝ }
+    ensures { λ _. ⌜ Records.NodeWritten (now (nodes .entry)) (now (nodes .exit)) x
+        (withLink (Codes.linkOf link) (Records.nodeIn (now (nodes .entry)) x)) ⌝ }
 {
     let at = NODE_BYTES * x;
     put1(nodes, at + LINK_KIND_AT, link_kind(link));

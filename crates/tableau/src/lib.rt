@@ -165,7 +165,8 @@ fn judge_linked(
 // The set of alternative i joined to the set of node y, in an array that is lent.
 fn join_alternative(nodes: &[u8], y: u16, alternatives: &[u8], i: usize, out: &mut [u8; SET_BYTES])
     requires { ⌜ (nodeSize * y + setSize ≤ length (now nodes)) × (i < mostRecords) × (alternativeSize * i + setSize ≤ length (now alternatives)) ⌝ }
-    ensures { λ _. ⌜ setOf (now (out .exit)) 0 ≡ union (setOf (now (alternatives .entry)) (alternativeSize * i)) (setOf (now (nodes .entry)) (nodeSize * y)) ⌝ }
+    ensures { λ _. ⌜ setOf (now (out .exit)) 0
+        ≡ union (setOf (now (alternatives .entry)) (alternativeSize * i)) (setOf (now (nodes .entry)) (nodeSize * y)) ⌝ }
 {
     copy(out, 0, alternatives, alternative_set(i), SET_WORDS);
     join(out, 0, nodes, node_set(y), SET_WORDS);

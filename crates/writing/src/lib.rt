@@ -27,7 +27,8 @@ use words::sizes::SET_WORDS;
 // Writes the names of each element where its rows will stand: a name holds "where the procedure placed its kind 1 row in the state's set".
 fn write_names(problem: &[u64], nodes: &[u8], count: usize, elements: &mut [u8])
     requires { ⌜ Decoded (now problem) × Writing.ElementsAsk (now nodes) count (now elements) ⌝ }
-    ensures { λ _. ⌜ Holding (now (elements .entry)) count (Writing.namesIn (tableOf (now (problem .entry))) (now (nodes .entry))) (now (elements .exit)) ⌝ }
+    ensures { λ _. ⌜ Holding (now (elements .entry)) count
+        (Writing.namesIn (tableOf (now (problem .entry))) (now (nodes .entry))) (now (elements .exit)) ⌝ }
 {
     let mut d = 0;
     while d < count {
