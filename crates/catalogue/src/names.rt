@@ -8,6 +8,8 @@ ghost use Rattle.problem.specs.Decoded.{tableOf, Decoded};
 ghost use Rattle.subsumption.specs.Names.{names};
 ghost use Rattle.catalogue.specs.Contracts.{PlacesFrom, namesBelow, Lists, NameAsks};
 use crate::Listed;
+use decoding::kinds::ATOMIC;
+use decoding::kinds::NEGATED;
 use problem::kind_at;
 use problem::left_at;
 use problem::row_count;
@@ -15,13 +17,8 @@ use problem::row_count;
 // "name 0 to 63"
 const NAMES: usize = 64;
 
-// The kinds of a name's row and of its opposite.
-const NAME: usize = 1;
-
-const NOT_NAME: usize = 2;
-
 // A row is put down for its name, if it is of the kind.
-fn put_place(problem: &[u64], kind: usize, k: usize, places: &mut [u8])
+fn put_place(problem: &[u64], kind: u8, k: usize, places: &mut [u8])
     requires { ⌜ Decoded (now problem) × (kind < 3) × PlacesFrom kind (tableOf (now problem)) (k + 1) (now places) ⌝ }
     ensures { λ _. ⌜ PlacesFrom kind (tableOf (now (problem .entry))) k (now (places .exit)) ⌝ }
 {
@@ -31,7 +28,7 @@ fn put_place(problem: &[u64], kind: usize, k: usize, places: &mut [u8])
 }
 
 // At each name, its row of a kind; the number of rows if there is none. From the last row to the first, so that the first one stays.
-fn places(problem: &[u64], kind: usize) -> [u8; NAMES]
+fn places(problem: &[u64], kind: u8) -> [u8; NAMES]
     requires { ⌜ Decoded (now problem) × (kind < 3) ⌝ }
     ensures { λ r. ⌜ PlacesFrom kind (tableOf (now (problem .entry))) 0 r ⌝ }
 {
@@ -84,8 +81,8 @@ pub fn listed(problem: &[u64]) -> Listed
     requires { ⌜ Decoded (now problem) ⌝ }
     ensures { λ r. ⌜ Lists (tableOf (now (problem .entry))) (names (tableOf (now (problem .entry)))) r ⌝ }
 {
-    let positives = places(problem, NAME);
-    let negatives = places(problem, NOT_NAME);
+    let positives = places(problem, ATOMIC);
+    let negatives = places(problem, NEGATED);
     let mut list = Listed {
         names: 0,
         count: 0,

@@ -8,9 +8,9 @@ ghost use Rattle.words.specs.Sizes.{nodeSize};
 ghost use Rattle.records.specs.Areas.{roomOf, Fits};
 ghost use Rattle.chains.specs.Chain.{following};
 ghost use Rattle.chains.specs.Places as P;
-use records::NODE_BYTES;
 use words::get2;
 use words::put2;
+use words::sizes::NODE_BYTES;
 
 // Where a chain keeps its numbers of 2 bytes: in a record of `size` bytes the node that it belongs to (`key`) and the next record of that node,
 // in the node's record the first and, behind it, the last.

@@ -1,6 +1,7 @@
 // What a run decides (01, The procedure; The example; Refusals; 02, [4]): the verdict, and with "can" the example in its areas.
 //
-// In order: a verdict; a decision; how many records are lent; whether an example fits; whether a status of the root says "can"; the verdict of a run, with no example; the example; the decision.
+// In order: a verdict; a decision; how many records are lent; whether an example fits; whether a status of the root says "can";
+// the verdict of a run, with no example; the example; the decision.
 ghost use mathlib.Core.Path.{_≡_};
 ghost use mathlib.Core.Bool.{_&&_};
 ghost use Prim.Native.Nat.{_*_};
@@ -13,20 +14,20 @@ ghost use Rattle.run.specs.Run.{roomIn, areasOf};
 ghost use Rattle.problem.specs.Decoded.{Decoded};
 ghost use Rattle.walk.specs.Contracts.{nodesEdges, WalkAsks};
 ghost use Rattle.conclusion.specs.Contracts.{SmallSizes, goodRoot, VerdictGives, ShowGives, DecideGives};
-use evaluation::LINK_BYTES;
 use graph::Area;
 use graph::Counts;
 use graph::Step;
 use marks::Sizes;
-use records::ALTERNATIVE_BYTES;
-use records::EDGE_BYTES;
-use records::NODE_BYTES;
 use records::Status;
 use records::room;
 use records::status_of;
 use rounds::run;
-use rowset::SET_BYTES;
 use walk::walk;
+use words::sizes::ALTERNATIVE_BYTES;
+use words::sizes::EDGE_BYTES;
+use words::sizes::LINK_BYTES;
+use words::sizes::NODE_BYTES;
+use words::sizes::SET_BYTES;
 use writing::write_example;
 
 // A record found no place in an area; "cannot" or "can", with the records used.
@@ -36,7 +37,8 @@ pub enum Verdict {
     Can(Counts),
 }
 
-// A record found no place in an area, where so many count as lent; "cannot", with the records used; "can", with these and the example's sizes; "can", and an example area is too short.
+// A record found no place in an area, where so many count as lent; "cannot", with the records used; "can", with these and the example's sizes;
+// "can", and an example area is too short.
 pub enum Decision {
     Short(Area, usize),
     Cannot(Counts),
@@ -130,7 +132,8 @@ pub fn decide(
     links: &mut [u8],
 ) -> Decision
     requires { ⌜ Decoded (now problem) ⌝ }
-    ensures { λ r. ⌜ DecideGives (now (problem .entry)) (areasOf (now (nodes .entry)) (now (edges .entry)) (now (alternatives .entry)) (now (elements .entry)) (now (links .entry)))
+    ensures { λ r. ⌜ DecideGives (now (problem .entry))
+        (areasOf (now (nodes .entry)) (now (edges .entry)) (now (alternatives .entry)) (now (elements .entry)) (now (links .entry)))
         r (now (elements .exit)) (now (links .exit)) ⌝ }
 {
     match verdict_of(problem, nodes, edges, alternatives) {

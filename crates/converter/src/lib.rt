@@ -13,10 +13,13 @@ use normalize::NO_PLACE;
 use normalize::SLOTS;
 use normalize::keep_inclusions;
 use normalize::put_list;
+use rulefile::LONGEST;
 use rulefile::Layout;
 use rulefile::MOST_ROWS;
 use rulefile::MOST_RULES;
 use rulefile::Outcome;
+use rulefile::ROW;
+use rulefile::TRAILER;
 use rulefile::read;
 use rulefile::rules_of;
 use rulefile::wanted_of;
@@ -32,13 +35,6 @@ pub struct Conversion {
 
 // "more than 64 rows, more than 4,096 bytes or more than the area"
 const TOO_LARGE: u32 = 12;
-
-const LONGEST: usize = 4096;
-
-// The bytes of a row and of the trailer.
-const ROW: usize = 4;
-
-const TRAILER: usize = 8;
 
 // A refusal.
 fn refused(n: u32) -> Conversion

@@ -7,9 +7,7 @@ ghost use lib.ListN.{length};
 ghost use lib.Seq.{sets};
 ghost use Rattle.words.specs.Words.{overwrite};
 ghost use Rattle.encoder.specs.Encoder.{wordBytes, wordsBytes, trailerBytes, partsBytes, RowsAsk, TrailerAsks, FileAsks};
-
-// The bytes of a row.
-const ROW: usize = 4;
+use rulefile::ROW;
 
 // Writes some bytes from place `at` on.
 fn copy(area: &mut [u8], at: usize, bytes: &[u8])
@@ -49,7 +47,8 @@ fn write_rows(area: &mut [u8], at: usize, written: &[u32], count: usize)
     }
 }
 
-// Writes the trailer: "place of the first row (2 bytes, low byte first), number of rows, number of rules, number of the wanted row (1 byte each), then hexadecimal 46 49 54".
+// Writes the trailer: "place of the first row (2 bytes, low byte first), number of rows, number of rules,
+// number of the wanted row (1 byte each), then hexadecimal 46 49 54".
 fn write_trailer(area: &mut [u8], at: usize, first: usize, count: usize, rules: usize, wanted: u8)
     requires { ⌜ TrailerAsks (now area) at first count rules ⌝ }
     ensures { λ _. ⌜ now (area .exit) ≡ sets (now (area .entry)) at (trailerBytes first count rules wanted) ⌝ }

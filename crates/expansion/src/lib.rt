@@ -17,8 +17,6 @@ use records::is_open;
 use records::load_node;
 use records::node_set;
 use records::status_of;
-use rowset::SET_BYTES;
-use rowset::SET_WORDS;
 use rowset::copy;
 use rowset::insert;
 use rowset::join_mask;
@@ -31,6 +29,8 @@ use settests::successor;
 use tableau::judge;
 use tableau::put;
 use updates::update_parents;
+use words::sizes::SET_BYTES;
+use words::sizes::SET_WORDS;
 
 // "A role that no row has, turned round or not".
 const NO_ROLE: u8 = 32;

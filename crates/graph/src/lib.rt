@@ -16,11 +16,8 @@ use chains::Places;
 use chains::append;
 use chains::begin;
 use chains::follow;
-use records::ALTERNATIVE_BYTES;
-use records::EDGE_BYTES;
 use records::Edge;
 use records::Link;
-use records::NODE_BYTES;
 use records::Node;
 use records::Status;
 use records::alternative_set;
@@ -43,9 +40,12 @@ use records::store_edge;
 use records::store_link;
 use records::store_node;
 use records::store_status;
-use rowset::SET_BYTES;
-use rowset::SET_WORDS;
 use rowset::same;
+use words::sizes::ALTERNATIVE_BYTES;
+use words::sizes::EDGE_BYTES;
+use words::sizes::NODE_BYTES;
+use words::sizes::SET_BYTES;
+use words::sizes::SET_WORDS;
 
 // How many records each area has in use, at most 4,096 of each. In 2 bytes each, since nearly every function takes counts and answers with counts.
 pub struct Counts {
@@ -184,7 +184,8 @@ pub fn add_node(nodes: &mut [u8], c: Counts, s: &[u8; SET_BYTES], n: Node) -> St
 // Adds an edge at the end.
 pub fn add_edge(nodes: &mut [u8], edges: &mut [u8], c: Counts, from: u16, to: u16) -> Step
     requires { ⌜ (from < c .nodes) × (to < c .nodes) × (c .nodes ≤ roomOf nodeSize (now nodes)) ⌝ }
-    ensures { λ r. ⌜ Graphs.AddsEdge (now (nodes .entry)) (now (nodes .exit)) (now (edges .entry)) (now (edges .exit)) c r (λ k g. addEdge k from to g) ⌝ }
+    ensures { λ r. ⌜ Graphs.AddsEdge (now (nodes .entry)) (now (nodes .exit)) (now (edges .entry)) (now (edges .exit)) c r
+        (λ k g. addEdge k from to g) ⌝ }
 {
     let i = c.edges as usize;
     if i < room(edges.len(), EDGE_BYTES) {

@@ -8,8 +8,6 @@ ghost use Rattle.records.specs.Areas.{roomOf, Fits};
 ghost use Rattle.marks.specs.Marks.{numberIn, stateIn, roleLinkIn, roleLinkOf};
 ghost use Rattle.marks.specs.Marked.{NumberStored, StateStored, LinkStored, NumbersCleared};
 use graph::Counts;
-use records::EDGE_BYTES;
-use records::NODE_BYTES;
 use records::layout::MARK_FROM_AT;
 use records::layout::MARK_ROLE_AT;
 use records::layout::MARK_TO_AT;
@@ -17,6 +15,8 @@ use records::layout::NUMBER_AT;
 use records::layout::PLACED_AT;
 use words::get2;
 use words::put2;
+use words::sizes::EDGE_BYTES;
+use words::sizes::NODE_BYTES;
 
 // How many elements and links an example has.
 pub struct Sizes {

@@ -11,6 +11,15 @@ ghost use Rattle.rulefile.specs.Format.{rowCount, mostRows};
 ghost use Rattle.normalize.specs.Words.{Finds};
 ghost use Rattle.normalize.specs.Shapes.{tableOf, writtenKind, ShapeAt, slots, slotOf};
 ghost use Rattle.normalize.specs.Contracts.{Draft, ShareAsks, SharesRow, PutAsks, PutGives, ListAsks, ListGives, KeepAsks, Kept, KeepGives};
+use decoding::kinds::ATOMIC;
+use decoding::kinds::CONJ;
+use decoding::kinds::DISJ;
+use decoding::kinds::EXIST;
+use decoding::kinds::IMPL;
+use decoding::kinds::INCLUSION;
+use decoding::kinds::NEG;
+use decoding::kinds::NEGATED;
+use decoding::kinds::UNIV;
 use rulefile::MOST_ROWS;
 use rulefile::inclusions::some_inclusion;
 use rulefile::row_byte;
@@ -42,31 +51,23 @@ pub const SLOTS: usize = 2 * MOST_ROWS;
 // No place yet.
 pub const NO_PLACE: u8 = 255;
 
-// The kind of an inclusion.
-const INCLUSION: u8 = 7;
-
-// The kinds of "both" and "either" over which "if" is written.
-const CONJ: u8 = 3;
-
-const DISJ: u8 = 4;
-
 // The kind that is written for a row of a kind, or for its opposite.
 fn written_kind(kind: u8, sign: bool) -> u8
     ensures { λ r. ⌜ r ≡ writtenKind kind sign ⌝ }
 {
     if sign {
-        if kind == 9 {
+        if kind == IMPL {
             return DISJ;
         }
         return kind;
     }
     match kind {
-        1 => 2,
-        2 => 1,
-        3 => 4,
-        4 => 3,
-        5 => 6,
-        6 => 5,
+        ATOMIC => NEGATED,
+        NEGATED => ATOMIC,
+        CONJ => DISJ,
+        DISJ => CONJ,
+        UNIV => EXIST,
+        EXIST => UNIV,
         _ => CONJ,
     }
 }
@@ -81,16 +82,16 @@ fn shape_of(draft: &[u8], k: usize, sign: bool) -> Shape
     let left = row_byte(draft, k, 2);
     let right = row_byte(draft, k, 3);
     let written = written_kind(kind, sign);
-    if kind <= 2 {
+    if kind <= NEGATED {
         return Shape::Literal(written, left);
     }
-    if (kind == 5) | (kind == 6) {
+    if (kind == UNIV) | (kind == EXIST) {
         return Shape::Unary(written, role, sign, left);
     }
-    if kind == 8 {
+    if kind == NEG {
         return Shape::Other(!sign, left);
     }
-    if kind == 9 {
+    if kind == IMPL {
         return Shape::Binary(written, !sign, left, sign, right);
     }
     Shape::Binary(written, sign, left, sign, right)

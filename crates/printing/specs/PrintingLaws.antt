@@ -37,7 +37,8 @@ wrote-nothing out at = record { stored = refl; after = omega arith; bounded = om
 
 module _ {most : ℕ} {text out : Bytes} {at : ℕ} {out′ : Bytes} {next : ℕ} (w : Wrote most text out at out′ next) where
   -- one piece right after another
-  pub wrote-then : {more : ℕ} {text′ out″ : Bytes} {next′ : ℕ} → Wrote more text′ out′ next out″ next′ → Wrote (most + more) (text ++ text′) out at out″ next′
+  pub wrote-then : {more : ℕ} {text′ out″ : Bytes} {next′ : ℕ} → Wrote more text′ out′ next out″ next′
+      → Wrote (most + more) (text ++ text′) out at out″ next′
   wrote-then {more} {text′} {out″} {next′} v = record {
     stored =
         v .stored ∙ ap (λ (b : Bytes). sets b next text′) (w .stored)
@@ -75,12 +76,15 @@ sets-cut [] (x ∷ out) = sym (take-length (x ∷ out))
 sets-cut (b ∷ text) (x ∷ out) = sets-cons b out 0 text ∙ ap (λ (o : Bytes). b ∷ o) (sets-cut text out)
 
 -- a text that has room stands at the start of the area
-pub wrote-start : {most : ℕ} {text out out′ : Bytes} {next : ℕ} → Wrote most text out 0 out′ next → next ≤ length out → take next out′ ≡ text
+pub wrote-start : {most : ℕ} {text out out′ : Bytes} {next : ℕ} → Wrote most text out 0 out′ next → next ≤ length out
+    → take next out′ ≡ text
 wrote-start {text = text} {out = out} {next = next} w h =
-    ap (take next) (w .stored ∙ sets-cut text out ∙ take-all (length out) (overwrite text out) (simp (length-append, length-drop) (omega (arith, w .after))))
+    ap (take next) (w .stored ∙ sets-cut text out
+    ∙ take-all (length out) (overwrite text out) (simp (length-append, length-drop) (omega (arith, w .after))))
     ∙ take-at text (drop (length text) out) next (omega (arith, w .after))
 
-pub wrote-whole : {n : Numbers} {elements links text out out′ : Bytes} {most next : ℕ} → Wrote most text out 0 out′ next → text ≡ printed n elements links
+pub wrote-whole : {n : Numbers} {elements links text out out′ : Bytes} {most next : ℕ} → Wrote most text out 0 out′ next
+    → text ≡ printed n elements links
     → most ≤ 64 + elementMost * n .elements + 35 * n .links → (n .verdict ≢ 1 → most ≤ 64) → Prints n elements links out out′ next
 wrote-whole {n} {elements} {links} {out = out} {most = most} w e h brief =
     let v = wrote-as w {most′ = most} e (omega arith) in
@@ -103,7 +107,8 @@ module _ {n : Numbers} {elements links out out′ : Bytes} {count : ℕ} (p : Pr
       go false e = omega (arith, p .brief (eqb-false (n .verdict) 1 e))
 
   pub prints-size : length out′ ≡ length out
-  prints-size = ap length (p .shown) ∙ length-take-le (length out) (overwrite (printed n elements links) out) (simp (length-append, length-drop) (omega arith))
+  prints-size =
+      ap length (p .shown) ∙ length-take-le (length out) (overwrite (printed n elements links) out) (simp (length-append, length-drop) (omega arith))
 
   module _ (h : count ≤ length out) where
     prints-uncut : out′ ≡ overwrite (printed n elements links) out
@@ -123,16 +128,19 @@ module _ {n : Numbers} {elements links out out′ : Bytes} {count : ℕ} (p : Pr
 
 -- ---- numbers
 
-pub wrote-digit : {out out′ : Bytes} {at next n b : ℕ} → n < 10 → b ≡ digit n → Wrote 1 (b ∷ []) out at out′ next → Wrote 10 (decimal n) out at out′ next
+pub wrote-digit : {out out′ : Bytes} {at next n b : ℕ} → n < 10 → b ≡ digit n → Wrote 1 (b ∷ []) out at out′ next
+    → Wrote 10 (decimal n) out at out′ next
 wrote-digit {n = n} h e w = wrote-as w (ap (λ (x : ℕ). x ∷ []) e ∙ sym (decimal-last n h)) (omega arith)
 
 pub wrote-digits : {out out′ out″ : Bytes} {at middle next n b : ℕ} → 10 ≤ n → n < 2 ^ 32
-    → Wrote 10 (decimal (n / 10)) out at out′ middle → b ≡ digit (n % 10) → Wrote 1 (b ∷ []) out′ middle out″ next → Wrote 10 (decimal n) out at out″ next
+    → Wrote 10 (decimal (n / 10)) out at out′ middle → b ≡ digit (n % 10) → Wrote 1 (b ∷ []) out′ middle out″ next
+    → Wrote 10 (decimal n) out at out″ next
 wrote-digits {n = n} h fits w e v =
     let t = wrote-as (wrote-then w v) {most′ = 11} (ap (λ (x : ℕ). decimal (n / 10) ++ x ∷ []) e ∙ sym (decimal-more n h)) (omega arith) in
     record { stored = t .stored; after = t .after; bounded = length-decimal-word n fits }
 
-pub wrote-byte : (x : ℕ) → x < 256 → {out out′ out″ : Bytes} {at middle next high low : ℕ} → high ≡ digit (x / 16) → Wrote 1 (high ∷ []) out at out′ middle
+pub wrote-byte : (x : ℕ) → x < 256 → {out out′ out″ : Bytes} {at middle next high low : ℕ} → high ≡ digit (x / 16)
+    → Wrote 1 (high ∷ []) out at out′ middle
     → low ≡ digit (x % 16) → Wrote 1 (low ∷ []) out′ middle out″ next → Wrote 2 (hexadecimal 2 x) out at out″ next
 wrote-byte x h eh w el v = wrote-as (wrote-then w v) (ap₂ (λ (p q : ℕ). p ∷ q ∷ []) eh el ∙ sym (hexadecimal-byte x h)) (omega arith)
 
@@ -149,7 +157,7 @@ highest-more area from n i h small =
 
 -- ---- a loop over pieces
 
-module _ (upTo : ℕ → Bytes) (each count : ℕ) where
+module _ {upTo : ℕ → Bytes} {each count : ℕ} where
   pub pieces-none : (out : Bytes) (at : ℕ) → upTo 0 ≡ [] → Pieces upTo each count out at out at 0
   pieces-none out at e = record { within = omega arith; wrote = wrote-as (wrote-nothing out at) (sym e) (omega arith) }
 
@@ -189,23 +197,27 @@ joined-three w x y z end = simp (append-assoc, append-nil)
 
 -- a word is written and then numbers and a line feed, one after another
 module _ {w out out₁ : Bytes} {at p₁ : ℕ} (word : Wrote (length w) w out at out₁ p₁) where
-  pub wrote-line-one : (a : ℕ) {out₂ out₃ : Bytes} {p₂ p₃ : ℕ} → Wrote 11 (32 ∷ decimal a) out₁ p₁ out₂ p₂ → Wrote 1 (10 ∷ []) out₂ p₂ out₃ p₃
+  pub wrote-line-one : (a : ℕ) {out₂ out₃ : Bytes} {p₂ p₃ : ℕ} → Wrote 11 (32 ∷ decimal a) out₁ p₁ out₂ p₂
+      → Wrote 1 (10 ∷ []) out₂ p₂ out₃ p₃
       → Wrote (length w + 12) (line w (a ∷ [])) out at out₃ p₃
   unfolding line spaced
   wrote-line-one a x end = wrote-as (wrote-then (wrote-then word x) end) (joined-one w (32 ∷ decimal a) (10 ∷ [])) (omega arith)
 
-  pub wrote-line-two : (a b : ℕ) {out₂ out₃ out₄ : Bytes} {p₂ p₃ p₄ : ℕ} → Wrote 11 (32 ∷ decimal a) out₁ p₁ out₂ p₂ → Wrote 11 (32 ∷ decimal b) out₂ p₂ out₃ p₃
+  pub wrote-line-two : (a b : ℕ) {out₂ out₃ out₄ : Bytes} {p₂ p₃ p₄ : ℕ} → Wrote 11 (32 ∷ decimal a) out₁ p₁ out₂ p₂
+      → Wrote 11 (32 ∷ decimal b) out₂ p₂ out₃ p₃
       → Wrote 1 (10 ∷ []) out₃ p₃ out₄ p₄ → Wrote (length w + 23) (line w (a ∷ b ∷ [])) out at out₄ p₄
   unfolding line spaced
   wrote-line-two a b x y end =
       wrote-as (wrote-then (wrote-then (wrote-then word x) y) end) (joined-two w (32 ∷ decimal a) (32 ∷ decimal b) (10 ∷ [])) (omega arith)
 
   pub wrote-line-three : (a b c : ℕ) {out₂ out₃ out₄ out₅ : Bytes} {p₂ p₃ p₄ p₅ : ℕ} → Wrote 11 (32 ∷ decimal a) out₁ p₁ out₂ p₂
-      → Wrote 11 (32 ∷ decimal b) out₂ p₂ out₃ p₃ → Wrote 11 (32 ∷ decimal c) out₃ p₃ out₄ p₄ → Wrote 1 (10 ∷ []) out₄ p₄ out₅ p₅
+      → Wrote 11 (32 ∷ decimal b) out₂ p₂ out₃ p₃ → Wrote 11 (32 ∷ decimal c) out₃ p₃ out₄ p₄
+      → Wrote 1 (10 ∷ []) out₄ p₄ out₅ p₅
       → Wrote (length w + 34) (line w (a ∷ b ∷ c ∷ [])) out at out₅ p₅
   unfolding line spaced
   wrote-line-three a b c x y z end =
-      wrote-as (wrote-then (wrote-then (wrote-then (wrote-then word x) y) z) end) (joined-three w (32 ∷ decimal a) (32 ∷ decimal b) (32 ∷ decimal c) (10 ∷ []))
+      wrote-as (wrote-then (wrote-then (wrote-then (wrote-then word x) y) z) end)
+      (joined-three w (32 ∷ decimal a) (32 ∷ decimal b) (32 ∷ decimal c) (10 ∷ []))
       (omega arith)
 
 -- ---- the line of an element and of a link
@@ -215,20 +227,24 @@ unfolding elementLine spaced
 element-joined d s = ap (λ (b : Bytes). ascii "E" ++ b ++ 32 ∷ [] ++ hexadecimal (2 * setSize) s ++ 10 ∷ []) (sym (append-nil (32 ∷ decimal d)))
 
 pub wrote-element : (d s : ℕ) {out out₁ out₂ out₃ out₄ out₅ : Bytes} {at p₁ p₂ p₃ p₄ p₅ : ℕ} → Wrote 1 (ascii "E") out at out₁ p₁
-    → Wrote 11 (32 ∷ decimal d) out₁ p₁ out₂ p₂ → Wrote 1 (32 ∷ []) out₂ p₂ out₃ p₃ → Wrote (2 * setSize) (hexadecimal (2 * setSize) s) out₃ p₃ out₄ p₄
+    → Wrote 11 (32 ∷ decimal d) out₁ p₁ out₂ p₂ → Wrote 1 (32 ∷ []) out₂ p₂ out₃ p₃
+    → Wrote (2 * setSize) (hexadecimal (2 * setSize) s) out₃ p₃ out₄ p₄
     → Wrote 1 (10 ∷ []) out₄ p₄ out₅ p₅
     → Wrote elementMost (elementLine d s) out at out₅ p₅
 wrote-element d s x number space set end =
     wrote-as (wrote-then (wrote-then (wrote-then (wrote-then x number) space) set) end) (element-joined d s) (omega arith)
 
-pub wrote-link : (links : Bytes) (i : ℕ) {from role to : ℕ} {out out′ : Bytes} {at next : ℕ} → from ≡ linkAt links i .from → role ≡ linkAt links i .role
-    → to ≡ linkAt links i .to → Wrote 35 (line (ascii "L") (from ∷ role ∷ to ∷ [])) out at out′ next → Wrote 35 (linkLine (linkAt links i)) out at out′ next
+pub wrote-link : (links : Bytes) (i : ℕ) {from role to : ℕ} {out out′ : Bytes} {at next : ℕ} → from ≡ linkAt links i .from
+    → role ≡ linkAt links i .role
+    → to ≡ linkAt links i .to → Wrote 35 (line (ascii "L") (from ∷ role ∷ to ∷ [])) out at out′ next
+    → Wrote 35 (linkLine (linkAt links i)) out at out′ next
 unfolding linkLine
 wrote-link links i f r t w = wrote-as w (cc) (omega arith)
 
 -- ---- the lines of an answer
 
-pub wrote-used : (n : Numbers) {out out′ : Bytes} {at next : ℕ} → Wrote 38 (line (ascii "USED") (n .nodes ∷ n .edges ∷ n .alternatives ∷ [])) out at out′ next
+pub wrote-used : (n : Numbers) {out out′ : Bytes} {at next : ℕ}
+    → Wrote 38 (line (ascii "USED") (n .nodes ∷ n .edges ∷ n .alternatives ∷ [])) out at out′ next
     → Wrote 38 (usedLine n) out at out′ next
 unfolding usedLine
 wrote-used n w = w
@@ -241,7 +257,8 @@ pub wrote-can : (n : Numbers) (elements links : Bytes) {out out₁ out₂ out₃
 unfolding canLines
 wrote-can n elements links head used es ls = wrote-then (wrote-then (wrote-then head used) es) ls
 
-pub wrote-cannot : (n : Numbers) {out out₁ out₂ : Bytes} {p₁ p₂ : ℕ} → Wrote 7 (ascii "CANNOT\n") out 0 out₁ p₁ → Wrote 38 (usedLine n) out₁ p₁ out₂ p₂
+pub wrote-cannot : (n : Numbers) {out out₁ out₂ : Bytes} {p₁ p₂ : ℕ} → Wrote 7 (ascii "CANNOT\n") out 0 out₁ p₁
+    → Wrote 38 (usedLine n) out₁ p₁ out₂ p₂
     → Wrote 64 (cannotLines n) out 0 out₂ p₂
 unfolding cannotLines line spaced
 wrote-cannot n head used = wrote-as (wrote-then head used) refl (omega arith)
@@ -256,7 +273,8 @@ wrote-refused n e few w = wrote-as w (ap (λ (k : List ℕ). line (ascii "REFUSE
 
 module _ (n : Numbers) (elements links : Bytes) where
   abbrev printedBy : Bool → Bool → Bytes
-  printedBy can′ cannot′ = elim can′ [ true ↦ canLines n elements links | false ↦ elim cannot′ [ true ↦ cannotLines n | false ↦ refusedLine n ] ]
+  printedBy can′ cannot′ =
+      elim can′ [ true ↦ canLines n elements links | false ↦ elim cannot′ [ true ↦ cannotLines n | false ↦ refusedLine n ] ]
 
   pub printed-can : n .verdict ≡ 1 → canLines n elements links ≡ printed n elements links
   unfolding printed

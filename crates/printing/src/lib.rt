@@ -18,10 +18,8 @@ use answers::CANNOT;
 use answers::NO_ALTERNATIVE;
 use answers::NO_NODE;
 use answers::TOO_LONG;
-use rowset::SET_BYTES;
-
-// The bytes of a link. An element is a set.
-const LINK: usize = 6;
+use words::sizes::LINK_BYTES;
+use words::sizes::SET_BYTES;
 
 // Writes one byte.
 fn put(out: &mut [u8], at: usize, byte: u8) -> usize
@@ -111,7 +109,8 @@ fn line_of_two(out: &mut [u8], at: usize, w: &[u8], a: u32, b: u32) -> usize
 // Writes a line of a word and three numbers.
 fn line_of_three(out: &mut [u8], at: usize, w: &[u8], a: u32, b: u32, c: u32) -> usize
     requires { ⌜ Countable at (length (now w) + 34) ⌝ }
-    ensures { λ r. ⌜ Wrote (length (now (w .entry)) + 34) (Printed.line (now (w .entry)) (a ∷ b ∷ c ∷ [])) (now (out .entry)) at (now (out .exit)) r ⌝ }
+    ensures { λ r. ⌜ Wrote (length (now (w .entry)) + 34) (Printed.line (now (w .entry)) (a ∷ b ∷ c ∷ []))
+        (now (out .entry)) at (now (out .exit)) r ⌝ }
 {
     let first = word(out, at, w);
     let second = number(out, first, a);
@@ -173,7 +172,7 @@ fn link_line(out: &mut [u8], at: usize, links: &[u8], i: u32) -> usize
     requires { ⌜ Countable at 35 ⌝ }
     ensures { λ r. ⌜ Wrote 35 (Printed.linkLine (linkAt (now (links .entry)) i)) (now (out .entry)) at (now (out .exit)) r ⌝ }
 {
-    let place = LINK * (i as usize);
+    let place = LINK_BYTES * (i as usize);
     let from = half_of(links, place) as u32;
     let role = half_of(links, place + 2) as u32;
     let to = half_of(links, place + 4) as u32;

@@ -9,7 +9,6 @@ ghost use Rattle.problem.specs.Layout.{room};
 ghost use Rattle.problem.specs.Decoded.{countOf, RowsDecoded};
 ghost use Rattle.problem.specs.Chaining.{Sames, JoinsWord, JoinsUniversals, JoinsNarrows, InUse, Chains, RolesAt, IncludesRow, Included};
 use crate::COUNT;
-use crate::INCLUSION;
 use crate::NARROWS;
 use crate::ROLES;
 use crate::ROWS;
@@ -17,7 +16,8 @@ use crate::UNIVERSALS;
 use crate::USED;
 use crate::inverse;
 use crate::word_if;
-use rowset::SET_WORDS;
+use decoding::kinds::INCLUSION;
+use words::sizes::SET_WORDS;
 
 // Each role is narrower than itself.
 pub fn put_sames(out: &mut [u64])

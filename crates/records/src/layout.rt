@@ -1,5 +1,5 @@
 // Where each number stands in its record, in bytes from the record's start: the places of specs/Layout, which says what is there.
-use rowset::SET_BYTES;
+use words::sizes::SET_BYTES;
 
 // A node, behind its set: the node's own, its marks, its chains.
 pub const STATUS_AT: usize = SET_BYTES;

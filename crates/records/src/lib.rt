@@ -23,13 +23,17 @@ use layout::PRL_AT;
 use layout::PST_AT;
 use layout::STATUS_AT;
 use layout::TO_AT;
-use rowset::SET_BYTES;
-use rowset::SET_WORDS;
 use rowset::copy;
 use words::get1;
 use words::get2;
 use words::put1;
 use words::put2;
+use words::sizes::ALTERNATIVE_BYTES;
+use words::sizes::EDGE_BYTES;
+use words::sizes::MOST_RECORDS;
+use words::sizes::NODE_BYTES;
+use words::sizes::SET_BYTES;
+use words::sizes::SET_WORDS;
 
 pub mod layout;
 
@@ -62,16 +66,6 @@ pub struct Edge {
     pub from: u16,
     pub to: u16,
 }
-
-// "whole records count, and at most 4,096 of each" (01, Areas).
-const MOST: usize = 4096;
-
-// The bytes of a node's record, of an edge's, and of an alternative's.
-pub const NODE_BYTES: usize = 64;
-
-pub const EDGE_BYTES: usize = 16;
-
-pub const ALTERNATIVE_BYTES: usize = 16;
 
 // Whether a status is open.
 pub fn is_open(s: Status) -> bool
@@ -171,7 +165,7 @@ pub fn room(len: usize, size: usize) -> usize
     ensures { λ r. ⌜ r ≡ recordsLent size len ⌝ }
 {
     let n = len / size;
-    if n < MOST { n } else { MOST }
+    if n < MOST_RECORDS { n } else { MOST_RECORDS }
 }
 
 // Where the set of node x begins in the area of nodes.
@@ -314,7 +308,8 @@ pub fn store_status(nodes: &mut [u8], x: usize, status: Status)
 // Gives node x of the area a link.
 pub fn store_link(nodes: &mut [u8], x: usize, link: Link)
     requires { ⌜ Fits nodeSize (now nodes) x ⌝ }
-    ensures { λ _. ⌜ Records.NodeWritten (now (nodes .entry)) (now (nodes .exit)) x (withLink (Codes.linkOf link) (Records.nodeIn (now (nodes .entry)) x)) ⌝ }
+    ensures { λ _. ⌜ Records.NodeWritten (now (nodes .entry)) (now (nodes .exit)) x
+        (withLink (Codes.linkOf link) (Records.nodeIn (now (nodes .entry)) x)) ⌝ }
 {
     let at = NODE_BYTES * x;
     put1(nodes, at + LINK_KIND_AT, link_kind(link));

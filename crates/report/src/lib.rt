@@ -2,11 +2,11 @@
 //
 // In order: the areas that are lent; the text area; the report.
 ghost use Rattle.report.specs.Report.{Reports};
-use evaluation::LINK_BYTES;
-use records::ALTERNATIVE_BYTES;
-use records::EDGE_BYTES;
-use records::NODE_BYTES;
-use rowset::SET_BYTES;
+use words::sizes::ALTERNATIVE_BYTES;
+use words::sizes::EDGE_BYTES;
+use words::sizes::LINK_BYTES;
+use words::sizes::NODE_BYTES;
+use words::sizes::SET_BYTES;
 
 // How many records are lent of each area.
 const NODES: usize = 1024 * NODE_BYTES;

@@ -15,7 +15,7 @@ use records::Node;
 use records::Status;
 use records::is_live;
 use records::status_of;
-use rowset::SET_BYTES;
+use words::sizes::SET_BYTES;
 
 // Expands the lowest node without status, which is looked for from the one before on, "until the root is yes, never or small or no node lacks a status".
 fn rounds(

@@ -1,9 +1,9 @@
 -- A number in n words of p bits each, the lowest word first (`joined`), and sets of rows in n words of bytes and of words. Laws are in JoinedLaws and ByteLaws.
 use mathlib.Core.Path.{_≡_}
-use mathlib.Core.Bool.{Bool, true, false}
+use mathlib.Core.Bool.{Bool, true, false, _&&_, _||_, cond}
 use mathlib.Core.List.{List}
 use Prim.Native.Nat.{ℕ, zero, suc, _+_, _*_, _^_, _≤_, _<_}
-use lib.ListN.{getD}
+use lib.ListN.{length, getD}
 use Rattle.concepts.specs.RowSet.{RowSet, mem, insert}
 use Rattle.words.specs.Words.{leAt, putLe}
 use Rattle.rowset.specs.declared.Next.{Next}
@@ -43,11 +43,25 @@ unfoldable pub putWords : List ℕ → ℕ → (ℕ → ℕ) → ℕ → List �
 putWords b at f zero = b
 putWords b at f (suc n) = putWords (putLe b at 8 (f 0)) (at + 8) (λ (j : ℕ). f (suc j)) n
 
+-- of n words that are to be written over those of b, the first j are
+pub record WordsPut (f : ℕ → ℕ) (b : List ℕ) (at n : ℕ) (c : List ℕ) (j : ℕ) : Type 0 where
+  pub few : j ≤ n
+  pub size : length c ≡ length b
+  pub is : c ≡ putWords b at f j
+
+-- "both" of two rows, or "either"
+unfoldable pub junction : Bool → ℕ → ℕ → RowSet → Bool
+junction both left right s = cond both (mem left s && mem right s) (mem left s || mem right s)
+
 -- ---- what contracts say of a set at a place, for any number of words
 
 -- whether row k is in it
 abbrev pub Tells : List ℕ → ℕ → ℕ → Bool → Type 0
 Tells b at k r = (n : ℕ) → k < 64 * n → r ≡ mem k (setAt b at n)
+
+-- whether both of two rows are in it, or one of them
+abbrev pub TellsTwo : List ℕ → ℕ → Bool → ℕ → ℕ → Bool → Type 0
+TellsTwo b at both left right r = (n : ℕ) → left < 64 * n → right < 64 * n → r ≡ junction both left right (setAt b at n)
 
 -- it is as it was in b, with row k
 abbrev pub Inserted : List ℕ → ℕ → ℕ → List ℕ → Type 0

@@ -1,7 +1,7 @@
 -- Laws of n words written one after the other: they are one number written.
 use mathlib.Core.Path.{_≡_, refl, sym, ap, ap₂, _∙_}
 use mathlib.Core.List.{List}
-use Prim.Native.Nat.{ℕ, zero, suc, _+_, _-_, _*_, _/_, _%_, _^_, _≤_, _<_}
+use Prim.Native.Nat.{ℕ, zero, suc, _+_, _*_, _/_, _%_, _^_, _≤_, _<_}
 use lib.Pow.{pow-add}
 use native.Mathlib.Nat.{pow-suc, mul-comm, mul-assoc, div-div-eq-div-mul}
 use native.Mathlib.Omega.{arith}
@@ -11,7 +11,7 @@ use Rattle.concepts.specs.RowSet.{union, minus}
 use Rattle.concepts.specs.RowSetLaws.{union-lt}
 use Rattle.words.specs.Words.{putLe}
 use Rattle.words.specs.WordLaws.{length-putLe, leAt-putLe}
-use Rattle.rowset.specs.Joined.{joined, Fit, lowWord, wordAt, setAt, putWords, maskAt}
+use Rattle.rowset.specs.Joined.{joined, Fit, lowWord, wordAt, setAt, putWords, WordsPut, maskAt}
 use Rattle.rowset.specs.JoinedLaws.{joined-union, joined-minus, joined-none}
 use Rattle.rowset.specs.ByteLaws.{Bytes, leAt-lt, set-words, word-fits, word-kept}
 
@@ -67,7 +67,8 @@ words-length zero b at f = refl
 words-length (suc n) b at f = words-length n (putLe b at 8 (f 0)) (at + 8) (λ (j : ℕ). f (suc j)) ∙ length-putLe b at 8 (f 0)
 
 -- words that are not written yet
-pub words-kept : (n : ℕ) (b : List ℕ) (at : ℕ) (f : ℕ → ℕ) (j : ℕ) → n ≤ j → at + 8 * n ≤ length b → wordAt (putWords b at f n) at j ≡ wordAt b at j
+pub words-kept : (n : ℕ) (b : List ℕ) (at : ℕ) (f : ℕ → ℕ) (j : ℕ) → n ≤ j → at + 8 * n ≤ length b
+    → wordAt (putWords b at f n) at j ≡ wordAt b at j
 unfolding putWords
 words-kept zero b at f j l room = refl
 words-kept (suc n) b at f j l room =
@@ -76,6 +77,28 @@ words-kept (suc n) b at f j l room =
     ∙ ap (λ (c : List ℕ). wordAt c at j) (put-words-more n b at f)
     ∙ word-kept (putWords b at f n) at n (f n) (omega (arith, words-length n b at f)) j (λ q. omega arith)
     ∙ words-kept n b at f j (omega arith) (omega arith)
+
+-- ---- a loop that writes n words
+
+module _ {f : ℕ → ℕ} {b : List ℕ} {at n : ℕ} where
+  pub put-begins : WordsPut f b at n b 0
+  unfolding putWords
+  put-begins = record { few = omega arith; size = refl; is = refl }
+
+  -- the next word is still what it was
+  pub put-unread : {c : List ℕ} {j : ℕ} → WordsPut f b at n c j → at + 8 * n ≤ length b → wordAt c at j ≡ wordAt b at j
+  put-unread {c} {j} W room = ap (λ (x : List ℕ). wordAt x at j) (W .is) ∙ words-kept j b at f j (omega arith) (omega (arith, W .few))
+
+  pub put-again : {c d : List ℕ} {j v : ℕ} → WordsPut f b at n c j → j < n → d ≡ putLe c (at + 8 * j) 8 v → v ≡ f j
+      → WordsPut f b at n d (j + 1)
+  put-again {c} {d} {j} {v} W l e q = record {
+    few = omega arith;
+    size = ap length e ∙ length-putLe c (at + 8 * j) 8 v ∙ W .size;
+    is = e ∙ ap₂ (λ (x : List ℕ) (u : ℕ). putLe x (at + 8 * j) 8 u) (W .is) q ∙ sym (put-words-more j b at f);
+  }
+
+  pub put-ends : {c : List ℕ} {j : ℕ} → WordsPut f b at n c j → n ≤ j → c ≡ putWords b at f n
+  put-ends {c} {j} W l = W .is ∙ ap (putWords b at f) (omega (arith, W .few))
 
 pub joined-lt : (n : ℕ) (f : ℕ → ℕ) → Fit 64 f → joined 64 f n < 256 ^ (8 * n)
 unfolding joined
@@ -112,7 +135,8 @@ module _ (b c : List ℕ) (hb : Bytes b) (hc : Bytes c) (at there n : ℕ) where
   unfolding both
   put-union = put-words n b at both both-fits ∙ ap (putLe b at (8 * n)) both-all
 
-  pub set-union : at + 8 * n ≤ length b → setAt (putLe b at (8 * n) (union (setAt b at n) (setAt c there n))) at n ≡ union (setAt b at n) (setAt c there n)
+  pub set-union : at + 8 * n ≤ length b
+      → setAt (putLe b at (8 * n) (union (setAt b at n) (setAt c there n))) at n ≡ union (setAt b at n) (setAt c there n)
   set-union room = set-put b at n (union (setAt b at n) (setAt c there n)) room (rw (← both-all) (joined-lt n both both-fits))
 
   pub put-copy : putWords b at (wordAt c there) n ≡ putLe b at (8 * n) (setAt c there n)
@@ -136,7 +160,8 @@ module _ (b c : List ℕ) (hb : Bytes b) (hc : Bytes c) (at there n : ℕ) where
   unfolding lacked minus
   put-minus = put-words n b at lacked lacked-fits ∙ ap (putLe b at (8 * n)) lacked-all
 
-  pub set-minus : at + 8 * n ≤ length b → setAt (putLe b at (8 * n) (minus (setAt b at n) (setAt c there n))) at n ≡ minus (setAt b at n) (setAt c there n)
+  pub set-minus : at + 8 * n ≤ length b
+      → setAt (putLe b at (8 * n) (minus (setAt b at n) (setAt c there n))) at n ≡ minus (setAt b at n) (setAt c there n)
   unfolding minus
   set-minus room = set-put b at n (minus (setAt b at n) (setAt c there n)) room (omega (arith, set-fits b hb at n))
 
@@ -160,7 +185,8 @@ module _ (b ws : List ℕ) (hb : Bytes b) (hw : (i : ℕ) → getD ws i 0 < 2 ^ 
   unfolding with-mask
   put-mask = put-words n b at with-mask with-mask-fits ∙ ap (putLe b at (8 * n)) with-mask-all
 
-  pub set-mask : at + 8 * n ≤ length b → setAt (putLe b at (8 * n) (union (setAt b at n) (maskAt ws mask n))) at n ≡ union (setAt b at n) (maskAt ws mask n)
+  pub set-mask : at + 8 * n ≤ length b
+      → setAt (putLe b at (8 * n) (union (setAt b at n) (maskAt ws mask n))) at n ≡ union (setAt b at n) (maskAt ws mask n)
   set-mask room = set-put b at n (union (setAt b at n) (maskAt ws mask n)) room (rw (← with-mask-all) (joined-lt n with-mask with-mask-fits))
 
 -- ---- a set of which only the lowest word has rows

@@ -30,7 +30,7 @@ use records::Node;
 use records::Status;
 use records::is_live;
 use records::status_of;
-use rowset::SET_BYTES;
+use words::sizes::SET_BYTES;
 
 // Adds a node with the set s, and the edge to it.
 pub fn add_child(
@@ -54,7 +54,8 @@ pub fn add_child(
 // Links node z to state y, and adds the edge from z.
 fn link_to(nodes: &mut [u8], edges: &mut [u8], c: Counts, z: u16, y: u16) -> Step
     requires { ⌜ (z < c .nodes) × (y < c .nodes) × (c .nodes ≤ roomOf nodeSize (now nodes)) ⌝ }
-    ensures { λ r. ⌜ Steps.AddsBelow (now (nodes .entry)) (now (nodes .exit)) (now (edges .entry)) (now (edges .exit)) c r (λ k g. Tableau.linkTo k z y g) ⌝ }
+    ensures { λ r. ⌜ Steps.AddsBelow (now (nodes .entry)) (now (nodes .exit)) (now (edges .entry)) (now (edges .exit)) c r
+        (λ k g. Tableau.linkTo k z y g) ⌝ }
 {
     set_link(nodes, c, z as usize, Link::State(y));
     add_edge(nodes, edges, c, z, y)

@@ -25,8 +25,6 @@ use records::alternative_set;
 use records::load_node;
 use records::node_set;
 use records::status_of;
-use rowset::SET_BYTES;
-use rowset::SET_WORDS;
 use rowset::copy;
 use rowset::join;
 use settests::clash;
@@ -38,6 +36,8 @@ use steps::add_lapsed;
 use steps::judge_branch;
 use steps::judge_state;
 use steps::link_special;
+use words::sizes::SET_BYTES;
+use words::sizes::SET_WORDS;
 
 // A node with this place and status, and no link; with any set.
 fn below(p: u16, role: u8, status: Status) -> Node
@@ -164,7 +164,8 @@ fn judge_linked(
 // The set of alternative i joined to the set of node y, in an array that is lent.
 fn join_alternative(nodes: &[u8], y: u16, alternatives: &[u8], i: usize, out: &mut [u8; SET_BYTES])
     requires { ⌜ (nodeSize * y + setSize ≤ length (now nodes)) × (i < mostRecords) × (alternativeSize * i + setSize ≤ length (now alternatives)) ⌝ }
-    ensures { λ _. ⌜ setOf (now (out .exit)) 0 ≡ union (setOf (now (alternatives .entry)) (alternativeSize * i)) (setOf (now (nodes .entry)) (nodeSize * y)) ⌝ }
+    ensures { λ _. ⌜ setOf (now (out .exit)) 0
+        ≡ union (setOf (now (alternatives .entry)) (alternativeSize * i)) (setOf (now (nodes .entry)) (nodeSize * y)) ⌝ }
 {
     copy(out, 0, alternatives, alternative_set(i), SET_WORDS);
     join(out, 0, nodes, node_set(y), SET_WORDS);

@@ -12,22 +12,23 @@ ghost use Rattle.evaluation.specs.Holding.{Holding};
 ghost use Rattle.records.specs.Areas.{Fits};
 ghost use Rattle.marks.specs.Marks.{roleLinkIn};
 ghost use Rattle.writing.specs.Writing as Writing;
-use evaluation::LINK_BYTES;
 use evaluation::evaluate;
 use marks::Sizes;
 use marks::load_role_link;
 use marks::load_state;
 use records::node_set;
-use rowset::SET_BYTES;
-use rowset::SET_WORDS;
 use rowset::put_low;
 use settests::names;
 use words::put2;
+use words::sizes::LINK_BYTES;
+use words::sizes::SET_BYTES;
+use words::sizes::SET_WORDS;
 
 // Writes the names of each element where its rows will stand: a name holds "where the procedure placed its kind 1 row in the state's set".
 fn write_names(problem: &[u64], nodes: &[u8], count: usize, elements: &mut [u8])
     requires { ⌜ Decoded (now problem) × Writing.ElementsAsk (now nodes) count (now elements) ⌝ }
-    ensures { λ _. ⌜ Holding (now (elements .entry)) count (Writing.namesIn (tableOf (now (problem .entry))) (now (nodes .entry))) (now (elements .exit)) ⌝ }
+    ensures { λ _. ⌜ Holding (now (elements .entry)) count
+        (Writing.namesIn (tableOf (now (problem .entry))) (now (nodes .entry))) (now (elements .exit)) ⌝ }
 {
     let mut d = 0;
     while d < count {

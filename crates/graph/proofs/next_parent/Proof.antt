@@ -1,25 +1,14 @@
 -- `graph::next_parent` meets its contract: the chain has what a search would find.
--- Assumes nothing.
 use mathlib.Core.Path.{ap}
 use native.Mathlib.Omega.{arith}
 use borrow.Author.Needs.{needs}
 use Rattle.procedure.specs.Graph.{Edge}
+use Rattle.words.specs.Sizes.{nodeSize, edgeSize}
+use Rattle.records.specs.AreaLaws.{room-fits}
 use Rattle.graph.specs.ChainsLaws.{parent-sits}
 use Rattle.graph.specs.SearchLaws.{parent-next, parent-end}
 use Rattle.graph.proofs.next_parent.Statement.{statement}
 use Rattle.graph.proofs.next_parent.Tie as tie
-
-follow-requires : tie.Need-follow-requires
-follow-requires c κs =
-    let s : tie.Start = search in
-    let w = s .pre in
-    (parent-sits, (omega (arith, w .node, w .nodes), omega (arith, w .node, w .nodes)), omega (arith, w .place, w .records))
-
-load-edge-requires : tie.Need-load-edge-requires
-load-edge-requires c κs =
-    let s : tie.Start = search in
-    let found : tie.Then1 = search in
-    (omega (arith, found .if1 .taken, s .pre .records), omega (arith, found .if1 .taken, s .pre .records))
 
 returns : tie.Need-returns
 returns c =
@@ -37,11 +26,11 @@ returns-2 c =
 
 pub next-parent-spec : {M : Type 1} → statement M
 next-parent-spec =
-    tie.close
-    (tie.spec
-    -- follow(nodes, edges, PARENTS, x as usize, from), load_edge(edges, index)
-    follow-requires
+    tie.close (tie.spec
+    -- follow(nodes, edges, PARENTS, x as usize, from), index < c.edges as usize
+    (λ c κs. let s : tie.Start = search in let w = s .pre in
+    (parent-sits, room-fits nodeSize (s .args .nodes .now) (w .nodes) (w .node), omega (arith, w .place, w .records)))
     (λ c. search needs)
-    load-edge-requires
-    returns
-    returns-2)
+    -- load_edge(edges, index)
+    (λ c κs. let s : tie.Start = search in let found : tie.Then1 = search in room-fits edgeSize (s .args .edges .now) (s .pre .records) (found .if1 .taken))
+    returns returns-2)

@@ -21,8 +21,7 @@ abbrev μ-loop : tie.MeasureT-loop
 loop-holds : tie.Need-loop-holds Inv-loop μ-loop
 loop-holds c =
     let s : tie.Start Inv-loop μ-loop = search in
-    let a = s .args in
-    pieces-none (highest (a .area .now) (a .from) (a .n)) 2 (a .n) (a .out .now) (a .at) (hexadecimal-none _)
+    pieces-none (s .args .out .now) (s .args .at) (hexadecimal-none _)
 
 loop-again : tie.Need-loop-again Inv-loop μ-loop
 loop-again c =
@@ -33,7 +32,7 @@ loop-again c =
     let a = s .args in
     let p : ℕ = a .from + (a .n - (l .before .loop .i + 1)) in
     let small : getD (a .area .now) p 0 < 256 = omega (arith, byte .byte-of .ensures, byte .byte-of .ok) in
-    pieces-more (highest (a .area .now) (a .from) (a .n)) 2 (a .n) (l .before .loop .inv) (l .loop-test .taken)
+    pieces-more (l .before .loop .inv) (l .loop-test .taken)
     (highest-more (a .area .now) (a .from) (a .n) (l .before .loop .i) (l .loop-test .taken) small)
     (wrote-as (digits .byte-digits .ensures) (ap (hexadecimal 2) (byte .byte-of .ensures)) (omega arith))
 
@@ -43,7 +42,7 @@ returns c =
     let s : tie.Start Inv-loop μ-loop = search in
     let a = s .args in
     let e : a .from + (a .n - a .n) ≡ a .from = omega arith in
-    wrote-as (pieces-all (highest (a .area .now) (a .from) (a .n)) 2 (a .n) (l .loop .inv) (c .loop-test .left))
+    wrote-as (pieces-all (l .loop .inv) (c .loop-test .left))
     (ap (λ (p : ℕ). hexadecimal (2 * a .n) (leAt (a .area .now) p (a .n))) e) (omega arith)
 
 pub hexadecimal-spec : {M : Type 1} → statement M

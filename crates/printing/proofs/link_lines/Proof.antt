@@ -1,5 +1,4 @@
 -- `printing::link_lines` meets its contract: the invariant is that the lines of the first `i` links are written.
--- Assumes nothing.
 use Prim.Native.Nat.{_-_}
 use native.Mathlib.Omega.{arith}
 use Rattle.run.specs.Printed.{linkLines}
@@ -15,34 +14,18 @@ Inv-loop out₀ at links count next₀ i₀ out next i = Pieces (linkLines links
 abbrev μ-loop : tie.MeasureT-loop
 μ-loop out₀ at links count next₀ i₀ out next i = count - i
 
-loop-holds : tie.Need-loop-holds Inv-loop μ-loop
-loop-holds c =
-    let a = c .before .before .args in
-    pieces-none (linkLines (a .links .now)) 35 (a .count) (a .out .now) (a .at) (linkLines-none (a .links .now))
-
-link-line-requires : tie.Need-link-line-requires Inv-loop μ-loop
-link-line-requires c κs =
-    omega (arith, c .before .before .loop .inv .wrote .after, c .before .before .loop .inv .wrote .bounded)
-
 loop-again : tie.Need-loop-again Inv-loop μ-loop
 loop-again c =
-    let at-link-line = c .before .before in
-    let at-loop-test = at-link-line .before .before in
-    let at-loop = at-loop-test .before in
-    let start = at-loop .before .before .before in
-    let a = start .args in
-    pieces-more (linkLines (a .links .now)) 35 (a .count) (at-loop .loop .inv) (at-loop-test .loop-test .taken) (linkLines-more (a .links .now) (at-loop .loop .i)) (at-link-line .link-line .ensures)
-
-same-length : tie.Need-same-length Inv-loop μ-loop
-same-length c = wrote-size (c .before .loop .inv .wrote)
-
-returns : tie.Need-returns Inv-loop μ-loop
-returns c =
-    let begun : tie.Start Inv-loop μ-loop = search in
-    let a = begun .args in
-    pieces-all (linkLines (a .links .now)) 35 (a .count) (c .before .loop .inv) (c .loop-test .left)
+    let l : tie.In-loop Inv-loop μ-loop = search in
+    let line : tie.After-link-line Inv-loop μ-loop = search in
+    pieces-more (l .before .loop .inv) (l .loop-test .taken) (linkLines-more _ _) (line .link-line .ensures)
 
 pub link-lines-spec : {M : Type 1} → statement M
 link-lines-spec =
     tie.close (tie.spec
-    Inv-loop μ-loop loop-holds link-line-requires (λ c. omega arith) (λ c. omega arith) loop-again same-length returns)
+    Inv-loop μ-loop (λ c. pieces-none _ _ (linkLines-none _))
+    -- link_line(out, next, links, i)
+    (λ c κs. let l : tie.At-loop Inv-loop μ-loop = search in omega (arith, l .loop .inv .wrote .after, l .loop .inv .wrote .bounded))
+    -- i += 1, and the loop again
+    (λ c. omega arith) (λ c. omega arith) loop-again
+    (λ c. wrote-size (c .before .loop .inv .wrote)) (λ c. pieces-all (c .before .loop .inv) (c .loop-test .left)))

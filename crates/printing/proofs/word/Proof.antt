@@ -1,5 +1,4 @@
 -- `printing::word` meets its contract: the invariant is that the first `i` bytes are written.
--- Assumes nothing.
 use mathlib.Core.Path.{refl}
 use Prim.Native.Nat.{ℕ, _-_}
 use native.Mathlib.Omega.{arith}
@@ -19,7 +18,7 @@ abbrev μ-loop : tie.MeasureT-loop
 loop-holds : tie.Need-loop-holds Inv-loop μ-loop
 loop-holds c =
     let a = c .before .before .args in
-    pieces-none (λ (i : ℕ). take i (a .w .now)) 1 (length (a .w .now)) (a .out .now) (a .at) refl
+    pieces-none (a .out .now) (a .at) refl
 
 put-requires : tie.Need-put-requires Inv-loop μ-loop
 put-requires c κs =
@@ -30,15 +29,13 @@ loop-again c =
     let l = c .before .before .before .before .before .before in
     let w = l .before .before .before .args .w .now in
     let here = c .before .before .before .before .before .loop-test .taken in
-    pieces-more (λ (i : ℕ). take i w) 1 (length w) (l .loop .inv) here (take-more w (l .loop .i) here) (c .before .before .put .ensures)
+    pieces-more (l .loop .inv) here (take-more w (l .loop .i) here) (c .before .before .put .ensures)
 
 same-length : tie.Need-same-length Inv-loop μ-loop
 same-length c = wrote-size (c .before .loop .inv .wrote)
 
 returns : tie.Need-returns Inv-loop μ-loop
-returns c =
-    let w = c .before .before .before .before .args .w .now in
-    wrote-word (pieces-all (λ (i : ℕ). take i w) 1 (length w) (c .before .loop .inv) (c .loop-test .left))
+returns c = wrote-word (pieces-all (c .before .loop .inv) (c .loop-test .left))
 
 pub word-spec : {M : Type 1} → statement M
 word-spec =

@@ -17,4 +17,7 @@ returns-2 c = rw (ne-eqb _ _ (c .if1 .left)) (omega arith)
 pub second-mask-spec : {M : Type 1} → statement M
 second-mask-spec =
     tie.close (tie.spec
+    -- kind == UNIV as usize
+    (λ c. search needs)
+    -- UNIVERSALS + SET_WORDS * role, KINDS + SET_WORDS * kind
     (λ c. search needs) (λ c. search needs) returns (λ c. search needs) (λ c. search needs) returns-2)

@@ -21,7 +21,7 @@ At P = P Inv-loop μ-loop
 pub listed-spec : {M : Type 1} → statement M
 listed-spec =
     tie.close (tie.spec Inv-loop μ-loop
-    -- places(problem, NAME), places(problem, NOT_NAME)
+    -- places(problem, ATOMIC), places(problem, NEGATED)
     (λ c κs. let s : At tie.Start = search in (s .pre, omega arith)) (λ c κs. let s : At tie.Start = search in (s .pre, omega arith))
     -- while name < NAMES
     (λ c. (omega arith, lists-none _ _ refl refl refl refl))

@@ -63,5 +63,11 @@ returns-2 c =
 pub put-inclusion-spec : {M : Type 1} → statement M
 put-inclusion-spec =
     tie.close (tie.spec
-    (λ c. search needs) (λ c. search needs) (λ c. search needs) (λ c. search needs) (λ c. search needs) (λ c. search needs) (λ c. search needs) chain-requires
+    -- out[ROWS + k], row % 256 == INCLUSION as u64
+    (λ c. search needs) (λ c. search needs) (λ c. search needs)
+    -- (row / 256 % 256) as u8, (row / 65536 % 256) as u8
+    (λ c. search needs) (λ c. search needs)
+    -- chain(out, narrow as usize, wide as usize)
+    (λ c. search needs) (λ c. search needs) (λ c. search needs) chain-requires
+    -- chain(out, inverse(narrow) as usize, inverse(wide) as usize)
     (λ c κs. search needs) (λ c. search needs) (λ c κs. search needs) (λ c. search needs) chain-requires-2 (λ c. search needs) returns returns-2)
