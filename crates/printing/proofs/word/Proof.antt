@@ -1,12 +1,12 @@
 -- `printing::word` meets its contract: the invariant is that the first `i` bytes are written.
--- Assumes nothing.
 use mathlib.Core.Path.{refl}
 use Prim.Native.Nat.{ℕ, _-_}
 use native.Mathlib.Omega.{arith}
 use lib.ListN.{length, take}
 use borrow.Author.Needs.{needs}
+use Rattle.words.specs.WordLaws.{take-more}
 use Rattle.printing.specs.Printing.{Pieces}
-use Rattle.printing.specs.PrintingLaws.{wrote-size, pieces-none, pieces-more, pieces-all, take-more, wrote-word}
+use Rattle.printing.specs.PrintingLaws.{wrote-size, pieces-none, pieces-more, pieces-all, wrote-word}
 use Rattle.printing.proofs.word.Statement.{statement}
 use Rattle.printing.proofs.word.Tie as tie
 
