@@ -1,18 +1,17 @@
 -- What is decided at the end of a run, and what each function gives. Words, areas and counts as in the tableau's contracts.
 --
 -- In order: a decision and the answer that it stands for; what is left in the example areas; the verdict of a run; the example; the decision.
--- Assumes nothing.
 use mathlib.Core.Path.{_≡_}
 use mathlib.Core.Bool.{Bool, true, false}
 use mathlib.Core.List.{List}
 use Prim.Native.Nat.{ℕ, _/_, _≤_, min}
 use lib.ListN.{length}
-use Rattle.procedure.specs.Status.{Status, unset, «open», sat, unsat, toosmall}
 use Rattle.procedure.specs.Graph.{Capacity, reached, noPlace, nodeAt}
 use Rattle.procedure.specs.Tableau.{run}
 use Rattle.procedure.specs.Example.{Example}
 use Rattle.words.specs.Sizes.{nodeSize, edgeSize, alternativeSize, mostRecords}
 use Rattle.run.specs.Run.{Areas, lengths, shown, Used, used, Answer, short, cannot, can, tooLong, answerCan, answerResult, areasAfter}
+use Rattle.run.specs.Said.{goodRoot}
 use Rattle.records.specs.Areas.{Bytes}
 use Rattle.graph.specs.Graphs.{Work, work, graphOf, capacityOf, areaOf, Held}
 use Rattle.graph.specs.declared.Counts.{Counts}
@@ -70,14 +69,6 @@ pub record Decided (a : Answer) (before : Areas) (r : Decision) (elements links 
   pub linksAre : links ≡ areasAfter a before .links
 
 -- ---- the verdict of a run
-
--- "Root yes or open means "can"; never or small means "cannot""
-abbrev pub goodRoot : Status → Bool
-goodRoot sat = true
-goodRoot «open» = true
-goodRoot unset = false
-goodRoot unsat = false
-goodRoot toosmall = false
 
 -- the run ended with this graph, and its root says "can" or does not
 pub record EndsWith (ws : List ℕ) (w : Work) (c : Counts) (w′ : Work) (b : Bool) : Type 0 where
