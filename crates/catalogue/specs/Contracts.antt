@@ -1,6 +1,6 @@
 -- What the functions of a catalogue ask and give (02, [7]): which rows the names have, what a run says that wants two rows, and these answers row after row.
 --
--- In order: the rows of the names; the names; the same rows, whatever is wanted; an entry; a row of entries; all rows; how far a loop has come.
+-- In order: the rows of the names; the names; an entry; a row of entries; all rows; the answer.
 -- Laws are in NameCases, EntryCases, FillCases and ListedLaws.
 use mathlib.Core.Path.{_≡_}
 use mathlib.Core.Bool.{cond}
@@ -12,16 +12,14 @@ use lib.ListN.{length, getD, take, drop}
 use Rattle.concepts.specs.Lists.{range, select}
 use Rattle.concepts.specs.Concept.{Concept, Table}
 use Rattle.concepts.specs.RowSet.{fromList}
-use Rattle.procedure.specs.Problem.{Problem}
-use Rattle.procedure.specs.Graph.{Capacity, Result, reached, noPlace, outOfFuel, nodeAt}
+use Rattle.procedure.specs.Graph.{Capacity}
 use Rattle.procedure.specs.Tableau.{run}
 use Rattle.decoding.specs.RowParts.{kindOf, leftOf}
 use Rattle.rulefile.specs.Format.{Bytes}
 use Rattle.words.specs.Words.{overwrite}
-use Rattle.problem.specs.Decoded.{tableOf, rulesOf, problemOf, Decoded}
-use Rattle.problem.specs.Want.{MayServe, AllServe}
-use Rattle.graph.specs.Graphs.{Work, Sized}
-use Rattle.conclusion.specs.Contracts.{goodRoot}
+use Rattle.run.specs.Said.{Said, saysShort, saysCannot, saysCan, saysNothing, said}
+use Rattle.problem.specs.Decoded.{tableOf, problemOf, Decoded}
+use Rattle.problem.specs.Want.{MayServe, AllServe, withWanted, SameRows}
 use Rattle.subsumption.specs.Names.{placeOf, ofName, positive, negative, hasBoth, rowAfterRow}
 use Rattle.subsumption.specs.Catalogue.{Areas, lent, catalogue, Numbers, numbers, areasAfter}
 use Rattle.catalogue.specs.declared.Listed.{Listed}
@@ -62,29 +60,18 @@ pub record NameAsks (ws : List ℕ) (a p n : ℕ) (l : Listed) : Type 0 where
   pub negative-is : n ≡ negative (tableOf ws) a
   pub lists : Lists (tableOf ws) (namesBelow (tableOf ws) a) l
 
--- ---- the same rows, whatever is wanted
-
--- the words v stand for the same rows and rules as w
-pub record SameRows (w v : List ℕ) : Type 0 where
-  pub decoded : Decoded v
-  pub table-is : tableOf v ≡ tableOf w
-  pub rules-are : rulesOf v ≡ rulesOf w
-
 -- ---- an entry
 
--- by the result of a run: "1 if an a that isn't a b cannot exist, 0 if it can, 2 if the work areas didn't suffice"; fuel never runs out
-unfoldable pub entryResult : Result → ℕ
-entryResult (noPlace a g) = 2
-entryResult (reached g) = cond (goodRoot (nodeAt g 0 .status)) 0 1
-entryResult outOfFuel = 3
+-- "1 if an a that isn't a b cannot exist, 0 if it can, 2 if the work areas didn't suffice"; a run never says nothing
+abbrev pub entryNumber : Said → ℕ
+entryNumber saysCan = 0
+entryNumber saysCannot = 1
+entryNumber saysShort = 2
+entryNumber saysNothing = 3
 
--- the problem with these two rows wanted together
-abbrev pub wantingBoth : Problem → ℕ → ℕ → Problem
-wantingBoth P p q = record { table = P .table; rules = P .rules; wanted = fromList (p ∷ q ∷ []); opposed = P .opposed; narrower = P .narrower }
-
--- what a run says that wants rows p and q
+-- what a run says that wants rows p and q together
 abbrev pub ranEntry : List ℕ → Capacity → ℕ → ℕ → ℕ
-ranEntry ws c p q = entryResult (run (wantingBoth (problemOf ws) p q) c)
+ranEntry ws c p q = entryNumber (said (run (withWanted (fromList (p ∷ q ∷ [])) (problemOf ws)) c))
 
 pub record EntryAsks (ws : List ℕ) (p q : ℕ) : Type 0 where
   pub decoded : Decoded ws
@@ -93,7 +80,7 @@ pub record EntryAsks (ws : List ℕ) (p q : ℕ) : Type 0 where
 
 pub record EntryGives (ws : List ℕ) (c : Capacity) (p q r : ℕ) (ws′ : List ℕ) : Type 0 where
   pub entry-is : r ≡ ranEntry ws c p q
-  pub same : SameRows ws ws′
+  pub same : SameRows withWanted ws ws′
 
 -- ---- a row of entries
 
@@ -105,7 +92,7 @@ pub record RowAsks (ws : List ℕ) (p : ℕ) (negatives row : List ℕ) : Type 0
 
 pub record RowGives (ws : List ℕ) (c : Capacity) (p : ℕ) (negatives row ws′ row′ : List ℕ) : Type 0 where
   pub row-is : row′ ≡ overwrite (map (ranEntry ws c p) negatives) row
-  pub same : SameRows ws ws′
+  pub same : SameRows withWanted ws ws′
 
 -- ---- all rows
 
@@ -118,17 +105,7 @@ pub record FillAsks (ws positives negatives table : List ℕ) : Type 0 where
 
 pub record FillGives (ws : List ℕ) (c : Capacity) (positives negatives table ws′ table′ : List ℕ) : Type 0 where
   pub table-is : table′ ≡ overwrite (rowAfterRow (ranEntry ws c) positives negatives) table
-  pub same : SameRows ws ws′
-
--- ---- how far a loop has come
-
--- i of so many pieces are written, where `upTo i` are the entries of the first i, and the work areas are as long as before
-pub record Written (upTo : ℕ → List ℕ) (count : ℕ) (ws : List ℕ) (w : Work) (area : List ℕ) (i : ℕ) (ws′ : List ℕ) (w′ : Work) (area′ : List ℕ) : Type 0 where
-  pub within : i ≤ count
-  pub words : length ws′ ≡ length ws
-  pub sized : Sized w w′
-  pub same : SameRows ws ws′
-  pub here : area′ ≡ overwrite (upTo i) area
+  pub same : SameRows withWanted ws ws′
 
 -- ---- the answer
 

@@ -1,114 +1,35 @@
 -- The ways through the loops that write entries, on plain values.
 --
--- In order: words of the same rows; areas that are written piece by piece; a row, entry by entry; all rows.
-use mathlib.Core.Path.{_≡_, refl, sym, ap, ap₂, _∙_}
-use mathlib.Core.List.{List, [], _∷_, _++_, map, append-nil, append-assoc}
-use Prim.Native.Nat.{ℕ, suc, _+_, _-_, _*_, _≤_, _<_}
+-- In order: entries of words of the same rows; a row, entry by entry; all rows.
+use mathlib.Core.Path.{_≡_, refl, sym, ap, _∙_}
+use mathlib.Core.List.{List, [], _∷_, _++_, map}
+use Prim.Native.Nat.{ℕ, _+_, _-_, _*_, _≤_, _<_}
 use native.Mathlib.Nat.{mul-le-mul, mul-le-mul-right, add-mul}
-use native.Mathlib.Numerals.{add-one}
 use native.Mathlib.Omega.{arith}
-use lib.ListN.{length, getD, take, drop, set, length-append, length-drop, length-map}
-use lib.Seq.{take-suc, take-length, take-at, drop-at, drop-cons, drop-drop, drop-length, set-at, length-take-le}
+use lib.ListN.{length, getD, take, drop, set, length-drop, length-map}
+use lib.Seq.{take-length, length-take-le}
 use borrow.Rule.Slice.PartAt.{part-to-end}
-use borrow.Rule.Slice.PartMut.{putMid, post-is}
+use borrow.Rule.Slice.PartMut.{putMid}
 use Rattle.concepts.specs.ListLaws.{getD-mem, map-append}
-use Rattle.concepts.specs.Inclusion.{narrower}
 use Rattle.concepts.specs.RowSet.{fromList}
-use Rattle.procedure.specs.Problem.{opposedNames}
 use Rattle.procedure.specs.Tableau.{run}
 use Rattle.words.specs.Words.{overwrite}
-use Rattle.problem.specs.Decoded.{tableOf, Decoded}
-use Rattle.problem.specs.Want.{MayServe, AllServe}
+use Rattle.words.specs.WordLaws.{overwrite-more, take-more, length-overwrite, overwrite-piece, put-back}
+use Rattle.run.specs.Said.{said}
+use Rattle.problem.specs.Want.{withWanted, SameRows}
+use Rattle.problem.specs.WantLaws.{same-serve, same-all}
 use Rattle.graph.specs.Graphs.{Work, capacityOf, Sized}
-use Rattle.graph.specs.GraphLaws.{sized-refl, sized-trans, sized-places}
+use Rattle.graph.specs.GraphLaws.{sized-places}
 use Rattle.subsumption.specs.Names.{rowAfterRow}
 use Rattle.subsumption.specs.NameLaws.{length-rowAfterRow, rowAfterRow-append, rowAfterRow-one}
-use Rattle.catalogue.specs.Contracts.{SameRows, entryResult, ranEntry, EntryAsks, EntryGives, RowAsks, RowGives, FillAsks, FillGives, Written}
-
--- ---- words of the same rows
-
-same-refl : {w : List ℕ} → Decoded w → SameRows w w
-same-refl ok = record { decoded = ok; table-is = refl; rules-are = refl }
-
-same-then : {w v u : List ℕ} → SameRows w v → SameRows v u → SameRows w u
-same-then S R = record { decoded = R .decoded; table-is = R .table-is ∙ S .table-is; rules-are = R .rules-are ∙ S .rules-are }
+use Rattle.engine.specs.Asking.{Written}
+use Rattle.engine.specs.AskingLaws.{written-none, written-more, written-all}
+use Rattle.catalogue.specs.Contracts.{entryNumber, ranEntry, EntryAsks, EntryGives, RowAsks, RowGives, FillAsks, FillGives}
 
 -- the same runs, in areas as long
-same-entries : {ws ws′ : List ℕ} {w w′ : Work} → SameRows ws ws′ → Sized w w′ → ranEntry ws′ (capacityOf w′) ≡ ranEntry ws (capacityOf w)
-same-entries S Z i p q =
-    entryResult (run (record {
-      table = S .table-is i;
-      rules = S .rules-are i;
-      wanted = fromList (p ∷ q ∷ []);
-      opposed = opposedNames (S .table-is i);
-      narrower = narrower (S .table-is i);
-    }) (sized-places Z i))
-
-same-serve : {w v : List ℕ} → SameRows w v → {k : ℕ} → MayServe (tableOf w) k → MayServe (tableOf v) k
-same-serve S m = rw (S .table-is) m
-
-same-all : {w v : List ℕ} → SameRows w v → {rows : List ℕ} → AllServe (tableOf w) rows → AllServe (tableOf v) rows
-same-all S m k r = same-serve S (m k r)
-
--- ---- an area that is written piece by piece
-
-take-more : (xs : List ℕ) (i : ℕ) → i < length xs → take (i + 1) xs ≡ take i xs ++ getD xs i 0 ∷ []
-take-more xs i h = rw add-one (take-suc xs i 0 h)
-
-length-overwrite : (xs area : List ℕ) → length xs ≤ length area → length (overwrite xs area) ≡ length area
-length-overwrite xs area h = simp (length-append, length-drop) (omega arith)
-
-overwrite-behind : (xs ys area : List ℕ) → overwrite (xs ++ ys) area ≡ xs ++ overwrite ys (drop (length xs) area)
-overwrite-behind xs ys area =
-    append-assoc xs ys (drop (length (xs ++ ys)) area)
-    ∙ ap (λ (l : List ℕ). xs ++ (ys ++ l)) (ap (λ (n : ℕ). drop n area) (length-append xs ys) ∙ sym (drop-drop (length ys) (length xs) area))
-
--- a piece more, behind the first ones
-overwrite-piece : (xs ys area : List ℕ) {at : ℕ} {area′ : List ℕ} → at ≡ length xs → area′ ≡ overwrite xs area
-    → take at area′ ++ overwrite ys (drop at area′) ≡ overwrite (xs ++ ys) area
-overwrite-piece xs ys area {at} e h =
-    (λ i. take at (h i) ++ overwrite ys (drop at (h i)))
-    ∙ ap₂ (λ (l r : List ℕ). l ++ overwrite ys r) (take-at xs (drop (length xs) area) at (sym e)) (drop-at xs (drop (length xs) area) at (sym e))
-    ∙ sym (overwrite-behind xs ys area)
-
--- the end of an area, lent and given back
-put-back : (area end : List ℕ) {at : ℕ} → at ≤ length area → putMid at (length area - at) area end ≡ take at area ++ end
-put-back area end {at} h =
-    ap (λ (l : List ℕ). take at area ++ (end ++ l)) (post-is at (length area) area h ∙ drop-length area)
-    ∙ ap (λ (l : List ℕ). take at area ++ l) (append-nil end)
-
--- a byte more
-overwrite-byte : (xs area : List ℕ) (x : ℕ) {at : ℕ} {area′ : List ℕ} → at ≡ length xs → at < length area → area′ ≡ overwrite xs area
-    → set area′ at x ≡ overwrite (xs ++ x ∷ []) area
-overwrite-byte xs area x {at} e l h =
-    let cut : drop (length xs) area ≡ getD area (length xs) 0 ∷ drop (suc (length xs)) area = drop-cons area (length xs) 0 (omega arith) in
-    ap (λ (b : List ℕ). set b at x) (h ∙ ap (λ (b : List ℕ). xs ++ b) cut) ∙ set-at xs (getD area (length xs) 0) (drop (suc (length xs)) area) x at (sym e)
-    ∙ sym (overwrite-behind xs (x ∷ []) area ∙ ap (λ (b : List ℕ). xs ++ x ∷ drop 1 b) cut)
-
-module _ {upTo : ℕ → List ℕ} {count : ℕ} {ws : List ℕ} {w : Work} {area : List ℕ} where
-  written-none : Decoded ws → upTo 0 ≡ [] → Written upTo count ws w area 0 ws w area
-  written-none ok nil = record {
-    within = omega arith;
-    words = refl;
-    sized = sized-refl;
-    same = same-refl ok;
-    here = ap (λ (xs : List ℕ). overwrite xs area) (sym nil);
-  }
-
-  module _ {i : ℕ} {ws′ : List ℕ} {w′ : Work} {area′ : List ℕ} (L : Written upTo count ws w area i ws′ w′ area′) where
-    written-more : i < count → {ws″ : List ℕ} {w″ : Work} {area″ : List ℕ} → SameRows ws′ ws″ → length ws″ ≡ length ws′ → Sized w′ w″
-        → area″ ≡ overwrite (upTo (i + 1)) area
-        → Written upTo count ws w area (i + 1) ws″ w″ area″
-    written-more h S words Z e = record {
-      within = omega arith;
-      words = words ∙ L .words;
-      sized = sized-trans (L .sized) Z;
-      same = same-then (L .same) S;
-      here = e;
-    }
-
-    written-all : count ≤ i → area′ ≡ overwrite (upTo count) area
-    written-all h = L .here ∙ ap (λ (k : ℕ). overwrite (upTo k) area) (omega (arith, L .within))
+same-entries : {ws ws′ : List ℕ} {w w′ : Work} → SameRows withWanted ws ws′ → Sized w w′
+    → ranEntry ws′ (capacityOf w′) ≡ ranEntry ws (capacityOf w)
+same-entries S Z i p q = entryNumber (said (run (S .problem-is (fromList (p ∷ q ∷ [])) i) (sized-places Z i)))
 
 -- ---- a row, entry by entry
 
@@ -117,10 +38,11 @@ abbrev pub rowUpTo : List ℕ → Work → ℕ → List ℕ → ℕ → List ℕ
 rowUpTo ws w p negatives j = map (ranEntry ws (capacityOf w) p) (take j negatives)
 
 module _ {ws : List ℕ} {p : ℕ} {negatives row : List ℕ} (A : RowAsks ws p negatives row) (w : Work) where
-  pub row-none : Written (rowUpTo ws w p negatives) (length negatives) ws w row 0 ws w row
+  pub row-none : Written withWanted (rowUpTo ws w p negatives) (length negatives) ws w row 0 ws w row
   row-none = written-none (A .decoded) refl
 
-  module _ (j : ℕ) {ws′ : List ℕ} {w′ : Work} {row′ : List ℕ} (L : Written (rowUpTo ws w p negatives) (length negatives) ws w row j ws′ w′ row′) where
+  module _ (j : ℕ) {ws′ : List ℕ} {w′ : Work} {row′ : List ℕ}
+      (L : Written withWanted (rowUpTo ws w p negatives) (length negatives) ws w row j ws′ w′ row′) where
     row-length : j ≡ length (rowUpTo ws w p negatives j)
     row-length = sym (length-map (take j negatives) (ranEntry ws (capacityOf w) p) ∙ length-take-le j negatives (L .within))
 
@@ -136,14 +58,14 @@ module _ {ws : List ℕ} {p : ℕ} {negatives row : List ℕ} (A : RowAsks ws p 
 
     pub row-more : j < length negatives → {r : ℕ} {ws″ : List ℕ} {w″ : Work}
         → EntryGives ws′ (capacityOf w′) p (getD negatives j 0) r ws″ → length ws″ ≡ length ws′ → Sized w′ w″
-        → Written (rowUpTo ws w p negatives) (length negatives) ws w row (j + 1) ws″ w″ (set row′ j r)
+        → Written withWanted (rowUpTo ws w p negatives) (length negatives) ws w row (j + 1) ws″ w″ (set row′ j r)
     row-more h {r} G words Z =
         let f = ranEntry ws (capacityOf w) p in
         let is : r ≡ f (getD negatives j 0) = G .entry-is ∙ (λ i. same-entries (L .same) (L .sized) i p (getD negatives j 0)) in
         let more : rowUpTo ws w p negatives (j + 1) ≡ rowUpTo ws w p negatives j ++ f (getD negatives j 0) ∷ [] =
         ap (map f) (take-more negatives j h) ∙ map-append f (take j negatives) (getD negatives j 0 ∷ []) in
         written-more L h (G .same) words Z
-        (ap (set row′ j) is ∙ overwrite-byte (rowUpTo ws w p negatives j) row (f (getD negatives j 0)) row-length (omega (arith, A .room)) (L .here)
+        ((λ i. set (L .here i) j (is i)) ∙ overwrite-more (rowUpTo ws w p negatives j) row j (f (getD negatives j 0)) (sym row-length) (omega (arith, A .room))
         ∙ ap (λ (xs : List ℕ). overwrite xs row) (sym more))
 
     pub row-all : length negatives ≤ j → RowGives ws (capacityOf w) p negatives row ws′ row′
@@ -162,12 +84,12 @@ module _ {ws positives negatives table : List ℕ} (A : FillAsks ws positives ne
   abbrev entries : ℕ → List ℕ
   entries i = tableUpTo ws w positives negatives i
 
-  pub fill-none : Written (tableUpTo ws w positives negatives) (length positives) ws w table 0 ws w table
+  pub fill-none : Written withWanted (tableUpTo ws w positives negatives) (length positives) ws w table 0 ws w table
   unfolding rowAfterRow
   fill-none = written-none (A .decoded) refl
 
   module _ (i : ℕ) {ws′ : List ℕ} {w′ : Work} {table′ : List ℕ}
-      (L : Written (tableUpTo ws w positives negatives) (length positives) ws w table i ws′ w′ table′) where
+      (L : Written withWanted (tableUpTo ws w positives negatives) (length positives) ws w table i ws′ w′ table′) where
     table-length : i * length negatives ≡ length (entries i)
     table-length =
         sym (length-rowAfterRow (ranEntry ws (capacityOf w)) (take i positives) negatives
@@ -205,7 +127,7 @@ module _ {ws positives negatives table : List ℕ} (A : FillAsks ws positives ne
 
     pub fill-more : i < length positives → {ws″ : List ℕ} {w″ : Work} {row : List ℕ}
         → RowGives ws′ (capacityOf w′) (getD positives i 0) negatives behind ws″ row → length ws″ ≡ length ws′ → Sized w′ w″
-        → Written (tableUpTo ws w positives negatives) (length positives) ws w table (i + 1) ws″ w″
+        → Written withWanted (tableUpTo ws w positives negatives) (length positives) ws w table (i + 1) ws″ w″
         (putMid (i * length negatives) (length table′ - i * length negatives) table′ row)
     fill-more h {row = row} G words Z =
         let f = ranEntry ws (capacityOf w) in

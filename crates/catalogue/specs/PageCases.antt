@@ -1,11 +1,9 @@
 -- From the entries that runs gave to the catalogue's answer and the areas afterwards, on plain values; then the promise.
 --
--- In order: what a run says and what the engine answers; the words of an accepted file, its entries and its names; the answer with 17, and with the table filled; the promise.
--- Assumes nothing.
+-- In order: an entry by what is said; the words of an accepted file, its entries and its names; the answer with 17, and with the table filled; the promise.
 use mathlib.Core.Path.{_≡_, refl, sym, ap, _∙_, subst, subst₂}
 use mathlib.Core.Bool.{Bool, true, false}
 use mathlib.Core.List.{List, List·Memᴰ}
-use mathlib.Core.Option.{Option, none, some}
 use Prim.Native.Nat.{ℕ, _*_, _≤_, _<_}
 use native.Mathlib.Omega.{arith}
 use lib.Dec.{ltb}
@@ -15,19 +13,19 @@ use Rattle.concepts.specs.Concept.{Table}
 use Rattle.concepts.specs.RowSet.{fromList}
 use Rattle.words.specs.Words.{overwrite}
 use Rattle.decoding.specs.Decoding.{ruleKinds}
-use Rattle.rulefile.specs.Format.{Bytes, wantedRows, RuleFile, refused, reading}
+use Rattle.rulefile.specs.Format.{Bytes, wantedRows, refused, reading}
 use Rattle.rulefile.specs.Read.{LaidFor, Laid}
 use Rattle.rulefile.specs.PartLaws.{laid-placed}
 use Rattle.rulefile.specs.WantedLaws as Wanted
 use Rattle.rulefile.specs.declared.Layout.{Layout}
-use Rattle.procedure.specs.Status.{Status, unset, «open», sat, unsat, toosmall}
-use Rattle.procedure.specs.Problem.{Problem, problem}
-use Rattle.procedure.specs.Graph.{Graph, Result, reached, noPlace, outOfFuel, nodeAt}
+use Rattle.procedure.specs.Problem.{Problem}
 use Rattle.procedure.specs.Tableau.{run}
-use Rattle.procedure.specs.Example.{Example}
-use Rattle.run.specs.Run.{Lengths, capacity, shown, used, fits, can, tooLong, answerCan, answerRoot, answerResult}
+use Rattle.run.specs.Run.{Lengths, capacity, Answer, refusedFile, short, cannot, can, tooLong, undefined, fileProblem}
+use Rattle.run.specs.Said.{said, saidBy}
 use Rattle.run.proofs.Verdict.{Backs, answer-accepted, answer-backed}
+use Rattle.run.proofs.Said.{result-said}
 use Rattle.problem.specs.Decoded.{tableOf}
+use Rattle.problem.specs.Want.{withWanted}
 use Rattle.problem.specs.FileProblem.{FileDecoded}
 use Rattle.subsumption.specs.Names.{positive, negative, names, rowAfterRow}
 use Rattle.subsumption.specs.NameLaws.{rowAfterRow-same}
@@ -36,35 +34,20 @@ use Rattle.subsumption.specs.Catalogue.{Numbers, refusalAlone, numbers, areasAf
 use Rattle.subsumption.specs.Promise.{Promise}
 use Rattle.subsumption.proofs.Entry.{rowsFor, reads-rows}
 use Rattle.subsumption.proofs.Kept.{entriesOf, catalogue-refused, catalogue-accepted, promise-kept}
-use Rattle.catalogue.specs.Contracts.{Lists, entryResult, ranEntry, wantingBoth, FillGives, Answered}
+use Rattle.catalogue.specs.Contracts.{Lists, entryNumber, ranEntry, FillGives, Answered}
 use Rattle.catalogue.specs.ListedLaws.{listed-table}
 use Rattle.catalogue.specs.declared.Listed.{Listed}
 
--- ---- what a run says, and what the engine answers
+-- ---- an entry goes by what the engine's answer says
 
-module _ (f : RuleFile) (l : Lengths) where
-  can-entry : (g : Graph) (o : Option Example) → Backs f l (answerCan l (used g) o) → entryOf (answerCan l (used g) o) ≡ 0
-  unfolding answerCan entryOf
-  can-entry g none B = absurd B
-  can-entry g (some x) B = by (fits l x)
-    where
-      by : (b : Bool) → entryOf (elim b [ true ↦ can (used g) x | false ↦ tooLong x ]) ≡ 0
-      by true = refl
-      by false = refl
-
-  root-entry : (g : Graph) (v : Status) → nodeAt g 0 .status ≡ v → Backs f l (answerRoot v l (f .table) g) → entryOf (answerRoot v l (f .table) g) ≡ entryResult (reached g)
-  unfolding answerRoot entryOf entryResult
-  root-entry g sat e B = can-entry g (shown (f .table) g) B ∙ sym (rw e)
-  root-entry g «open» e B = can-entry g (shown (f .table) g) B ∙ sym (rw e)
-  root-entry g unsat e B = sym (rw e)
-  root-entry g toosmall e B = sym (rw e)
-  root-entry g unset e B = absurd B
-
-  result-entry : (r : Result) → Backs f l (answerResult l (f .table) r) → entryOf (answerResult l (f .table) r) ≡ entryResult r
-  unfolding answerResult entryOf entryResult
-  result-entry (reached g) B = root-entry g (nodeAt g 0 .status) refl B
-  result-entry (noPlace a g) B = refl
-  result-entry outOfFuel B = absurd B
+entry-said : (a : Answer) → entryOf a ≡ entryNumber (saidBy a)
+unfolding entryOf saidBy
+entry-said (refusedFile n) = refl
+entry-said (short r n) = refl
+entry-said (cannot u) = refl
+entry-said (can u x) = refl
+entry-said (tooLong x) = refl
+entry-said undefined = refl
 
 -- ---- an accepted file
 
@@ -88,18 +71,20 @@ module _ {b : Bytes} {l : Layout} (L : Laid ruleKinds b l) {ws : List ℕ} (F : 
   table-is = ap (λ (P : Problem). P .table) (F .problem-is (L .file) (L .reads))
 
   -- what a run says of two names is what the engine answers to their rows
-  entry-is : (room : Lengths) (x y : ℕ) → List·Memᴰ x (names t) → List·Memᴰ y (names t) → ranEntry ws (capacity room) (positive t x) (negative t y) ≡ entry b room t x y
+  entry-is : (room : Lengths) (x y : ℕ) → List·Memᴰ x (names t) → List·Memᴰ y (names t)
+      → ranEntry ws (capacity room) (positive t x) (negative t y) ≡ entry b room t x y
   unfolding entry
   entry-is room x y mx my =
       let f = L .file in
       let given = Wanted.wanting (rowsFor f x y) f in
       let answered = answer-accepted (rowsFor f x y) b room given (reads-rows b f (L .reads) room x y mx my) in
       let backs = subst (Backs given room) answered (answer-backed (rowsFor f x y) b room given (reads-rows b f (L .reads) room x y mx my)) in
-      ap (λ (P : Problem). entryResult (run (wantingBoth P (positive t x) (negative t y)) (capacity room))) (F .problem-is f (L .reads))
-      ∙ sym (result-entry given room (run (problem (f .table) (f .tbox) (rowsFor f x y)) (capacity room)) backs) ∙ ap entryOf (sym answered)
+      ap (λ (P : Problem). entryNumber (said (run (withWanted (fromList (rowsFor f x y)) P) (capacity room)))) (F .problem-is f (L .reads))
+      ∙ sym (ap entryOf answered ∙ entry-said _ ∙ ap entryNumber (result-said given room (run (fileProblem given) (capacity room)) backs))
 
   entries-are : (room : Lengths)
-      → rowAfterRow (λ x y. ranEntry ws (capacity room) (positive (tableOf ws) x) (negative (tableOf ws) y)) (names (tableOf ws)) (names (tableOf ws)) ≡ entriesOf b room (L .file)
+      → rowAfterRow (λ x y. ranEntry ws (capacity room) (positive (tableOf ws) x) (negative (tableOf ws) y)) (names (tableOf ws)) (names (tableOf ws))
+      ≡ entriesOf b room (L .file)
   entries-are room =
       ap (λ (u : Table). rowAfterRow (λ x y. ranEntry ws (capacity room) (positive u x) (negative u y)) (names u) (names u)) table-is
       ∙ rowAfterRow-same (λ x y. ranEntry ws (capacity room) (positive t x) (negative t y)) (entry b room t) (names t) (names t) (entry-is room)
@@ -118,7 +103,7 @@ module _ {b : Bytes} {l : Layout} (L : Laid ruleKinds b l) {ws : List ℕ} (F : 
 
       -- the answer, by whether the area is shorter than the square
       abbrev answerIf : Bool → Catalogue
-      answerIf short = elim short [ true ↦ refusedWith 17 | false ↦ listed (names t) (entriesOf b room (L .file)) ]
+      answerIf lacking = elim lacking [ true ↦ refusedWith 17 | false ↦ listed (names t) (entriesOf b room (L .file)) ]
 
       answer-by : (x : Bool) → ltb (length (before .table)) (length (names t) * length (names t)) ≡ x → catalogue b room (length (before .table)) ≡ answerIf x
       unfolding listedIn

@@ -1,4 +1,4 @@
-// The catalogue of names (02, [7]): which names are under which, by a run for each pair of names.
+// The catalogue of names (02, [7]): which names are under which, by a run of the engine's for each pair of names.
 //
 // In order: the names that are listed; the answer; what a run says that wants two rows; such answers in a row, and row after row; an accepted file; every file.
 // How the names are listed is in names.rt. Through the C convention the call is in `gumbyra_kinds`.
@@ -8,13 +8,12 @@ ghost use Rattle.rulefile.specs.Read.{Laid};
 ghost use Rattle.subsumption.specs.Catalogue.{areasOf};
 ghost use Rattle.subsumption.specs.Promise.{Promise};
 ghost use Rattle.catalogue.specs.Contracts.{EntryAsks, EntryGives, RowAsks, RowGives, FillAsks, FillGives, numbersOf, Answered};
-use conclusion::Verdict;
-use conclusion::verdict_of;
 use decoding::RULE_KINDS;
+use engine::asking::Said;
+use engine::asking::ask_wanted;
 use names::listed;
 use problem::WORDS;
 use problem::decode_file;
-use problem::want;
 use records::clear;
 use rulefile::Layout;
 use rulefile::Outcome;
@@ -64,11 +63,10 @@ fn entry(
         r (now (problem .exit)) ⌝ }
 {
     let both = [positive, negative];
-    want(problem, &both);
-    match verdict_of(problem, nodes, edges, alternatives) {
-        Verdict::Short(_) => SHORT,
-        Verdict::Cannot(_) => UNDER,
-        Verdict::Can(_) => NOT_UNDER,
+    match ask_wanted(problem, &both, nodes, edges, alternatives) {
+        Said::Short => SHORT,
+        Said::Cannot => UNDER,
+        Said::Can => NOT_UNDER,
     }
 }
 

@@ -6,12 +6,12 @@ use mathlib.Core.Bool.{Bool, true, false}
 use mathlib.Core.List.{List}
 use Prim.Native.Nat.{ℕ, _≤_}
 use lib.ListN.{length}
-use Rattle.procedure.specs.Status.{Status, unset, «open», sat, unsat, toosmall}
 use Rattle.procedure.specs.Graph.{Capacity, reached, FindsNoPlace, nodeAt}
 use Rattle.procedure.specs.Tableau.{run}
 use Rattle.procedure.specs.Example.{Example}
 use Rattle.words.specs.Sizes.{mostRecords}
 use Rattle.run.specs.Run.{Areas, lengths, shown, Used, used, Answer, short, cannot, can, tooLong, answerCan, answerResult, areasAfter}
+use Rattle.run.specs.Said.{goodRoot}
 use Rattle.records.specs.Areas.{Bytes}
 use Rattle.graph.specs.Graphs.{Work, work, graphOf, capacityOf, areaOf, Held}
 use Rattle.graph.specs.declared.Counts.{Counts}
@@ -61,14 +61,6 @@ pub record Decided (a : Answer) (before : Areas) (r : Decision) (elements links 
   pub linksAre : links ≡ areasAfter a before .links
 
 -- ---- the verdict of a run
-
--- "Root yes or open means "can"; never or small means "cannot""
-abbrev pub goodRoot : Status → Bool
-goodRoot sat = true
-goodRoot «open» = true
-goodRoot unset = false
-goodRoot unsat = false
-goodRoot toosmall = false
 
 -- the run ended with this graph, and its root says "can" or does not
 pub record EndsWith (ws : List ℕ) (w : Work) (c : Counts) (w′ : Work) (b : Bool) : Type 0 where

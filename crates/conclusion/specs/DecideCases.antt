@@ -1,7 +1,6 @@
 -- The cases from a verdict to the decision, on plain values.
 --
 -- In order: the answer by the root's status; a run without a place; "cannot"; "can": the walk, and what is shown.
--- Assumes nothing.
 use mathlib.Core.Path.{_≡_, refl, sym, ap, _∙_, subst}
 use mathlib.Core.Bool.{Bool, true, false}
 use mathlib.Core.List.{List}
@@ -15,6 +14,7 @@ use Rattle.procedure.specs.Graph.{Graph, roomFor, nodeAt}
 use Rattle.procedure.proofs.Can.{goodIf}
 use Rattle.procedure.proofs.Outcome.{finished-at, root-set}
 use Rattle.run.specs.Run.{roomIn, Areas, areasOf, Lengths, lengths, capacity, shown, used, Answer, short, cannot, answerCan, answerRoot, answerResult, areasAfter}
+use Rattle.run.specs.Said.{goodRoot}
 use Rattle.run.specs.ShortLaws.{roomFor-most}
 use Rattle.problem.specs.Decoded.{tableOf, problemOf, Decoded}
 use Rattle.problem.specs.DecodedLaws.{decoded-posed}
@@ -24,7 +24,7 @@ use Rattle.graph.specs.GraphLaws.{held-most}
 use Rattle.graph.specs.declared.Counts.{Counts}
 use Rattle.graph.specs.declared.Area.{Area}
 use Rattle.walk.specs.Contracts.{nodesEdges, WalkAsks}
-use Rattle.conclusion.specs.Contracts.{Decided, goodRoot, EndsWith, ShortOf, ShowGives, DecideGives}
+use Rattle.conclusion.specs.Contracts.{Decided, EndsWith, ShortOf, ShowGives, DecideGives}
 use Rattle.conclusion.specs.ShowCases.{used-counts}
 use Rattle.conclusion.specs.declared.Decision.{Decision}
 use Rattle.conclusion.specs.declared.Decision.the-variants.{Short, Cannot}

@@ -11,6 +11,7 @@ use Rattle.procedure.proofs.Sure.{Sure}
 use Rattle.procedure.proofs.Bare.{bare}
 use Rattle.procedure.proofs.Whole.{Ended, run-ends}
 use Rattle.words.specs.Sizes.{nodeSize}
+use Rattle.run.specs.Said.{goodRoot}
 use Rattle.problem.specs.Decoded.{problemOf, Decoded}
 use Rattle.problem.specs.DecodedLaws.{decoded-posed}
 use Rattle.records.specs.Areas.{Bytes, Fits}
@@ -25,7 +26,7 @@ use Rattle.graph.specs.declared.Area.{Area}
 use Rattle.graph.specs.declared.Step.{Step}
 use Rattle.graph.specs.declared.Step.the-variants.{Done, Full}
 use Rattle.rounds.specs.Contracts.{RunGives}
-use Rattle.conclusion.specs.Contracts.{goodRoot, EndsWith, ShortOf, VerdictGives}
+use Rattle.conclusion.specs.Contracts.{EndsWith, ShortOf, VerdictGives}
 use Rattle.conclusion.specs.declared.Verdict.{Verdict}
 use Rattle.conclusion.specs.declared.Verdict.the-variants as Is
 

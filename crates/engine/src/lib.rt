@@ -1,6 +1,7 @@
 // The engine (00, demands 1 to 3; 02, [4] and [7]): a rule file, wanted rows and five lent areas in, the answer out. Through the C convention it is called in `gumbyra` and `gumbyra_kinds`.
 //
 // In order: the answer's numbers; an accepted file; every file, with wanted rows that are given and with its own; the text of a file, likewise.
+// Runs with no example, for whoever asks often of one file, are in asking.rt.
 ghost use mathlib.Core.Path.{_≡_};
 ghost use Prim.Native.Nat.{_≤_};
 ghost use Rattle.answers.specs.Numbers.{numbersOf};
@@ -36,6 +37,8 @@ use rulefile::read_for;
 use rulefile::text;
 use rulefile::text_for;
 use rulefile::wanted_of;
+
+pub mod asking;
 
 // A refusal: "Each gives its number and zeros elsewhere".
 fn refused(n: u32) -> Answer

@@ -11,7 +11,7 @@ use native.Mathlib.Nat.{mul-suc}
 use native.Mathlib.Omega.{arith}
 use lib.Dec.{eqb}
 use lib.ListN.{length, getD, set, take, drop, length-append, length-drop}
-use lib.Seq.{sets, length-sets, set-out, length-take-le, take-all, take-length, take-suc, take-at, drop-at}
+use lib.Seq.{sets, length-sets, set-out, length-take-le, take-all, take-length, take-at, drop-at}
 use borrow.Author.Tests.{eqb-true, eqb-false, eq-eqb, ne-eqb}
 use Rattle.rulefile.specs.Format.{Bytes}
 use Rattle.words.specs.Words.{leAt, overwrite}
@@ -175,11 +175,6 @@ module _ {upTo : ℕ → Bytes} {each count : ℕ} where
       subst (λ (k : ℕ). Wrote (each * k) (upTo k) out at out′ next) e (s .wrote)
 
 -- a word, byte by byte
-pub take-more : (word : Bytes) (i : ℕ) → i < length word → take (i + 1) word ≡ take i word ++ getD word i 0 ∷ []
-take-more word i h =
-    let e : i + 1 ≡ suc i = omega arith in
-    ap (λ (k : ℕ). take k word) e ∙ take-suc word i 0 h
-
 pub wrote-word : {word out out′ : Bytes} {at next : ℕ} → Wrote (1 * length word) (take (length word) word) out at out′ next
     → Wrote (length word) word out at out′ next
 wrote-word {word} w = wrote-as w (take-length word) (omega arith)

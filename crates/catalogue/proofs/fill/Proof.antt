@@ -1,18 +1,18 @@
 -- `catalogue::fill` meets its contract: the invariant is that the first `i` rows are written.
--- Assumes nothing.
 use Prim.Native.Nat.{_-_}
 use borrow.Author.Needs.{needs}
 use native.Mathlib.Omega.{arith}
 use lib.ListN.{length}
+use Rattle.problem.specs.Want.{withWanted}
 use Rattle.graph.specs.Graphs.{work}
-use Rattle.catalogue.specs.Contracts.{Written}
+use Rattle.engine.specs.Asking.{Written}
 use Rattle.catalogue.specs.FillCases.{tableUpTo, fill-none, table-size, row-start, row-start-small, fill-asks, fill-more, fill-all}
 use Rattle.catalogue.proofs.fill.Statement.{statement}
 use Rattle.catalogue.proofs.fill.Tie as tie
 
 abbrev Inv-loop : tie.InvT-loop
 Inv-loop problem₀ positives negatives nodes₀ edges₀ alternatives₀ table₀ i₀ problem nodes edges alternatives table i =
-    Written (tableUpTo problem₀ (work nodes₀ edges₀ alternatives₀) positives negatives) (length positives)
+    Written withWanted (tableUpTo problem₀ (work nodes₀ edges₀ alternatives₀) positives negatives) (length positives)
     problem₀ (work nodes₀ edges₀ alternatives₀) table₀ i problem (work nodes edges alternatives) table
 
 abbrev μ-loop : tie.MeasureT-loop
@@ -51,6 +51,7 @@ fill-spec =
     fill-more (s .pre) _ _ (l .loop .inv) (i .loop-test .taken) (r .fill-row .ensures) (r .fill-row .kept .0)
     (record { nodes = r .fill-row .kept .1 .1 .1 .0; edges = r .fill-row .kept .1 .1 .1 .1 .0; alternatives = r .fill-row .kept .1 .1 .1 .1 .1 .0 }))
     -- the end
-    (λ c. c .before .loop .inv .words) (λ c. c .before .loop .inv .sized .nodes) (λ c. c .before .loop .inv .sized .edges) (λ c. c .before .loop .inv .sized .alternatives)
+    (λ c. c .before .loop .inv .words)
+    (λ c. c .before .loop .inv .sized .nodes) (λ c. c .before .loop .inv .sized .edges) (λ c. c .before .loop .inv .sized .alternatives)
     (λ c. let s : At tie.Start = search in table-size (s .pre) _ _ (c .before .loop .inv))
     (λ c. let s : At tie.Start = search in fill-all (s .pre) _ _ (c .before .loop .inv) (c .loop-test .left)))

@@ -1,18 +1,18 @@
 -- `catalogue::fill_row` meets its contract: the invariant is that the first `j` entries are written.
--- Assumes nothing.
 use Prim.Native.Nat.{_-_}
 use borrow.Author.Needs.{needs}
 use native.Mathlib.Omega.{arith}
 use lib.ListN.{length}
+use Rattle.problem.specs.Want.{withWanted}
 use Rattle.graph.specs.Graphs.{work}
-use Rattle.catalogue.specs.Contracts.{Written}
+use Rattle.engine.specs.Asking.{Written}
 use Rattle.catalogue.specs.FillCases.{rowUpTo, row-none, row-size, row-asks, row-more, row-all}
 use Rattle.catalogue.proofs.fill_row.Statement.{statement}
 use Rattle.catalogue.proofs.fill_row.Tie as tie
 
 abbrev Inv-loop : tie.InvT-loop
 Inv-loop problem₀ positive negatives nodes₀ edges₀ alternatives₀ row₀ j₀ problem nodes edges alternatives row j =
-    Written (rowUpTo problem₀ (work nodes₀ edges₀ alternatives₀) positive negatives) (length negatives)
+    Written withWanted (rowUpTo problem₀ (work nodes₀ edges₀ alternatives₀) positive negatives) (length negatives)
     problem₀ (work nodes₀ edges₀ alternatives₀) row₀ j problem (work nodes edges alternatives) row
 
 abbrev μ-loop : tie.MeasureT-loop
@@ -48,6 +48,7 @@ fill-row-spec =
     row-more (s .pre) _ _ (l .loop .inv) (i .loop-test .taken) (e .entry .ensures) (e .entry .kept .0)
     (record { nodes = e .entry .kept .1 .1 .1 .0; edges = e .entry .kept .1 .1 .1 .1 .0; alternatives = e .entry .kept .1 .1 .1 .1 .1 .0 }))
     -- the end
-    (λ c. c .before .loop .inv .words) (λ c. c .before .loop .inv .sized .nodes) (λ c. c .before .loop .inv .sized .edges) (λ c. c .before .loop .inv .sized .alternatives)
+    (λ c. c .before .loop .inv .words)
+    (λ c. c .before .loop .inv .sized .nodes) (λ c. c .before .loop .inv .sized .edges) (λ c. c .before .loop .inv .sized .alternatives)
     (λ c. let s : At tie.Start = search in row-size (s .pre) _ _ (c .before .loop .inv))
     (λ c. let s : At tie.Start = search in row-all (s .pre) _ _ (c .before .loop .inv) (omega arith)))

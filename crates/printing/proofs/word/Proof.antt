@@ -4,8 +4,9 @@ use Prim.Native.Nat.{ℕ, _-_}
 use native.Mathlib.Omega.{arith}
 use lib.ListN.{length, take}
 use borrow.Author.Needs.{needs}
+use Rattle.words.specs.WordLaws.{take-more}
 use Rattle.printing.specs.Printing.{Pieces}
-use Rattle.printing.specs.PrintingLaws.{wrote-size, pieces-none, pieces-more, pieces-all, take-more, wrote-word}
+use Rattle.printing.specs.PrintingLaws.{wrote-size, pieces-none, pieces-more, pieces-all, wrote-word}
 use Rattle.printing.proofs.word.Statement.{statement}
 use Rattle.printing.proofs.word.Tie as tie
 
