@@ -9,19 +9,18 @@ use mathlib.Core.Option.{Option, none, some}
 use Prim.Native.Nat.{ℕ, _+_, _*_, _≤_, _<_}
 use lib.Dec.{eqb}
 use lib.ListN.{length, getD, take, drop}
-use Rattle.concepts.specs.Lists.{range, select}
+use Rattle.concepts.specs.Lists.{Bytes, range, select}
 use Rattle.concepts.specs.Concept.{Concept, Table}
 use Rattle.concepts.specs.RowSet.{fromList}
 use Rattle.procedure.specs.Graph.{Capacity}
 use Rattle.procedure.specs.Tableau.{run}
 use Rattle.decoding.specs.RowParts.{kindOf, leftOf}
-use Rattle.rulefile.specs.Format.{Bytes}
 use Rattle.words.specs.Words.{overwrite}
 use Rattle.run.specs.Said.{Said, saysShort, saysCannot, saysCan, saysNothing, said}
 use Rattle.problem.specs.Decoded.{tableOf, problemOf, Decoded}
 use Rattle.problem.specs.Want.{MayServe, AllServe, withWanted, SameRows}
 use Rattle.subsumption.specs.Names.{placeOf, ofName, positive, negative, hasBoth, rowAfterRow}
-use Rattle.subsumption.specs.Catalogue.{Areas, lent, catalogue, Numbers, numbers, areasAfter}
+use Rattle.subsumption.specs.Catalogue.{Areas, lent, catalogue, CatalogueNumbers, numbers, areasAfter}
 use Rattle.catalogue.specs.declared.Listed.{Listed}
 use Rattle.catalogue.specs.declared.Page.{Page}
 
@@ -110,10 +109,10 @@ pub record FillGives (ws : List ℕ) (c : Capacity) (positives negatives table w
 -- ---- the answer
 
 -- the numbers that the call gives back
-abbrev pub numbersOf : Page → Numbers
+abbrev pub numbersOf : Page → CatalogueNumbers
 numbersOf p = record { refusal = p .refusal; count = p .count; names = p .names }
 
 -- an accepted file: the numbers and the areas are those of the definition
-pub record Answered (file : Bytes) (before : Areas) (r : Numbers) (after : Areas) : Type 0 where
+pub record Answered (file : Bytes) (before : Areas) (r : CatalogueNumbers) (after : Areas) : Type 0 where
   pub numbersAre : r ≡ numbers (catalogue file (lent before) (length (before .table)))
   pub areasAre : after ≡ areasAfter (catalogue file (lent before) (length (before .table))) before

@@ -22,7 +22,7 @@ use Rattle.graph.specs.Graphs.{Work, capacityOf, Sized}
 use Rattle.graph.specs.GraphLaws.{sized-places}
 use Rattle.subsumption.specs.Names.{rowAfterRow}
 use Rattle.subsumption.specs.NameLaws.{length-rowAfterRow, rowAfterRow-append, rowAfterRow-one}
-use Rattle.engine.specs.Asking.{Written}
+use Rattle.engine.specs.Asking.{PiecesWritten}
 use Rattle.engine.specs.AskingLaws.{written-none, written-more, written-all}
 use Rattle.catalogue.specs.Contracts.{entryNumber, ranEntry, EntryAsks, EntryGives, RowAsks, RowGives, FillAsks, FillGives}
 
@@ -38,11 +38,11 @@ abbrev pub rowUpTo : List ℕ → Work → ℕ → List ℕ → ℕ → List ℕ
 rowUpTo ws w p negatives j = map (ranEntry ws (capacityOf w) p) (take j negatives)
 
 module _ {ws : List ℕ} {p : ℕ} {negatives row : List ℕ} (A : RowAsks ws p negatives row) (w : Work) where
-  pub row-none : Written withWanted (rowUpTo ws w p negatives) (length negatives) ws w row 0 ws w row
+  pub row-none : PiecesWritten withWanted (rowUpTo ws w p negatives) (length negatives) ws w row 0 ws w row
   row-none = written-none (A .decoded) refl
 
   module _ (j : ℕ) {ws′ : List ℕ} {w′ : Work} {row′ : List ℕ}
-      (L : Written withWanted (rowUpTo ws w p negatives) (length negatives) ws w row j ws′ w′ row′) where
+      (L : PiecesWritten withWanted (rowUpTo ws w p negatives) (length negatives) ws w row j ws′ w′ row′) where
     row-length : j ≡ length (rowUpTo ws w p negatives j)
     row-length = sym (length-map (take j negatives) (ranEntry ws (capacityOf w) p) ∙ length-take-le j negatives (L .within))
 
@@ -58,7 +58,7 @@ module _ {ws : List ℕ} {p : ℕ} {negatives row : List ℕ} (A : RowAsks ws p 
 
     pub row-more : j < length negatives → {r : ℕ} {ws″ : List ℕ} {w″ : Work}
         → EntryGives ws′ (capacityOf w′) p (getD negatives j 0) r ws″ → length ws″ ≡ length ws′ → Sized w′ w″
-        → Written withWanted (rowUpTo ws w p negatives) (length negatives) ws w row (j + 1) ws″ w″ (set row′ j r)
+        → PiecesWritten withWanted (rowUpTo ws w p negatives) (length negatives) ws w row (j + 1) ws″ w″ (set row′ j r)
     row-more h {r} G words Z =
         let f = ranEntry ws (capacityOf w) p in
         let is : r ≡ f (getD negatives j 0) = G .entry-is ∙ (λ i. same-entries (L .same) (L .sized) i p (getD negatives j 0)) in
@@ -84,12 +84,12 @@ module _ {ws positives negatives table : List ℕ} (A : FillAsks ws positives ne
   abbrev entries : ℕ → List ℕ
   entries i = tableUpTo ws w positives negatives i
 
-  pub fill-none : Written withWanted (tableUpTo ws w positives negatives) (length positives) ws w table 0 ws w table
+  pub fill-none : PiecesWritten withWanted (tableUpTo ws w positives negatives) (length positives) ws w table 0 ws w table
   unfolding rowAfterRow
   fill-none = written-none (A .decoded) refl
 
   module _ (i : ℕ) {ws′ : List ℕ} {w′ : Work} {table′ : List ℕ}
-      (L : Written withWanted (tableUpTo ws w positives negatives) (length positives) ws w table i ws′ w′ table′) where
+      (L : PiecesWritten withWanted (tableUpTo ws w positives negatives) (length positives) ws w table i ws′ w′ table′) where
     table-length : i * length negatives ≡ length (entries i)
     table-length =
         sym (length-rowAfterRow (ranEntry ws (capacityOf w)) (take i positives) negatives
@@ -127,7 +127,7 @@ module _ {ws positives negatives table : List ℕ} (A : FillAsks ws positives ne
 
     pub fill-more : i < length positives → {ws″ : List ℕ} {w″ : Work} {row : List ℕ}
         → RowGives ws′ (capacityOf w′) (getD positives i 0) negatives behind ws″ row → length ws″ ≡ length ws′ → Sized w′ w″
-        → Written withWanted (tableUpTo ws w positives negatives) (length positives) ws w table (i + 1) ws″ w″
+        → PiecesWritten withWanted (tableUpTo ws w positives negatives) (length positives) ws w table (i + 1) ws″ w″
         (putMid (i * length negatives) (length table′ - i * length negatives) table′ row)
     fill-more h {row = row} G words Z =
         let f = ranEntry ws (capacityOf w) in

@@ -9,11 +9,12 @@ use native.Mathlib.Omega.{arith}
 use lib.Dec.{ltb}
 use lib.ListN.{length, take, replicate}
 use borrow.Author.Tests.{lt-ltb, le-ltb}
+use Rattle.concepts.specs.Lists.{Bytes}
 use Rattle.concepts.specs.Concept.{Table}
 use Rattle.concepts.specs.RowSet.{fromList}
 use Rattle.words.specs.Words.{overwrite}
 use Rattle.decoding.specs.Decoding.{ruleKinds}
-use Rattle.rulefile.specs.Format.{Bytes, wantedRows, refused, reading}
+use Rattle.rulefile.specs.Format.{wantedRows, refused, reading}
 use Rattle.rulefile.specs.Read.{LaidFor, Laid}
 use Rattle.rulefile.specs.PartLaws.{laid-placed}
 use Rattle.rulefile.specs.WantedLaws as Wanted
@@ -30,8 +31,8 @@ use Rattle.problem.specs.FileProblem.{FileDecoded}
 use Rattle.subsumption.specs.Names.{positive, negative, names, rowAfterRow}
 use Rattle.subsumption.specs.NameLaws.{rowAfterRow-same}
 use Rattle.subsumption.specs.Catalogue.{Areas, areasOf, lent, entryOf, entry, Catalogue, refusedWith, listed, listedIn, catalogue}
-use Rattle.subsumption.specs.Catalogue.{Numbers, refusalAlone, numbers, areasAfter}
-use Rattle.subsumption.specs.Promise.{Promise}
+use Rattle.subsumption.specs.Catalogue.{CatalogueNumbers, refusalAlone, numbers, areasAfter}
+use Rattle.subsumption.specs.CataloguePromise.{CataloguePromise}
 use Rattle.subsumption.proofs.Entry.{rowsFor, reads-rows}
 use Rattle.subsumption.proofs.Kept.{entriesOf, catalogue-refused, catalogue-accepted, promise-kept}
 use Rattle.catalogue.specs.Contracts.{Lists, entryNumber, ranEntry, FillGives, Answered}
@@ -113,7 +114,7 @@ module _ {b : Bytes} {l : Layout} (L : Laid ruleKinds b l) {ws : List ℕ} (F : 
       square = ap (λ (n : ℕ). n * n) (sym (count-is))
 
       -- "no area is then changed"
-      pub page-short : {r : Numbers} → r ≡ refusalAlone 17 → length (before .table) < k .count * k .count → Answered b before r before
+      pub page-short : {r : CatalogueNumbers} → r ≡ refusalAlone 17 → length (before .table) < k .count * k .count → Answered b before r before
       unfolding numbers areasAfter
       page-short hr h =
           let is = answer-by true (lt-ltb (length (before .table)) (length (names t) * length (names t)) (omega (arith, square, h))) in
@@ -123,7 +124,7 @@ module _ {b : Bytes} {l : Layout} (L : Laid ruleKinds b l) {ws : List ℕ} (F : 
           }
 
       -- the runs filled the table, and then the work areas were cleared, each of which kept its length until then
-      pub page-filled : {r : Numbers} → r ≡ record { refusal = 0; count = k .count; names = k .names } → k .count * k .count ≤ length (before .table)
+      pub page-filled : {r : CatalogueNumbers} → r ≡ record { refusal = 0; count = k .count; names = k .names } → k .count * k .count ≤ length (before .table)
           → {ws′ table′ : List ℕ} → FillGives ws (capacity room) (take (k .count) (k .positives)) (take (k .count) (k .negatives)) (before .table) ws′ table′
           → {n e a : Bytes} {n₁ e₁ a₁ : ℕ} → n ≡ replicate n₁ 0 → n₁ ≡ length (before .nodes) → e ≡ replicate e₁ 0 → e₁ ≡ length (before .edges)
           → a ≡ replicate a₁ 0 → a₁ ≡ length (before .alternatives) → Answered b before r (areasOf n e a table′)
@@ -142,10 +143,10 @@ module _ {b : Bytes} {l : Layout} (L : Laid ruleKinds b l) {ws : List ℕ} (F : 
 -- ---- the promise
 
 module _ (b : Bytes) (before : Areas) where
-  pub promised : (r : Numbers) (after : Areas) → Answered b before r after → Promise b before r after
-  promised r after A = subst₂ (λ (x : Numbers) (y : Areas). Promise b before x y) (sym (A .numbersAre)) (sym (A .areasAre)) (promise-kept b before)
+  pub promised : (r : CatalogueNumbers) (after : Areas) → Answered b before r after → CataloguePromise b before r after
+  promised r after A = subst₂ (λ (x : CatalogueNumbers) (y : Areas). CataloguePromise b before x y) (sym (A .numbersAre)) (sym (A .areasAre)) (promise-kept b before)
 
-  pub refused-answered : (n : ℕ) → reading b ≡ refused n → (r : Numbers) → r ≡ refusalAlone n → Promise b before r before
+  pub refused-answered : (n : ℕ) → reading b ≡ refused n → (r : CatalogueNumbers) → r ≡ refusalAlone n → CataloguePromise b before r before
   unfolding numbers areasAfter
   refused-answered n e r hr =
       let q = catalogue-refused b (lent before) (length (before .table)) n e in

@@ -6,7 +6,7 @@ ghost use Rattle.graph.specs.Graphs.{work, capacityOf};
 ghost use Rattle.decoding.specs.Decoding.{ruleKinds};
 ghost use Rattle.rulefile.specs.Read.{Laid};
 ghost use Rattle.subsumption.specs.Catalogue.{areasOf};
-ghost use Rattle.subsumption.specs.Promise.{Promise};
+ghost use Rattle.subsumption.specs.CataloguePromise.{CataloguePromise};
 ghost use Rattle.catalogue.specs.Contracts.{EntryAsks, EntryGives, RowAsks, RowGives, FillAsks, FillGives, numbersOf, Answered};
 use decoding::RULE_KINDS;
 use engine::asking::Said;
@@ -170,7 +170,7 @@ fn classify_accepted(
     }
 }
 
-// Which names are under which, written into the table. What is promised of the answer and of all four areas is `Promise`, for every file.
+// Which names are under which, written into the table. What is promised of the answer and of all four areas is `CataloguePromise`, for every file.
 pub fn classify(
     file: &[u8],
     nodes: &mut [u8],
@@ -178,7 +178,7 @@ pub fn classify(
     alternatives: &mut [u8],
     table: &mut [u8],
 ) -> Page
-    ensures { λ r. ⌜ Promise (now (file .entry))
+    ensures { λ r. ⌜ CataloguePromise (now (file .entry))
         (areasOf (now (nodes .entry)) (now (edges .entry)) (now (alternatives .entry)) (now (table .entry)))
         (numbersOf r)
         (areasOf (now (nodes .exit)) (now (edges .exit)) (now (alternatives .exit)) (now (table .exit))) ⌝ }

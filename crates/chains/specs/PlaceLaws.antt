@@ -6,9 +6,10 @@ use mathlib.Core.Path.{_≡_, refl, sym, subst, _∙_}
 use mathlib.Core.Logic.{_⊎_, inl, inr}
 use Prim.Native.Nat.{ℕ, _+_, _*_, _^_, _≤_, _<_}
 use native.Mathlib.Omega.{arith}
+use Rattle.concepts.specs.Lists.{Bytes}
 use Rattle.words.specs.Words.{putLe}
 use Rattle.words.specs.Sizes.{nodeSize, mostRecords}
-use Rattle.records.specs.Areas.{Bytes, Fits, field, Within, Beside}
+use Rattle.records.specs.Areas.{Fits, field, Within, Beside}
 use Rattle.records.specs.AreaLaws.{fits-before, within-put, within-beside, within-wider, within-then, beside-then, field-put}
 use Rattle.chains.specs.Chain.{Chain, Joined}
 use Rattle.chains.specs.ChainLaws.{chain-same, chain-key, chain-joined}

@@ -5,8 +5,9 @@
 use mathlib.Core.Path.{_≡_}
 use mathlib.Core.Logic.{_⊎_}
 use Prim.Native.Nat.{ℕ, _+_, _≤_}
+use Rattle.concepts.specs.Lists.{Bytes}
 use Rattle.words.specs.Sizes.{nodeSize, mostRecords}
-use Rattle.records.specs.Areas.{Bytes, Fits, field, Within, Beside}
+use Rattle.records.specs.Areas.{Fits, field, Within, Beside}
 use Rattle.chains.specs.Chain.{Chain, Joined}
 use Rattle.chains.specs.declared.Places.{Places}
 

@@ -6,13 +6,13 @@ use mathlib.Core.Bool.{Bool, true, false}
 use mathlib.Core.List.{List}
 use Prim.Native.Nat.{ℕ, _≤_}
 use lib.ListN.{length}
+use Rattle.concepts.specs.Lists.{Bytes}
 use Rattle.procedure.specs.Graph.{Capacity, reached, FindsNoPlace, nodeAt}
 use Rattle.procedure.specs.Tableau.{run}
 use Rattle.procedure.specs.Example.{Example}
 use Rattle.words.specs.Sizes.{mostRecords}
 use Rattle.run.specs.Run.{Areas, lengths, shown, Used, used, Answer, short, cannot, can, tooLong, answerCan, answerResult, areasAfter}
 use Rattle.run.specs.Said.{goodRoot}
-use Rattle.records.specs.Areas.{Bytes}
 use Rattle.graph.specs.Graphs.{Work, work, graphOf, capacityOf, areaOf, Held}
 use Rattle.graph.specs.declared.Counts.{Counts}
 use Rattle.graph.specs.declared.Area.{Area}

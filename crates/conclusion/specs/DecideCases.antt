@@ -7,6 +7,7 @@ use mathlib.Core.List.{List}
 use Prim.Native.Nat.{ℕ}
 use lib.Dec.{T}
 use lib.ListN.{length}
+use Rattle.concepts.specs.Lists.{Bytes}
 use Rattle.concepts.specs.Tests.{impossible}
 use Rattle.concepts.specs.Concept.{Table}
 use Rattle.procedure.specs.Status.{Status, unset, «open», sat, unsat, toosmall, isLive}
@@ -18,7 +19,6 @@ use Rattle.run.specs.Said.{goodRoot}
 use Rattle.run.specs.ShortLaws.{roomFor-most}
 use Rattle.problem.specs.Decoded.{tableOf, problemOf, Decoded}
 use Rattle.problem.specs.DecodedLaws.{decoded-posed}
-use Rattle.records.specs.Areas.{Bytes}
 use Rattle.graph.specs.Graphs.{work, graphOf, capacityOf, areaOf}
 use Rattle.graph.specs.GraphLaws.{held-most}
 use Rattle.graph.specs.declared.Counts.{Counts}

@@ -9,7 +9,7 @@ use native.Mathlib.Omega.{arith}
 use lib.Dec.{leb, leb→le}
 use lib.ListN.{length}
 use Rattle.concepts.specs.Tests.{and-both, from-true}
-use Rattle.concepts.specs.Lists.{range}
+use Rattle.concepts.specs.Lists.{Bytes, range}
 use Rattle.concepts.specs.ListLaws.{length-map-range, mem-range, mem-map}
 use Rattle.procedure.specs.Example.{Example}
 use Rattle.procedure.proofs.Model.{example-right}
@@ -18,7 +18,6 @@ use Rattle.words.specs.Words.{overwrite}
 use Rattle.listing.specs.Layout.{elementBytes, linkBytes}
 use Rattle.run.specs.Run.{Areas, Lengths, lengths, listing, shown, Used, used, Answer, can, tooLong, fits, answerCan, areasAfter}
 use Rattle.run.specs.ListingLaws.{length-listing, shown-some}
-use Rattle.records.specs.Areas.{Bytes}
 use Rattle.records.specs.Records.{nodeIn}
 use Rattle.graph.specs.Graphs.{Work, work, graphOf}
 use Rattle.graph.specs.GraphLaws.{held-most, held-room, count-nodes, count-edges, count-alternatives}

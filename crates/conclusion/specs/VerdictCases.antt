@@ -6,6 +6,7 @@ use mathlib.Core.Bool.{Bool, true, false}
 use mathlib.Core.List.{List}
 use Prim.Native.Nat.{ℕ, _<_}
 use native.Mathlib.Omega.{arith}
+use Rattle.concepts.specs.Lists.{Bytes}
 use Rattle.procedure.specs.Graph.{Node, Result}
 use Rattle.procedure.proofs.Sure.{Sure}
 use Rattle.procedure.proofs.Bare.{bare}
@@ -14,7 +15,7 @@ use Rattle.words.specs.Sizes.{nodeSize}
 use Rattle.run.specs.Said.{goodRoot}
 use Rattle.problem.specs.Decoded.{problemOf, Decoded}
 use Rattle.problem.specs.DecodedLaws.{decoded-posed}
-use Rattle.records.specs.Areas.{Bytes, Fits}
+use Rattle.records.specs.Areas.{Fits}
 use Rattle.records.specs.Codes.{statusOf}
 use Rattle.records.specs.Records.{IsStatus}
 use Rattle.records.specs.declared.Status.{Status}

@@ -6,7 +6,7 @@ use mathlib.Core.Path.{_≡_}
 use mathlib.Core.List.{[], _∷_}
 use Prim.Native.Nat.{ℕ, _≤_}
 use lib.ListN.{length, take}
-use Rattle.rulefile.specs.Format.{Bytes}
+use Rattle.concepts.specs.Lists.{Bytes}
 use Rattle.run.specs.Printed.{ascii, line}
 use Rattle.drafts.specs.Conversion.{Conversion, refusedWith, written, conversion}
 

@@ -10,16 +10,17 @@ use lib.Dec.{ltb}
 use lib.ListN.{length, take, drop, length-append}
 use lib.Seq.{take-at}
 use borrow.Author.Tests.{ltb-false}
+use Rattle.concepts.specs.Lists.{Bytes}
 use Rattle.concepts.specs.Tests.{or-neither}
 use Rattle.decoding.specs.Decoding.{draftKinds}
-use Rattle.rulefile.specs.Format.{Bytes, wantedRows, mostRows, RuleFile, Reading, refused, accepted}
+use Rattle.rulefile.specs.Format.{wantedRows, mostRows, RuleFile, Reading, refused, accepted}
 use Rattle.rulefile.specs.CheckLaws.{refused-positive}
 use Rattle.run.specs.Printed.{ascii, line}
 use Rattle.run.specs.ProgramLaws.{reading-take}
 use Rattle.drafts.specs.Normalize.{normalized}
 use Rattle.drafts.specs.Encoding.{fileBytes}
-use Rattle.drafts.specs.Conversion.{draftReading, Conversion, refusedWith, written, tooLarge, writtenOr, conversionOf, conversion, Numbers, numbers, areaAfter}
-use Rattle.drafts.specs.Promise.{Promise}
+use Rattle.drafts.specs.Conversion.{draftReading, Conversion, refusedWith, written, tooLarge, writtenOr, conversionOf, conversion, ConversionNumbers, numbers, areaAfter}
+use Rattle.drafts.specs.ConversionPromise.{ConversionPromise}
 use Rattle.printing.specs.Printing.{Wrote}
 use Rattle.printing.specs.PrintingLaws.{wrote-size, wrote-start}
 use Rattle.convert.specs.Output.{outputOf, output, Outputs}
@@ -48,7 +49,7 @@ conversion-sound draft room = go (draftReading draft) refl
 
 -- ---- a file is written
 
-module _ {draft before : Bytes} {r : Numbers} {after : Bytes} (P : Promise draft before r after) (room : length before ≡ 4096) where
+module _ {draft before : Bytes} {r : ConversionNumbers} {after : Bytes} (P : ConversionPromise draft before r after) (room : length before ≡ 4096) where
   pub outputs-file : r .refusal ≡ 0 → Outputs draft after (r .length)
   unfolding output outputOf numbers areaAfter
   outputs-file none =
@@ -57,9 +58,9 @@ module _ {draft before : Bytes} {r : Numbers} {after : Bytes} (P : Promise draft
     where
       go : (k : Conversion) → Sound (length before) k → r ≡ numbers k → after ≡ areaAfter k before
           → (r .length ≤ length after) × (take (r .length) after ≡ outputOf k)
-      go (refusedWith n) s e a = let z : r .refusal ≡ n = ap (λ (x : Numbers). x .refusal) e in absurd (omega arith)
+      go (refusedWith n) s e a = let z : r .refusal ≡ n = ap (λ (x : ConversionNumbers). x .refusal) e in absurd (omega arith)
       go (written b) s e a =
-          let l : r .length ≡ length b = ap (λ (x : Numbers). x .length) e in (
+          let l : r .length ≡ length b = ap (λ (x : ConversionNumbers). x .length) e in (
             omega (arith, ap length a ∙ length-append b (drop (length b) before)),
             ap (take (r .length)) a ∙ take-at b (drop (length b) before) (r .length) (sym l),
           )
@@ -77,8 +78,8 @@ module _ {draft before : Bytes} {r : Numbers} {after : Bytes} (P : Promise draft
       }
     where
       go : (k : Conversion) → r ≡ numbers k → line (ascii "REFUSED") (r .refusal ∷ []) ≡ outputOf k
-      go (refusedWith n) e = ap (λ (x : Numbers). line (ascii "REFUSED") (x .refusal ∷ [])) e
-      go (written b) e = absurd (some (ap (λ (x : Numbers). x .refusal) e))
+      go (refusedWith n) e = ap (λ (x : ConversionNumbers). line (ascii "REFUSED") (x .refusal ∷ [])) e
+      go (written b) e = absurd (some (ap (λ (x : ConversionNumbers). x .refusal) e))
 
 -- ---- how much of a draft is read
 

@@ -6,27 +6,28 @@ use mathlib.Core.Path.{_≡_}
 use mathlib.Core.List.{List, [], _∷_}
 use Prim.Native.Nat.{ℕ, _≤_}
 use lib.ListN.{length, take}
+use Rattle.concepts.specs.Lists.{Bytes}
 use Rattle.decoding.specs.Decoding.{draftKinds}
-use Rattle.rulefile.specs.Format.{Bytes, RuleFile, contents}
+use Rattle.rulefile.specs.Format.{RuleFile, contents}
 use Rattle.rulefile.specs.Read.{Laid}
 use Rattle.rulefile.specs.declared.Layout.{Layout}
 use Rattle.drafts.specs.Normalize.{normalized}
-use Rattle.drafts.specs.Conversion.{Numbers, numbers, conversion, areaAfter}
+use Rattle.drafts.specs.Conversion.{ConversionNumbers, numbers, conversion, areaAfter}
 use Rattle.normalize.specs.Words.{rowsIn, Held}
 use Rattle.converter.specs.declared.Conversion.{Conversion}
 
 -- ---- the answer's numbers
 
-abbrev pub numbersOf : Conversion → Numbers
+abbrev pub numbersOf : Conversion → ConversionNumbers
 numbersOf c = record { refusal = c .refusal; length = c .length }
 
-abbrev pub refusedNumbers : ℕ → Numbers
+abbrev pub refusedNumbers : ℕ → ConversionNumbers
 refusedNumbers n = record { refusal = n; length = 0 }
 
 -- ---- the whole
 
 -- the answer and the area are those of the definition
-pub record Converts (draft before : Bytes) (r : Numbers) (after : Bytes) : Type 0 where
+pub record Converts (draft before : Bytes) (r : ConversionNumbers) (after : Bytes) : Type 0 where
   pub numbersAre : r ≡ numbers (conversion draft (length before))
   pub areaIs : after ≡ areaAfter (conversion draft (length before)) before
 

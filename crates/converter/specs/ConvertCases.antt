@@ -11,12 +11,13 @@ use lib.Dec.{ltb}
 use lib.ListN.{length, getD, take, replicate}
 use lib.Seq.{length-take-le}
 use borrow.Author.Tests.{lt-ltb, le-ltb, ltb-false}
+use Rattle.concepts.specs.Lists.{Bytes}
 use Rattle.concepts.specs.Tests.{or-neither}
 use Rattle.concepts.specs.ListLaws.{length-map-range}
 use Rattle.concepts.specs.Begins.{begins-length}
 use Rattle.concepts.specs.Concept.{Table, conceptAt, asRule, asWanted}
 use Rattle.decoding.specs.Decoding.{draftKinds}
-use Rattle.rulefile.specs.Format.{Bytes, ruleCount, rule, rules, wantedRows, mostRows, mostRules, RuleFile, contents, refused, accepted}
+use Rattle.rulefile.specs.Format.{ruleCount, rule, rules, wantedRows, mostRows, mostRules, RuleFile, contents, refused, accepted}
 use Rattle.rulefile.specs.Read.{Laid}
 use Rattle.rulefile.specs.CheckLaws.{accepted-contents, accepted-passed}
 use Rattle.rulefile.specs.FormatLaws.{Admitted, contents-admitted}
@@ -27,8 +28,8 @@ use Rattle.drafts.specs.Normalize.{PutList, putList, inclusionRows, normalized}
 use Rattle.drafts.specs.PutListLaws.{putList-grown}
 use Rattle.drafts.specs.Encoding.{rowBytes, trailer, fileBytes}
 use Rattle.drafts.specs.EncodingLaws.{length-fileBytes}
-use Rattle.drafts.specs.Conversion.{draftReading, Conversion, Numbers, refusedWith, written, tooLarge, writtenOr, numbers, conversion, areaAfter}
-use Rattle.drafts.specs.Promise.{Promise}
+use Rattle.drafts.specs.Conversion.{draftReading, Conversion, ConversionNumbers, refusedWith, written, tooLarge, writtenOr, numbers, conversion, areaAfter}
+use Rattle.drafts.specs.ConversionPromise.{ConversionPromise}
 use Rattle.drafts.proofs.Kept.{conversion-refused, conversion-accepted, promise-kept}
 use Rattle.normalize.specs.Words.{rowIn, rowsIn}
 use Rattle.normalize.specs.WordLaws.{own-parts, length-rowsIn, conceptAt-rowsIn}
@@ -48,7 +49,7 @@ pub list-as : {b list ws : List ℕ} {n : ℕ} {memo′ ws′ places places′ :
     → ListGives b list ws n memo′ ws′ places places′ q
 list-as {b} {list} {ws} {n} {memo′} {ws′} {places} {places′} G e = subst (ListGives b list ws n memo′ ws′ places places′) e G
 
-pub numbers-as : {b before : Bytes} {r q : Numbers} {after : Bytes} → Converts b before r after → q ≡ r → Converts b before q after
+pub numbers-as : {b before : Bytes} {r q : ConversionNumbers} {after : Bytes} → Converts b before r after → q ≡ r → Converts b before q after
 numbers-as C e = record { numbersAre = e ∙ C .numbersAre; areaIs = C .areaIs }
 
 -- ---- a draft that passed the checks
@@ -250,5 +251,5 @@ refused-converts b {before} n e =
     let c = conversion-refused b (length before) n e in
     record { numbersAre = ap numbers (sym c); areaIs = ap (λ (x : Conversion). areaAfter x before) (sym c) }
 
-pub converts-promise : {b before : Bytes} {r : Numbers} {after : Bytes} → Converts b before r after → Promise b before r after
+pub converts-promise : {b before : Bytes} {r : ConversionNumbers} {after : Bytes} → Converts b before r after → ConversionPromise b before r after
 converts-promise {b} {before} C = rw (C .numbersAre, C .areaIs) (promise-kept b before)

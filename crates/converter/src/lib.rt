@@ -4,7 +4,7 @@
 ghost use mathlib.Core.Path.{_≡_};
 ghost use Rattle.decoding.specs.Decoding.{draftKinds};
 ghost use Rattle.rulefile.specs.Read.{Laid};
-ghost use Rattle.drafts.specs.Promise.{Promise};
+ghost use Rattle.drafts.specs.ConversionPromise.{ConversionPromise};
 ghost use Rattle.converter.specs.Contracts.{numbersOf, refusedNumbers, FinishAsks, Converts};
 use decoding::DRAFT_KINDS;
 use encoder::write_file;
@@ -102,9 +102,9 @@ fn convert_accepted(draft: &[u8], layout: Layout, area: &mut [u8]) -> Conversion
     }
 }
 
-// Converts a draft into a rule file, written into the area. What is promised of the answer and of the area is `Promise`, for every draft.
+// Converts a draft into a rule file, written into the area. What is promised of the answer and of the area is `ConversionPromise`, for every draft.
 pub fn convert(draft: &[u8], area: &mut [u8]) -> Conversion
-    ensures { λ r. ⌜ Promise (now (draft .entry)) (now (area .entry)) (numbersOf r) (now (area .exit)) ⌝ }
+    ensures { λ r. ⌜ ConversionPromise (now (draft .entry)) (now (area .entry)) (numbersOf r) (now (area .exit)) ⌝ }
 {
     match read(draft, DRAFT_KINDS) {
         Outcome::Refused(n) => refused(n as u32),

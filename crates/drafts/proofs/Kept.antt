@@ -9,7 +9,8 @@ use Prim.Native.Nat.{ℕ}
 use native.Mathlib.Omega.{arith}
 use lib.ListN.{length, drop}
 use lib.Seq.{take-at}
-use Rattle.rulefile.specs.Format.{Bytes, wantedRows, RuleFile, Reading, refused, accepted, reading}
+use Rattle.concepts.specs.Lists.{Bytes}
+use Rattle.rulefile.specs.Format.{wantedRows, RuleFile, Reading, refused, accepted, reading}
 use Rattle.rulefile.specs.Checks.{FileRefusal}
 use Rattle.rulefile.specs.CheckLaws.{refused-number, accepted-contents}
 use Rattle.rulefile.specs.FormatLaws.{accepted-admitted}
@@ -18,7 +19,7 @@ use Rattle.drafts.specs.Normalize.{normalized}
 use Rattle.drafts.specs.Encoding.{fileBytes}
 use Rattle.drafts.specs.EncodingLaws.{written-back}
 use Rattle.drafts.specs.Conversion.{draftReading, Conversion, refusedWith, tooLarge, writtenOr, conversionOf, conversion, numbers, areaAfter}
-use Rattle.drafts.specs.Promise.{Right, Promise}
+use Rattle.drafts.specs.Promise.{ConversionRight, ConversionPromise}
 use Rattle.drafts.proofs.Normalized.{normalized-writable, normalized-keeps}
 
 -- ---- what comes of a draft, by its reading
@@ -61,7 +62,7 @@ refused-kept draft before n e =
 
 module _ (d : RuleFile) (draft before : Bytes) (e : draftReading draft ≡ accepted d) where
   by-size : (large : Bool) → tooLarge (length before) (normalized d) ≡ large
-      → Right d before (numbers (writtenOr large (normalized d))) (areaAfter (writtenOr large (normalized d)) before)
+      → ConversionRight d before (numbers (writtenOr large (normalized d))) (areaAfter (writtenOr large (normalized d)) before)
   unfolding numbers areaAfter writtenOr
   by-size true q = record {
     tooLarge = (λ x. rw q tt, λ x. refl);
@@ -80,12 +81,12 @@ module _ (d : RuleFile) (draft before : Bytes) (e : draftReading draft ≡ accep
             (f, ap reading (take-at bytes (drop (length bytes) before) (length bytes) refl) ∙ written-back f (normalized-writable d A one (length before) q), normalized-keeps d A);
       }
 
-  right-kept : Right d before (numbers (conversion draft (length before))) (areaAfter (conversion draft (length before)) before)
+  right-kept : ConversionRight d before (numbers (conversion draft (length before))) (areaAfter (conversion draft (length before)) before)
   right-kept =
-      subst (λ (c : Conversion). Right d before (numbers c) (areaAfter c before)) (sym (conversion-accepted draft (length before) d e))
+      subst (λ (c : Conversion). ConversionRight d before (numbers c) (areaAfter c before)) (sym (conversion-accepted draft (length before) d e))
       (by-size (tooLarge (length before) (normalized d)) refl)
 
-pub promise-kept : (draft before : Bytes) → Promise draft before (numbers (conversion draft (length before))) (areaAfter (conversion draft (length before)) before)
+pub promise-kept : (draft before : Bytes) → ConversionPromise draft before (numbers (conversion draft (length before))) (areaAfter (conversion draft (length before)) before)
 promise-kept draft before = record {
   numbersAre = refl;
   areaIs = refl;

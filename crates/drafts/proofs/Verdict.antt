@@ -8,17 +8,18 @@ use mathlib.Core.List.{List, List·Memᴰ}
 use Prim.Native.Nat.{ℕ, _<_}
 use native.Mathlib.Omega.{arith}
 use lib.ListN.{length, getD, take}
+use Rattle.concepts.specs.Lists.{Bytes}
 use Rattle.concepts.specs.ListLaws.{getD-mem, mem-getD}
 use Rattle.concepts.specs.Concept.{Table}
 use Rattle.meaning.specs.Meaning.{World, finite, Holds, Obeys, Member, ObeysInclusions, Model}
-use Rattle.rulefile.specs.Format.{Bytes, RuleFile, accepted, reading}
+use Rattle.rulefile.specs.Format.{RuleFile, accepted, reading}
 use Rattle.procedure.specs.Example.{worldOf}
 use Rattle.run.specs.Run as Run
 use Rattle.run.specs.ExampleBytes.{exampleIn}
 use Rattle.run.specs.Promise as Engine
 use Rattle.run.specs.Promise.{NotShort, SaysCannot, SaysCan}
-use Rattle.drafts.specs.Conversion.{Numbers, draftReading}
-use Rattle.drafts.specs.Promise.{Same, Keeps, Promise}
+use Rattle.drafts.specs.Conversion.{ConversionNumbers, draftReading}
+use Rattle.drafts.specs.Promise.{Same, Keeps, ConversionPromise}
 use Rattle.drafts.specs.InclusionRowLaws.{obeys-inclusions}
 
 -- ---- what is said of the draft
@@ -109,7 +110,7 @@ module _ {d f : RuleFile} (K : Keeps d f) where
 -- ---- the theorem
 
 -- the draft d was converted, and the engine ran on the bytes that were written
-pub verdict-of-draft : (draft area : Bytes) (c : Numbers) (area′ : Bytes) → Promise draft area c area′
+pub verdict-of-draft : (draft area : Bytes) (c : ConversionNumbers) (area′ : Bytes) → ConversionPromise draft area c area′
     → (d : RuleFile) → draftReading draft ≡ accepted d → c .refusal ≡ 0
     → (before : Run.Areas) (r : Run.Numbers) (after : Run.Areas) → Engine.Promise (take (c .length) area′) before r after
     → (f : RuleFile) × (reading (take (c .length) area′) ≡ accepted f) × SpeaksOf d f r after

@@ -5,8 +5,9 @@ use mathlib.Core.Bool.{Bool, true, false, _||_}
 use Prim.Native.Nat.{ℕ}
 use lib.Dec.{ltb}
 use lib.ListN.{length}
+use Rattle.concepts.specs.Lists.{Bytes}
 use Rattle.decoding.specs.Decoding.{draftKinds}
-use Rattle.rulefile.specs.Format.{Bytes, mostRows, RuleFile, Reading, refused, accepted, readingOf}
+use Rattle.rulefile.specs.Format.{mostRows, RuleFile, Reading, refused, accepted, readingOf}
 use Rattle.words.specs.Words.{overwrite}
 use Rattle.drafts.specs.Normalize.{normalized}
 use Rattle.drafts.specs.Encoding.{fileBytes}
@@ -39,11 +40,11 @@ conversion draft room = conversionOf room (draftReading draft)
 
 -- ---- its numbers
 
-pub record Numbers : Type 0 where
+pub record ConversionNumbers : Type 0 where
   pub refusal : ℕ  -- 0 if a file is written
   pub length : ℕ  -- of the file, 0 with a refusal
 
-unfoldable pub numbers : Conversion → Numbers
+unfoldable pub numbers : Conversion → ConversionNumbers
 numbers (refusedWith n) = record { refusal = n; length = 0 }
 numbers (written b) = record { refusal = 0; length = length b }
 

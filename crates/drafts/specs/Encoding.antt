@@ -3,9 +3,10 @@
 use mathlib.Core.List.{[], _∷_, _++_}
 use Prim.Native.Nat.{_/_, _%_}
 use lib.ListN.{length, getD}
+use Rattle.concepts.specs.Lists.{Bytes}
 use Rattle.concepts.specs.Concept.{Concept, Table, roleOf}
 use Rattle.decoding.specs.RowParts.{kindOf, leftOf, rightOf}
-use Rattle.rulefile.specs.Format.{Bytes, RuleFile}
+use Rattle.rulefile.specs.Format.{RuleFile}
 
 -- "A row is four bytes: kind, role, left, right"
 abbrev pub rowBytes : Concept → Bytes

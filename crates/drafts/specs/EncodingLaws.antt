@@ -17,12 +17,12 @@ use lib.ListN.{length, getD, take, length-append, List·getD-append}
 use lib.Seq.{take-at, getD-append-add}
 use borrow.Author.Tests.{le-ltb, lt-leb, eq-eqb, ne-eqb}
 use Rattle.concepts.specs.Tests.{impossible, and-nothing, as-false}
-use Rattle.concepts.specs.Lists.{NoneBelow, any}
+use Rattle.concepts.specs.Lists.{Bytes, NoneBelow, any}
 use Rattle.concepts.specs.ListLaws.{getD-mem, map-range-whole, any-none, any-range-none, NoneBelow-suc}
 use Rattle.concepts.specs.Concept.{atomic, Table, conceptAt, arguments, isInclusion, NoInclusion, asArgument, asRule, asWanted}
 use Rattle.decoding.specs.Decoding.{ruleKinds, decode, malformed, conceptOf}
 use Rattle.decoding.specs.RowPartLaws.{row-parts, decode-own}
-use Rattle.rulefile.specs.Format.{Bytes, trailerByte, firstRow, rowCount, ruleCount, wantedRow, wantedRows, rowByte}
+use Rattle.rulefile.specs.Format.{trailerByte, firstRow, rowCount, ruleCount, wantedRow, wantedRows, rowByte}
 use Rattle.rulefile.specs.Format.{rule, conceptIn, RuleFile, contents, accepted, reading}
 use Rattle.rulefile.specs.Format.{mostRows, mostRules, badLength, badMark, badCounts, badPlace, badRow, badArgument}
 use Rattle.rulefile.specs.Format.{someRow, sameRow, repeated, badRule, inclusionAt, inclusionNamed, inclusionServes, checks}

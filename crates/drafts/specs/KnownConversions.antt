@@ -3,12 +3,12 @@
 use mathlib.Core.Path.{_≡_, refl}
 use mathlib.Core.List.{List, [], _∷_, map, flatten}
 use Prim.Native.Nat.{ℕ}
-use Rattle.concepts.specs.Lists.{range, select, any, first}
+use Rattle.concepts.specs.Lists.{Bytes, range, select, any, first}
 use Rattle.concepts.specs.Concept.{roleOf}
 use Rattle.concepts.specs.RowSet.{mem}
 use Rattle.decoding.specs.Decoding.{ofKind, decode}
 use Rattle.decoding.specs.RowParts.{kindOf, leftOf, rightOf}
-use Rattle.rulefile.specs.Format.{Bytes, badLength, badMark, badCounts, badPlace, badRow, badArgument, repeated, badRule, inclusionAt, inclusionNamed, inclusionServes, checks, refusalFor, readingFor}
+use Rattle.rulefile.specs.Format.{badLength, badMark, badCounts, badPlace, badRow, badArgument, repeated, badRule, inclusionAt, inclusionNamed, inclusionServes, checks, refusalFor, readingFor}
 use Rattle.rulefile.specs.Format as Format
 use Rattle.run.specs.KnownRuns.{written}
 use Rattle.drafts.specs.Normalize.{shape, sameRow, placeOf, share, putShape, putBelow, put, putList, inclusionRows, normalized}

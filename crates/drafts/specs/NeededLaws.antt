@@ -12,7 +12,7 @@ use lib.ListN.{length, length-append, List·getD-eq-default}
 use Rattle.concepts.specs.Begins.{Begins, begins-getD}
 use Rattle.concepts.specs.Concept.{Concept, atomic, Table, conceptAt, arguments, Ordered}
 use Rattle.drafts.specs.Normalize.{Sign, Shape, literal, other, unary, binary, shape, Put, put}
-use Rattle.drafts.specs.ShapeLaws.{Written, shape-written}
+use Rattle.drafts.specs.ShapeLaws.{ShapeWritten, shape-written}
 use Rattle.drafts.specs.ShareLaws.{Shared, share-gives}
 use Rattle.drafts.specs.PutLaws.{GrownStep, put-grown-induction}
 
@@ -63,9 +63,9 @@ module _ (t : Table) (ordered : Ordered t) where
   Reached s k out p = NewReached (length out) (p .rows) (p .at)
 
   reached-step : (s : Sign) (k : ℕ) (σ : Shape) → shape (conceptAt t k) s ≡ σ → GrownStep t ordered Reached s k σ
-  reached-step s k σ e = by-shape σ (subst (Written (conceptAt t k)) e (shape-written (conceptAt t k) s))
+  reached-step s k σ e = by-shape σ (subst (ShapeWritten (conceptAt t k)) e (shape-written (conceptAt t k) s))
     where
-      by-shape : (σ : Shape) → Written (conceptAt t k) σ → GrownStep t ordered Reached s k σ
+      by-shape : (σ : Shape) → ShapeWritten (conceptAt t k) σ → GrownStep t ordered Reached s k σ
       by-shape (literal c) N = λ out. shared-reached (share-gives c out)
       by-shape (other z l) N = λ out p R. R
       by-shape (unary make z l) N = λ out p G R i from b. elim (decLt i (length (p .rows))) [

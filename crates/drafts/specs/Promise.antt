@@ -9,12 +9,13 @@ use mathlib.Core.Logic.{_↔_}
 use Prim.Native.Nat.{ℕ, _≤_, _<_}
 use lib.Dec.{T}
 use lib.ListN.{length, getD, take}
+use Rattle.concepts.specs.Lists.{Bytes}
 use Rattle.concepts.specs.Begins.{Begins}
 use Rattle.concepts.specs.Concept.{Table, conceptAt, arguments, NoInclusion}
 use Rattle.meaning.specs.Meaning.{World, finite, Holds}
-use Rattle.rulefile.specs.Format.{Bytes, RuleFile, refused, accepted, reading}
+use Rattle.rulefile.specs.Format.{RuleFile, refused, accepted, reading}
 use Rattle.drafts.specs.Normalize.{inclusionRows, normalized}
-use Rattle.drafts.specs.Conversion.{draftReading, tooLarge, Numbers, numbers, conversion, areaAfter}
+use Rattle.drafts.specs.Conversion.{draftReading, tooLarge, ConversionNumbers, numbers, conversion, areaAfter}
 
 -- "rows needed by the rules .. and then by the wanted row"
 pub data Needed (f : RuleFile) : ℕ → Type 0 where
@@ -39,18 +40,18 @@ pub record Keeps (draft file : RuleFile) : Type 0 where
   pub kit : (W : World) (i : ℕ) → i < length (draft .wanted) → Same W (draft .table) (getD (draft .wanted) i 0) (file .table) (getD (file .wanted) i 0)
 
 -- an accepted draft: r are the numbers of the answer, the area held `before` and holds `after`
-pub record Right (draft : RuleFile) (before : Bytes) (r : Numbers) (after : Bytes) : Type 0 where
+pub record ConversionRight (draft : RuleFile) (before : Bytes) (r : ConversionNumbers) (after : Bytes) : Type 0 where
   -- refusal 12 exactly where the result is too large, and no other refusal
   pub tooLarge : r .refusal ≡ 12 ↔ T (tooLarge (length before) (normalized draft))
   pub noOther : (r .refusal ≡ 12 → ⊥) → r .refusal ≡ 0
   -- else the bytes written are a file of document 01, and it keeps what the draft says
   pub result : r .refusal ≡ 0 → (f : RuleFile) × (reading (take (r .length) after) ≡ accepted f) × Keeps draft f
 
-pub record Promise (draft before : Bytes) (r : Numbers) (after : Bytes) : Type 0 where
+pub record ConversionPromise (draft before : Bytes) (r : ConversionNumbers) (after : Bytes) : Type 0 where
   -- the answer's numbers and every byte of the area are those of the definition
   pub numbersAre : r ≡ numbers (conversion draft (length before))
   pub areaIs : after ≡ areaAfter (conversion draft (length before)) before
   -- a draft that check n refuses: its number, and nothing touched
   pub refusal : (n : ℕ) → draftReading draft ≡ refused n → (r ≡ record { refusal = n; length = 0 }) × (after ≡ before)
   -- a draft that passes the checks
-  pub right : (d : RuleFile) → draftReading draft ≡ accepted d → Right d before r after
+  pub right : (d : RuleFile) → draftReading draft ≡ accepted d → ConversionRight d before r after

@@ -1,7 +1,7 @@
 -- Laws of putting a row with all that it needs: its clause without a bound, and induction over it.
 --
 -- In order: the clause (`put-clause`); induction (`put-induction`); growth and settlement
--- (`Grown`, `put-grown`): what is put once is found again, with all that it needs, as the table grows; induction where growth is known
+-- (`RowsGrown`, `put-grown`): what is put once is found again, with all that it needs, as the table grows; induction where growth is known
 -- (`put-grown-induction`), and over rows that are no inclusions (`put-idle-induction`).
 -- Assumes nothing.
 use mathlib.Core.Path.{_≡_, refl, sym, ap, _∙_, subst}
@@ -85,13 +85,13 @@ module _ (t : Table) (ordered : Ordered t) where
 
   -- ---- growth and settlement
 
-  pub record Grown (s : Sign) (k : ℕ) (out : Table) (p : Put) : Type 0 where
+  pub record RowsGrown (s : Sign) (k : ℕ) (out : Table) (p : Put) : Type 0 where
     pub more : Begins out (p .rows)
     pub inside : p .at < length (p .rows)
     -- where the table has all of this already, putting the row again changes nothing and gives the same place
     pub settled : (u : Table) → Begins (p .rows) u → put t s k u ≡ stands u (p .at)
 
-  grown-step : (s : Sign) (k : ℕ) (σ : Shape) → shape (conceptAt t k) s ≡ σ → Step Grown s k σ
+  grown-step : (s : Sign) (k : ℕ) (σ : Shape) → shape (conceptAt t k) s ≡ σ → Step RowsGrown s k σ
   unfolding putShape
   grown-step s k (literal c) e = λ out.
       let S = share-gives c out in
@@ -117,8 +117,8 @@ module _ (t : Table) (ordered : Ordered t) where
             ∙ ap (λ (x : Put). share (make (p .at) (x .at)) (x .rows)) (F .settled u right) ∙ shared-settled S b;
       }
 
-  pub put-grown : (s : Sign) (k : ℕ) (out : Table) → Grown s k out (put t s k out)
-  put-grown = put-induction Grown grown-step
+  pub put-grown : (s : Sign) (k : ℕ) (out : Table) → RowsGrown s k out (put t s k out)
+  put-grown = put-induction RowsGrown grown-step
 
   -- ---- induction, where growth is known of what is put before
 
@@ -126,14 +126,14 @@ module _ (t : Table) (ordered : Ordered t) where
     abbrev pub GrownStep : Sign → ℕ → Shape → Type 0
     GrownStep s k (literal c) = (out : Table) → P s k out (share c out)
     GrownStep s k (other z l) = (out : Table) (p : Put) → P z l out p → P s k out p
-    GrownStep s k (unary make z l) = (out : Table) (p : Put) → Grown z l out p → P z l out p → P s k out (share (make (p .at)) (p .rows))
+    GrownStep s k (unary make z l) = (out : Table) (p : Put) → RowsGrown z l out p → P z l out p → P s k out (share (make (p .at)) (p .rows))
     GrownStep s k (binary make z l y r) =
-        (out : Table) (p q : Put) → Grown z l out p → P z l out p → Grown y r (p .rows) q → P y r (p .rows) q
+        (out : Table) (p q : Put) → RowsGrown z l out p → P z l out p → RowsGrown y r (p .rows) q → P y r (p .rows) q
         → P s k out (share (make (p .at) (q .at)) (q .rows))
 
     module _ (step : (s : Sign) (k : ℕ) (σ : Shape) → shape (conceptAt t k) s ≡ σ → GrownStep s k σ) where
       abbrev Both : Sign → ℕ → Table → Put → Type 0
-      Both s k out p = Grown s k out p × P s k out p
+      Both s k out p = RowsGrown s k out p × P s k out p
 
       both-step : (s : Sign) (k : ℕ) (σ : Shape) → shape (conceptAt t k) s ≡ σ → Step Both s k σ
       both-step s k (literal c) e = λ out. (grown-step s k (literal c) e out, step s k (literal c) e out)

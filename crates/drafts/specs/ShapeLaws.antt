@@ -25,13 +25,13 @@ pub record RowLike (c : Concept) (named : List ℕ) (x : Concept) : Type 0 where
   pub ranged : inRange x ≡ inRange c
   pub included : isInclusion x ≡ isInclusion c
 
-abbrev pub Written : Concept → Shape → Type 0
-Written c (literal x) = RowLike c [] x
-Written c (other s k) = Unit {0}
-Written c (unary make s k) = (i : ℕ) → RowLike c (i ∷ []) (make i)
-Written c (binary make s k z l) = (i j : ℕ) → RowLike c (i ∷ j ∷ []) (make i j)
+abbrev pub ShapeWritten : Concept → Shape → Type 0
+ShapeWritten c (literal x) = RowLike c [] x
+ShapeWritten c (other s k) = Unit {0}
+ShapeWritten c (unary make s k) = (i : ℕ) → RowLike c (i ∷ []) (make i)
+ShapeWritten c (binary make s k z l) = (i j : ℕ) → RowLike c (i ∷ j ∷ []) (make i j)
 
-shape-laws : (c : Concept) (s : Sign) → (shapeRows (shape c s) ≡ arguments c) × Written c (shape c s)
+shape-laws : (c : Concept) (s : Sign) → (shapeRows (shape c s) ≡ arguments c) × ShapeWritten c (shape c s)
 unfolding shape inRange
 shape-laws (atomic a) true = (refl, record { names = refl; normal = tt; ranged = refl; included = refl })
 shape-laws (atomic a) false = (refl, record { names = refl; normal = tt; ranged = refl; included = refl })
@@ -53,5 +53,5 @@ shape-laws (impl l r) false = (refl, λ i j. record { names = refl; normal = tt;
 pub shape-rows : (c : Concept) (s : Sign) → shapeRows (shape c s) ≡ arguments c
 shape-rows c s = shape-laws c s .0
 
-pub shape-written : (c : Concept) (s : Sign) → Written c (shape c s)
+pub shape-written : (c : Concept) (s : Sign) → ShapeWritten c (shape c s)
 shape-written c s = shape-laws c s .1

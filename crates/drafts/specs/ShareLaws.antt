@@ -15,7 +15,8 @@ use lib.ListN.{length, getD, length-append}
 use lib.Seq.{getD-append-add}
 use Rattle.concepts.specs.Tests.{and-both, and-make, as-true, from-true}
 use Rattle.concepts.specs.Lists.{range, NoneBelow}
-use Rattle.concepts.specs.ListLaws.{length-range, getD-range, least-below, first-at, first-nowhere}
+use Rattle.concepts.specs.ListLaws.{length-range, getD-range, least-below}
+use Rattle.concepts.specs.FirstLaws.{first-at, first-nowhere}
 use Rattle.concepts.specs.Begins.{Begins, begins-refl, begins-length, begins-getD}
 use Rattle.concepts.specs.Concept.{Concept, atomic, Table, conceptAt, roleOf}
 use Rattle.decoding.specs.RowParts.{kindOf, leftOf, rightOf}

@@ -17,7 +17,7 @@ use Rattle.concepts.specs.Concept.{Concept, atomic, Table, conceptAt, arguments
 use Rattle.decoding.specs.RowParts.{inRange}
 use Rattle.drafts.specs.Normalize.{Sign, Shape, literal, other, unary, binary, shape, sameRow, Put, share, put}
 use Rattle.drafts.specs.Sound.{Idle, Sound}
-use Rattle.drafts.specs.ShapeLaws.{RowLike, Written, shape-written}
+use Rattle.drafts.specs.ShapeLaws.{RowLike, ShapeWritten, shape-written}
 use Rattle.drafts.specs.ShareLaws.{equalAt, share-gives, conceptAt-last}
 use Rattle.drafts.specs.PutLaws.{GrownStep, put-idle-induction}
 
@@ -93,7 +93,7 @@ module _ (t : Table) (ordered : Ordered t) (idle : Idle t) (ranged : (k : ℕ) �
   Keeps s k out p = Sound out → Sound (p .rows) × NoInclusion (p .rows) (p .at)
 
   sound-step : (s : Sign) (k : ℕ) (σ : Shape) → NoInclusion t k → shape (conceptAt t k) s ≡ σ → GrownStep t ordered Keeps s k σ
-  sound-step s k σ n e = by-shape σ (subst (Written (conceptAt t k)) e (shape-written (conceptAt t k) s))
+  sound-step s k σ n e = by-shape σ (subst (ShapeWritten (conceptAt t k)) e (shape-written (conceptAt t k) s))
     where
       one : (u : Table) {i j : ℕ} → Nameable u i → List·Memᴰ j (i ∷ []) → Nameable u j
       one u h m = subst (Nameable u) (sym (List·Memᴰ·eq-of-singleton m)) h
@@ -102,7 +102,7 @@ module _ (t : Table) (ordered : Ordered t) (idle : Idle t) (ranged : (k : ℕ) �
           → ((l : ℕ) → List·Memᴰ l named → Nameable out l) → Sound (share c out .rows) × NoInclusion (share c out .rows) (share c out .at)
       share-keeps c out S R lower = (share-sound c out S R (ranged k) n lower, share-idle c out R n)
 
-      by-shape : (σ : Shape) → Written (conceptAt t k) σ → GrownStep t ordered Keeps s k σ
+      by-shape : (σ : Shape) → ShapeWritten (conceptAt t k) σ → GrownStep t ordered Keeps s k σ
       by-shape (literal c) R = λ out S. share-keeps c out S R (λ l m. absurd (List·Memᴰ·not-nil m))
       by-shape (other z l) R = λ out p K. K
       by-shape (unary make z l) R = λ out p G K S.

@@ -8,7 +8,8 @@ use mathlib.Core.List.{List, [], _∷_, _++_}
 use Prim.Native.Nat.{ℕ, zero, suc, _+_, _*_, _/_, _%_, _≤_, _<_}
 use lib.ListN.{length, getD}
 use lib.Seq.{sets}
-use Rattle.rulefile.specs.Format.{Bytes, mostRows, mostRules}
+use Rattle.concepts.specs.Lists.{Bytes}
+use Rattle.rulefile.specs.Format.{mostRows, mostRules}
 
 -- ---- the bytes
 

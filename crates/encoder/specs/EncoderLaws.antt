@@ -10,8 +10,8 @@ use native.Mathlib.Numerals.{add-one}
 use native.Mathlib.Omega.{arith}
 use lib.ListN.{length, getD, take, drop, set, length-append}
 use lib.Seq.{sets, length-sets, sets-eq, take-suc, take-all, take-length, length-take-le}
+use Rattle.concepts.specs.Lists.{Bytes}
 use Rattle.concepts.specs.Concept.{Concept, atomic, Table, conceptAt}
-use Rattle.rulefile.specs.Format.{Bytes}
 use Rattle.words.specs.Words.{overwrite}
 use Rattle.drafts.specs.Encoding.{rowBytes, tableBytes}
 use Rattle.encoder.specs.Encoder.{wordBytes, wordsBytes, trailerBytes, partsBytes, Stored}

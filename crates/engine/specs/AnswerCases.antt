@@ -6,7 +6,8 @@ use mathlib.Core.Path.{_≡_, refl, sym, ap, _∙_, subst, subst₂}
 use mathlib.Core.List.{List}
 use Prim.Native.Nat.{ℕ, _≤_}
 use lib.ListN.{length, replicate}
-use Rattle.rulefile.specs.Format.{Bytes, wantedRows, refused, readingFor}
+use Rattle.concepts.specs.Lists.{Bytes}
+use Rattle.rulefile.specs.Format.{wantedRows, refused, readingFor}
 use Rattle.decoding.specs.Decoding.{ruleKinds}
 use Rattle.rulefile.specs.Read.{LaidFor}
 use Rattle.rulefile.specs.ReadLaws.{reading-own}

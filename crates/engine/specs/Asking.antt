@@ -30,7 +30,7 @@ pub record Asked (other : RowSet → Problem → Problem) (ws rows : List ℕ) (
   pub poses : Poses (other (fromList rows) (problemOf ws)) ws′
 
 -- i of so many pieces are written, where `upTo i` is what the first i are; the words are those of the same rows, and the work areas as long as before
-pub record Written (other : RowSet → Problem → Problem) (upTo : ℕ → List ℕ) (count : ℕ) (ws : List ℕ) (w : Work) (area : List ℕ)
+pub record PiecesWritten (other : RowSet → Problem → Problem) (upTo : ℕ → List ℕ) (count : ℕ) (ws : List ℕ) (w : Work) (area : List ℕ)
     (i : ℕ) (ws′ : List ℕ) (w′ : Work) (area′ : List ℕ) : Type 0 where
   pub within : i ≤ count
   pub words : length ws′ ≡ length ws

@@ -12,10 +12,10 @@ use Rattle.problem.specs.Want.{SameRows}
 use Rattle.problem.specs.WantLaws.{same-refl, same-then}
 use Rattle.graph.specs.Graphs.{Work, Sized}
 use Rattle.graph.specs.GraphLaws.{sized-refl, sized-trans}
-use Rattle.engine.specs.Asking.{Written}
+use Rattle.engine.specs.Asking.{PiecesWritten}
 
 module _ {other : RowSet → Problem → Problem} {upTo : ℕ → List ℕ} {count : ℕ} {ws : List ℕ} {w : Work} {area : List ℕ} where
-  pub written-none : Decoded ws → upTo 0 ≡ [] → Written other upTo count ws w area 0 ws w area
+  pub written-none : Decoded ws → upTo 0 ≡ [] → PiecesWritten other upTo count ws w area 0 ws w area
   written-none ok nil = record {
     within = omega arith;
     words = refl;
@@ -24,10 +24,10 @@ module _ {other : RowSet → Problem → Problem} {upTo : ℕ → List ℕ} {cou
     here = ap (λ (xs : List ℕ). overwrite xs area) (sym nil);
   }
 
-  module _ {i : ℕ} {ws′ : List ℕ} {w′ : Work} {area′ : List ℕ} (L : Written other upTo count ws w area i ws′ w′ area′) where
+  module _ {i : ℕ} {ws′ : List ℕ} {w′ : Work} {area′ : List ℕ} (L : PiecesWritten other upTo count ws w area i ws′ w′ area′) where
     pub written-more : i < count → {ws″ : List ℕ} {w″ : Work} {area″ : List ℕ} → SameRows other ws′ ws″ → length ws″ ≡ length ws′ → Sized w′ w″
         → area″ ≡ overwrite (upTo (i + 1)) area
-        → Written other upTo count ws w area (i + 1) ws″ w″ area″
+        → PiecesWritten other upTo count ws w area (i + 1) ws″ w″ area″
     written-more h S words Z e = record {
       within = omega arith;
       words = words ∙ L .words;

@@ -5,7 +5,7 @@
 use mathlib.Core.Path.{_≡_}
 use mathlib.Core.List.{List}
 use Prim.Native.Nat.{ℕ}
-use Rattle.rulefile.specs.Format.{Bytes}
+use Rattle.concepts.specs.Lists.{Bytes}
 use Rattle.run.specs.Run.{Areas, lengths, Numbers, verdictWith, shortWith, tooLongWith, numbers, answerFor, areasAfter}
 use Rattle.graph.specs.Graphs.{areaOf}
 use Rattle.conclusion.specs.Contracts.{usedOf}

@@ -19,7 +19,7 @@ use Rattle.concepts.specs.Lowest.{Lowest, Rest}
 use Rattle.words.specs.Words.{putLe}
 use Rattle.words.specs.Sizes.{setWords, setSize, width}
 use Rattle.rowset.specs.Joined.{wordAt, maskAt, putWords}
-use Rattle.rowset.specs.ByteLaws.{Bytes, set-mem}
+use Rattle.rowset.specs.ByteLaws.{AreBytes, set-mem}
 use Rattle.rowset.specs.WriteLaws.{put-words}
 use Rattle.rowset.specs.NextLaws.{Words, row-of}
 use Rattle.rowset.specs.WordOf.{wordOf, word-fit, mem-words, joined-words}
@@ -204,7 +204,7 @@ literals-word {ws} {a} {n} MA MN words {j} h {names} {passed} {failed} PA PN =
 
 -- ---- all words
 
-pub literals-written : {ws : List ℕ} → Decoded ws → (b : List ℕ) → Bytes b → (at : ℕ) {names : ℕ} → names ≡ wordAt b at 0
+pub literals-written : {ws : List ℕ} → Decoded ws → (b : List ℕ) → AreBytes b → (at : ℕ) {names : ℕ} → names ≡ wordAt b at 0
     → putWords b at (wordOf (literalRows (tableOf ws) names)) setWords ≡ putLe b at setSize (literalRows (tableOf ws) (setOf b at))
 literals-written {ws} D b bytes at {names} e =
     put-words setWords b at (wordOf rows) (word-fit rows)

@@ -6,6 +6,7 @@ use mathlib.Core.List.{List}
 use mathlib.Core.Logic.{_≢_}
 use mathlib.Core.Option.{Option, some}
 use Prim.Native.Nat.{ℕ, zero, suc, _*_, _<_}
+use Rattle.concepts.specs.Lists.{Bytes}
 use Rattle.concepts.specs.RowSet.{RowSet, insert, union}
 use Rattle.procedure.specs.SetTests.{lowestConj, lowestDisj}
 use Rattle.procedure.specs.SetTestLaws.{lowestConj-lt, lowestDisj-lt}
@@ -15,7 +16,6 @@ use Rattle.procedure.specs.TableauLaws.{expand-conj}
 use Rattle.procedure.proofs.ExpandFit.{conj-puts, disj-puts, kit-puts}
 use Rattle.problem.specs.Decoded.{tableOf, problemOf, rulesOf, wantedOf}
 use Rattle.words.specs.Sizes.{nodeSize, width}
-use Rattle.records.specs.Areas.{Bytes}
 use Rattle.records.specs.Records.{nodeOf, IsNode}
 use Rattle.records.specs.declared.Node as D
 use Rattle.rowset.specs.SetOf.{setOf}

@@ -1,4 +1,4 @@
--- The cases of a whole expansion, on plain values: the children (`WithChildren`), the judgement (`Judged`), and then a node that is merely open, or the updates.
+-- The cases of a whole expansion, on plain values: the children (`WithChildren`), the judgement (`WithStatus`), and then a node that is merely open, or the updates.
 -- Assumes nothing.
 use mathlib.Core.Path.{_≡_, refl, sym, ap, _∙_, subst}
 use mathlib.Core.Bool.{true}
@@ -6,6 +6,7 @@ use mathlib.Core.List.{List}
 use Prim.Native.Nat.{ℕ, suc, _<_}
 use native.Mathlib.Omega.{arith}
 use lib.ListN.{length}
+use Rattle.concepts.specs.Lists.{Bytes}
 use Rattle.concepts.specs.Tests.{from-true}
 use Rattle.concepts.specs.RowSetLaws.{missing-all}
 use Rattle.procedure.specs.Status.{«open», isOpen}
@@ -18,7 +19,7 @@ use Rattle.procedure.proofs.Fit.{Fit, JudgeFit}
 use Rattle.procedure.proofs.ExpandFit.{judge-fit, judged-fit, open-unmoved}
 use Rattle.words.specs.Sizes.{nodeSize}
 use Rattle.problem.specs.Decoded.{tableOf, problemOf}
-use Rattle.records.specs.Areas.{Bytes, Fits}
+use Rattle.records.specs.Areas.{Fits}
 use Rattle.graph.specs.Graphs.{Work, work, graphOf, capacityOf, Held, Operation, Refines}
 use Rattle.graph.specs.GraphLaws.{sized-refl, sized-places, count-nodes, held-node}
 use Rattle.graph.specs.RefineLaws.{refines-answer, refines-as, refines-held, refines-then, refines-short, refines-none}
@@ -48,7 +49,7 @@ module _ {ws : List ℕ} {w : Work} {c : Counts} {x : ℕ} (A : ExpandAsks ws w 
     pub gives : Refines w c (Done d) w₁ children
 
   -- and the node is judged
-  pub record Judged (w₂ : Work) (b : Counts) : Type 0 where
+  pub record WithStatus (w₂ : Work) (b : Counts) : Type 0 where
     pub gives : Refines w c (Done b) w₂ (λ k u. children k u >>= judging k)
     pub fit : Fit (problemOf ws) (capacityOf w) (graphOf w₂ b)
     pub there : x < nodeCount (graphOf w₂ b)
@@ -90,7 +91,7 @@ module _ {ws : List ℕ} {w : Work} {c : Counts} {x : ℕ} {A : ExpandAsks ws w 
     pub judge-short : {p : Area} → r ≡ Full p → ExpandGives ws w c x (Full p) w₂
     judge-short er = refines-as (refines-short (both er) (λ u. updating A) sized-refl) (expand-is (P A) (cap A) x (g A))
 
-    pub judge-done : {b : Counts} → r ≡ Done b → Judged A w₂ b
+    pub judge-done : {b : Counts} → r ≡ Done b → WithStatus A w₂ b
     judge-done {b} er =
         let q = judged er .meets ∙ ap (λ (k : Capacity). judging A k h) places in
         let (f, l) = judged-fit (P A) (cap A) (g A) x (A .still) (A .there) (A .fresh) h (sym (K .gives .meets)) (graphOf w₂ b) (sym q) in
@@ -103,7 +104,7 @@ module _ {ws : List ℕ} {w : Work} {c : Counts} {x : ℕ} {A : ExpandAsks ws w 
 
 -- ---- after the judgement
 
-module _ {ws : List ℕ} {w : Work} {c : Counts} {x : ℕ} {A : ExpandAsks ws w c x} {n₂ e₂ a₂ : Bytes} {b : Counts} (J : Judged A (work n₂ e₂ a₂) b) where
+module _ {ws : List ℕ} {w : Work} {c : Counts} {x : ℕ} {A : ExpandAsks ws w c x} {n₂ e₂ a₂ : Bytes} {b : Counts} (J : WithStatus A (work n₂ e₂ a₂) b) where
   abbrev w₂ : Work
   w₂ = work n₂ e₂ a₂
 

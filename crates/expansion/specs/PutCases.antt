@@ -4,6 +4,7 @@ use mathlib.Core.List.{List}
 use Prim.Native.Nat.{ℕ, suc, _+_, _*_, _≤_, _<_}
 use native.Mathlib.Omega.{arith}
 use lib.ListN.{length}
+use Rattle.concepts.specs.Lists.{Bytes}
 use Rattle.concepts.specs.RowSet.{RowSet}
 use Rattle.concepts.specs.RowSetLaws.{missing-all}
 use Rattle.procedure.specs.Problem.{Problem}
@@ -15,7 +16,7 @@ use Rattle.procedure.proofs.ExpandFit as E
 use Rattle.words.specs.Sizes.{nodeSize, setSize, width}
 use Rattle.problem.specs.Decoded.{tableOf, problemOf}
 use Rattle.problem.specs.DecodedLaws.{length-tableOf}
-use Rattle.records.specs.Areas.{Bytes, Fits}
+use Rattle.records.specs.Areas.{Fits}
 use Rattle.records.specs.Records.{nodeOf, IsNode}
 use Rattle.records.specs.declared.Node as D
 use Rattle.rowset.specs.SetOf.{setOf}

@@ -1,6 +1,6 @@
 -- The successors of a state, put one after the other: a turn of the loop, on plain values.
 --
--- In order: the loop's invariant (`SuccessorsPut`); its start; the end; the next row (`Chosen`), and its put.
+-- In order: the loop's invariant (`SuccessorsPut`); its start; the end; the next row (`SuccessorFound`), and its put.
 use mathlib.Core.Path.{_≡_, refl, sym, ap, _∙_, subst}
 use mathlib.Core.List.{List, [], _∷_, List·Memᴰ, List·Memᴰ·head, List·Memᴰ·tail}
 use mathlib.Core.Logic.{_≢_}
@@ -74,7 +74,7 @@ module _ {ws : List ℕ} {w : Work} {c : Counts} {x : ℕ} {w′ : Work} {d : Co
   h = graphOf w′ d
 
   -- the next existential row
-  pub record Chosen (row role argument : ℕ) : Type 0 where
+  pub record SuccessorFound (row role argument : ℕ) : Type 0 where
     pub from : k ≤ row
     pub below : row < countOf ws
     pub here : existsFrom (tableOf ws) s k ≡ (role, argument) ∷ existsFrom (tableOf ws) s (row + 1)
@@ -106,7 +106,7 @@ module _ {ws : List ℕ} {w : Work} {c : Counts} {x : ℕ} {w′ : Work} {d : Co
         let all : Course (step ws x s) (existentials (tableOf ws) s) w c [] w′ d = rw none at (T .course) in
         refines-as (course-end all) whole
 
-    pub turn-next : {row role argument : ℕ} → o ≡ Exist.At row role argument → Chosen row role argument
+    pub turn-next : {row role argument : ℕ} → o ≡ Exist.At row role argument → SuccessorFound row role argument
     unfolding NextExist
     turn-next eo =
         let F = subst (λ (o : Exist). NextExist (tableOf ws) s k o) eo (next-is o q E eq) in
@@ -115,7 +115,7 @@ module _ {ws : List ℕ} {w : Work} {c : Counts} {x : ℕ} {w′ : Work} {d : Co
 -- ---- the next row
 
 module _ {ws : List ℕ} {w : Work} {c : Counts} {x : ℕ} {w′ : Work} {d : Counts} {k : ℕ} {T : SuccessorsPut ws w c x w′ d k}
-    {row role argument : ℕ} (C : Chosen T row role argument) where
+    {row role argument : ℕ} (C : SuccessorFound T row role argument) where
   pub turn-row : row + 1 ≤ width
   turn-row = omega (arith, C .below, A T .decoded .rows .few)
 

@@ -1,6 +1,6 @@
 -- Laws of Graphs: a step that adds a record, with its place in the chains.
 --
--- In order: a choice by a test; a node more; an edge more; an alternative more. Each has a law for a record that finds its place, and one for none.
+-- In order: a node more; an edge more; an alternative more. Each has a law for a record that finds its place, and one for none.
 use mathlib.Core.Path.{_≡_, refl, sym, ap, _∙_}
 use mathlib.Core.Bool.{Bool, true, false}
 use mathlib.Core.List.{List, [], _∷_}
@@ -8,13 +8,14 @@ use Prim.Native.Nat.{ℕ, _+_, _≤_, _<_}
 use native.Mathlib.Decide.{decLt}
 use native.Mathlib.Omega.{arith}
 use borrow.Author.Tests.{lt-ltb, le-ltb}
-use lib.Dec.{T-not, ltb}
+use lib.Dec.{ltb}
 use lib.ListN.{length, length-append}
+use Rattle.concepts.specs.Lists.{Bytes}
 use Rattle.concepts.specs.RowSet.{RowSet}
-use Rattle.concepts.specs.Tests.{impossible, by-test, from-true, from-false}
+use Rattle.concepts.specs.Tests.{impossible, picks-first, picks-second}
 use Rattle.procedure.specs.Graph as G
 use Rattle.words.specs.Sizes.{nodeSize, edgeSize, alternativeSize}
-use Rattle.records.specs.Areas.{Bytes, roomOf, recordsIn, Stored}
+use Rattle.records.specs.Areas.{roomOf, recordsIn, Stored}
 use Rattle.records.specs.AreaLaws.{records-append, records-same, stored-then, within-beside, within-wider, within-then, beside-wider, beside-then}
 use Rattle.records.specs.Layout.{nodeChains, alternativesAt, nodeFree, edgeChains, edgeFree}
 use Rattle.records.specs.Records.{nodeIn, NodeWritten, edgeIn, EdgeWritten, alternativeOf, alternativeIn, AlternativeWritten}
@@ -27,15 +28,6 @@ use Rattle.graph.specs.GraphLaws.{grown-refl, sized-refl, count-nodes, c
 use Rattle.graph.specs.declared.Counts.{Counts}
 use Rattle.graph.specs.declared.Area.the-variants.{Nodes, Edges, Alternatives}
 use Rattle.graph.specs.declared.Step.the-variants.{Done, Full}
-
--- ---- a choice by a test
-
-module _ {A : Type 0} (x y : A) where
-  pub picks-first : (b : Bool) → b ≡ true → elim b as (λ _. A) [ true ↦ x | false ↦ y ] ≡ x
-  picks-first b e = by-test (λ (z : A). z ≡ x) b x y (λ _. refl) (λ t. absurd (T-not b t (from-true b e)))
-
-  pub picks-second : (b : Bool) → b ≡ false → elim b as (λ _. A) [ true ↦ x | false ↦ y ] ≡ y
-  picks-second b e = by-test (λ (z : A). z ≡ y) b x y (λ t. absurd (T-not b (from-false b e) t)) (λ _. refl)
 
 -- ---- a node more
 

@@ -1,7 +1,7 @@
 -- The three chains of the work areas: the edges from a node (its children), the edges to it (its parents), the alternatives of a state. Laws are in ChainsLaws.
 use Prim.Native.Nat.{_+_}
+use Rattle.concepts.specs.Lists.{Bytes}
 use Rattle.words.specs.Sizes.{edgeSize, alternativeSize}
-use Rattle.records.specs.Areas.{Bytes}
 use Rattle.records.specs.Layout.{childrenAt, parentsAt, alternativesAt, fromAt, toAt, nextChildAt, nextParentAt, ownerAt, nextAlternativeAt}
 use Rattle.chains.specs.Places.{ChainIn}
 use Rattle.chains.specs.declared.Places.{Places}

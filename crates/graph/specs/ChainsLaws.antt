@@ -5,8 +5,9 @@ use mathlib.Core.Path.{_≡_, _∙_}
 use mathlib.Core.Logic.{inl, inr}
 use Prim.Native.Nat.{ℕ, _+_, _≤_, _<_}
 use native.Mathlib.Omega.{arith}
+use Rattle.concepts.specs.Lists.{Bytes}
 use Rattle.words.specs.Sizes.{nodeSize, edgeSize, alternativeSize, mostRecords}
-use Rattle.records.specs.Areas.{Bytes, Within, Beside}
+use Rattle.records.specs.Areas.{Within, Beside}
 use Rattle.records.specs.AreaLaws.{within-beside, within-wider, within-then, beside-refl, beside-wider, beside-then}
 use Rattle.records.specs.Layout.{nodeExtent, nodeChains, childrenAt, parentsAt, alternativesAt, nodeFree, edgeExtent, toAt, edgeChains, alternativeExtent}
 use Rattle.chains.specs.ChainLaws.{chain-empty}

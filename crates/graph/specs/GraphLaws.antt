@@ -1,31 +1,32 @@
 -- Laws of Graphs.
 --
--- In order: counts and lengths (`Grown`, `Sized`); areas that hold a graph; looking at the graph; storing a node.
+-- In order: counts and lengths (`CountsGrown`, `Sized`); areas that hold a graph; looking at the graph; storing a node.
 -- Not here: a step that adds a record, which is in AddLaws; searches, and the records of a node, which are in SearchLaws.
 use mathlib.Core.Path.{_≡_, refl, sym, ap, _∙_}
 use mathlib.Core.List.{List}
 use Prim.Native.Nat.{ℕ, _+_, _*_, _≤_, _<_}
 use native.Mathlib.Omega.{arith}
 use lib.ListN.{length}
+use Rattle.concepts.specs.Lists.{Bytes}
 use Rattle.procedure.specs.Graph as G
 use Rattle.words.specs.Sizes.{nodeSize, edgeSize, alternativeSize, setSize, mostRecords}
 use Rattle.rowset.specs.SetOf.{setOf}
-use Rattle.records.specs.Areas.{Bytes, roomOf, Fits, recordsIn, Stored, Beside}
+use Rattle.records.specs.Areas.{roomOf, Fits, recordsIn, Stored, Beside}
 use Rattle.records.specs.AreaLaws.{length-records, getD-records, records-set, within-beside}
 use Rattle.records.specs.Layout.{nodeChains, edgeExtent, edgeChains}
 use Rattle.records.specs.Records.{nodeIn, NodeWritten, edgeIn, alternativeIn}
 use Rattle.records.specs.RecordLaws.{node-rows}
 use Rattle.graph.specs.Chains.{noRecords}
 use Rattle.graph.specs.ChainsLaws.{chained-none, chained-nodes, chained-edges}
-use Rattle.graph.specs.Graphs.{Work, work, graphOf, capacityOf, Held, Grown, Sized, ChangesNodes}
+use Rattle.graph.specs.Graphs.{Work, work, graphOf, capacityOf, Held, CountsGrown, Sized, ChangesNodes}
 use Rattle.graph.specs.declared.Counts.{Counts}
 
 -- ---- counts that grow, areas that keep their lengths
 
-pub grown-refl : {c : Counts} → Grown c c
+pub grown-refl : {c : Counts} → CountsGrown c c
 grown-refl = record { nodes = omega arith; edges = omega arith; alternatives = omega arith }
 
-pub grown-trans : {c d b : Counts} → Grown c d → Grown d b → Grown c b
+pub grown-trans : {c d b : Counts} → CountsGrown c d → CountsGrown d b → CountsGrown c b
 grown-trans p q = record {
   nodes = omega (arith, p .nodes, q .nodes);
   edges = omega (arith, p .edges, q .edges);

@@ -8,12 +8,12 @@ use mathlib.Core.Option.{Option, none, some}
 use Prim.Native.Nat.{ℕ, _+_, _*_, _≤_, _<_}
 use lib.Dec.{eqb, ltb}
 use lib.ListN.{length, getD}
-use Rattle.concepts.specs.Lists.{NoneBelow}
+use Rattle.concepts.specs.Lists.{Bytes, NoneBelow}
 use Rattle.concepts.specs.RowSet.{RowSet, empty}
 use Rattle.procedure.specs.Graph as G
 use Rattle.words.specs.Sizes.{nodeSize, edgeSize, alternativeSize}
 use Rattle.rowset.specs.SetOf.{setOf}
-use Rattle.records.specs.Areas.{Bytes, roomOf, recordsIn, chosenFrom}
+use Rattle.records.specs.Areas.{roomOf, recordsIn, chosenFrom}
 use Rattle.records.specs.Records.{nodeIn, edgeIn, alternativeIn}
 use Rattle.chains.specs.Chain.{Behind}
 use Rattle.graph.specs.Chains.{Chained}
@@ -63,7 +63,7 @@ pub record Held (w : Work) (c : Counts) : Type 0 where
   pub chains : Chained (w .nodes) (w .edges) (w .alternatives) c
 
 -- no count is less than before
-pub record Grown (c d : Counts) : Type 0 where
+pub record CountsGrown (c d : Counts) : Type 0 where
   pub nodes : c .nodes ≤ d .nodes
   pub edges : c .edges ≤ d .edges
   pub alternatives : c .alternatives ≤ d .alternatives
@@ -87,7 +87,7 @@ Meets (Done c) w r = G.reached (graphOf w c) ≡ r
 Meets (Full p) w r = G.FindsNoPlace (areaOf p) r
 
 abbrev pub HeldAfter : Step → Counts → Work → Type 0
-HeldAfter (Done d) c w = Held w d × Grown c d
+HeldAfter (Done d) c w = Held w d × CountsGrown c d
 HeldAfter (Full p) c w = Unit {0}
 
 -- a step of the definitions, in areas that hold so many records
@@ -114,10 +114,10 @@ WithNodes n c P = (e a : Bytes) → Held (work n e a) c → P (graphOf (work n e
 
 -- of the graph that these nodes and edges have with counts c, P holds; and so with these alternatives. By now the areas may hold more
 abbrev pub WithEdges : Bytes → Bytes → Counts → (G.Graph → Type 0) → Type 0
-WithEdges n e c P = (a : Bytes) (d : Counts) → Held (work n e a) d → Grown c d → P (graphOf (work n e a) c)
+WithEdges n e c P = (a : Bytes) (d : Counts) → Held (work n e a) d → CountsGrown c d → P (graphOf (work n e a) c)
 
 abbrev pub WithAlternatives : Bytes → Bytes → Counts → (G.Graph → Type 0) → Type 0
-WithAlternatives n a c P = (e : Bytes) (d : Counts) → Held (work n e a) d → Grown c d → P (graphOf (work n e a) c)
+WithAlternatives n a c P = (e : Bytes) (d : Counts) → Held (work n e a) d → CountsGrown c d → P (graphOf (work n e a) c)
 
 -- a step from counts c made the nodes n′ of n, and answered r, as f does with the graph
 abbrev pub AddsNode : Bytes → Bytes → Counts → Step → Operation → Type 0

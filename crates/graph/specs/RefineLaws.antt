@@ -5,7 +5,7 @@ use mathlib.Core.Path.{_≡_, refl, sym, ap, _∙_, subst}
 use mathlib.Core.List.{List, [], _∷_}
 use Rattle.procedure.specs.Graph as G
 use Rattle.procedure.specs.TableauLaws.{bind-reached, short-bind, short-as, forEach-none, forEach-cons}
-use Rattle.graph.specs.Graphs.{Work, graphOf, capacityOf, Held, Grown, Sized, Meets, HeldAfter, Operation, Refines, Changes}
+use Rattle.graph.specs.Graphs.{Work, graphOf, capacityOf, Held, CountsGrown, Sized, Meets, HeldAfter, Operation, Refines, Changes}
 use Rattle.graph.specs.GraphLaws.{grown-refl, grown-trans, sized-refl, sized-trans, sized-places}
 use Rattle.graph.specs.declared.Counts.{Counts}
 use Rattle.graph.specs.declared.Area.{Area}
@@ -13,7 +13,7 @@ use Rattle.graph.specs.declared.Step.{Step}
 use Rattle.graph.specs.declared.Step.the-variants.{Done, Full}
 
 -- what a step holds, as what an earlier one holds further on
-held-further : {c d : Counts} (r : Step) (w : Work) → Grown c d → HeldAfter r d w → HeldAfter r c w
+held-further : {c d : Counts} (r : Step) (w : Work) → CountsGrown c d → HeldAfter r d w → HeldAfter r c w
 held-further (Done b) w p h = (h .0, grown-trans p (h .1))
 held-further (Full x) w p h = tt
 
@@ -83,7 +83,7 @@ refines-changes {h = h} R C = refines-then R (λ g k u. G.reached (h u)) (change
 module _ {A : Type 0} (step : G.Capacity → A → G.Graph → G.Result) (all : List A) where
   pub record Course (w : Work) (c : Counts) (rest : List A) (w′ : Work) (d : Counts) : Type 0 where
     pub held : Held w′ d
-    pub grown : Grown c d
+    pub grown : CountsGrown c d
     pub sized : Sized w w′
     pub left : G.forEach (step (capacityOf w)) rest (graphOf w′ d) ≡ G.forEach (step (capacityOf w)) all (graphOf w c)
 

@@ -9,14 +9,15 @@ use Prim.Native.Nat.{ℕ, suc, _+_, _*_, _≤_, _<_}
 use native.Mathlib.Omega.{arith}
 use lib.Dec.{eqb, ltb}
 use lib.ListN.{getD}
-use Rattle.concepts.specs.Tests.{and-nothing, and-all}
-use Rattle.concepts.specs.Lists.{range, NoneBelow, any, select}
-use Rattle.concepts.specs.ListLaws.{getD-range, length-range, first-at, first-nowhere}
+use Rattle.concepts.specs.Tests.{and-nothing, and-all, picks-first, picks-second}
+use Rattle.concepts.specs.Lists.{Bytes, range, NoneBelow, any, select}
+use Rattle.concepts.specs.ListLaws.{getD-range, length-range}
+use Rattle.concepts.specs.FirstLaws.{first-at, first-nowhere}
 use Rattle.concepts.specs.RowSet.{RowSet}
 use Rattle.procedure.specs.Status.{isUnset}
 use Rattle.procedure.specs.Graph as G
 use Rattle.words.specs.Sizes.{nodeSize, edgeSize, alternativeSize}
-use Rattle.records.specs.Areas.{Bytes, recordsIn, chosenFrom}
+use Rattle.records.specs.Areas.{recordsIn, chosenFrom}
 use Rattle.records.specs.AreaLaws.{getD-records, records-kept, chosen-found, chosen-end}
 use Rattle.rowset.specs.SetOf.{setOf}
 use Rattle.records.specs.Records.{nodeIn, isUnsetAt, edgeIn, alternativeIn}
@@ -26,11 +27,10 @@ use Rattle.chains.specs.ChainLaws.{chain-follows, first-found, first-end, behin
 use Rattle.chains.specs.Places.{keyIn, nextIn, firstIn, ChainIn}
 use Rattle.chains.specs.declared.Places.{Places}
 use Rattle.graph.specs.Chains.{childPlaces, parentPlaces, alternativePlaces}
-use Rattle.graph.specs.Graphs.{Work, work, graphOf, Held, Grown, isStateWith, childrenFrom, parentsFrom, alternativesFrom}
+use Rattle.graph.specs.Graphs.{Work, work, graphOf, Held, CountsGrown, isStateWith, childrenFrom, parentsFrom, alternativesFrom}
 use Rattle.graph.specs.Graphs.{noEdge, noAlternative, AmongChildren, AmongParents, AmongAlternatives, Walks, IsNext, IsNextAlternative}
 use Rattle.graph.specs.Graphs.{WithAlternatives, Owns}
 use Rattle.graph.specs.GraphLaws.{grown-refl, count-nodes, count-edges, count-alternatives, graph-node}
-use Rattle.graph.specs.AddLaws.{picks-first, picks-second}
 use Rattle.graph.specs.declared.Counts.{Counts}
 use Rattle.graph.specs.declared.Next.{Next}
 use Rattle.graph.specs.declared.Next.the-variants as Node
@@ -121,7 +121,7 @@ unfolding alternativesFrom chosenFrom G.alternativesOf
 alternatives-all g x = refl
 
 -- records that were there stay where they are: the areas w′ with counts d hold what those of w with counts c held, and more
-module _ (w w′ : Work) {c d : Counts} (grown : Grown c d) where
+module _ (w w′ : Work) {c d : Counts} (grown : CountsGrown c d) where
   pub edges-kept : (more : List G.Edge) → graphOf w′ d .edges ≡ graphOf w c .edges ++ more → graphOf w′ c .edges ≡ graphOf w c .edges
   unfolding graphOf
   edges-kept more q = records-kept edgeIn (w′ .edges) (c .edges) (d .edges) (graphOf w c .edges) more (count-edges w c) (grown .edges) q
@@ -211,7 +211,7 @@ module _ {A B : Type 0} (p : Places) (read : Bytes → ℕ → A) (keyOf : A →
     along-end q =
         chosen-end (λ d. eqb (keyOf d) x) worth read b count from count (λ j. eqb (keyIn p b j) x) tests (first-end along (C .few) count few l q) (omega arith)
 
-module _ {n e a : Bytes} {c d : Counts} (H : Held (work n e a) d) (grown : Grown c d) where
+module _ {n e a : Bytes} {c d : Counts} (H : Held (work n e a) d) (grown : CountsGrown c d) where
   -- the graph with counts c
   abbrev g : G.Graph
   g = graphOf (work n e a) c

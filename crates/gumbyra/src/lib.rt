@@ -42,7 +42,7 @@ pub extern "C" fn gumbyra_text(file: &[u8]) -> usize
 // The rule file that the draft becomes, written into the area: `converter::convert`.
 #[no_mangle]
 pub extern "C" fn gumbyra_convert(draft: &[u8], area: &mut [u8]) -> Conversion
-    ensures { λ r. ⌜ Drafts.Promise (now (draft .entry)) (now (area .entry)) (Converter.numbersOf r) (now (area .exit)) ⌝ }
+    ensures { λ r. ⌜ Drafts.ConversionPromise (now (draft .entry)) (now (area .entry)) (Converter.numbersOf r) (now (area .exit)) ⌝ }
 {
     converter::convert(draft, area)
 }

@@ -11,7 +11,7 @@ ghost use Rattle.answers.specs.Numbers as Answers;
 ghost use Rattle.run.specs.Run as Run;
 ghost use Rattle.run.specs.Promise.{PromiseFor};
 ghost use Rattle.subsumption.specs.Catalogue.{areasOf};
-ghost use Rattle.subsumption.specs.Promise.{Promise};
+ghost use Rattle.subsumption.specs.CataloguePromise.{CataloguePromise};
 ghost use Rattle.catalogue.specs.Contracts.{numbersOf};
 use answers::Answer;
 use catalogue::Page;
@@ -53,7 +53,7 @@ pub extern "C" fn gumbyra_catalogue(
     alternatives: &mut [u8],
     table: &mut [u8],
 ) -> Page
-    ensures { λ r. ⌜ Promise (now (file .entry))
+    ensures { λ r. ⌜ CataloguePromise (now (file .entry))
         (areasOf (now (nodes .entry)) (now (edges .entry)) (now (alternatives .entry)) (now (table .entry)))
         (numbersOf r)
         (areasOf (now (nodes .exit)) (now (edges .exit)) (now (alternatives .exit)) (now (table .exit))) ⌝ }

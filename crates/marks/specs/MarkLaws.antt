@@ -7,10 +7,11 @@ use mathlib.Core.Logic.{inl, inr}
 use Prim.Native.Nat.{ℕ, _+_, _*_, _≤_, _<_}
 use native.Mathlib.Decide.{ℕ-discrete}
 use native.Mathlib.Omega.{arith}
+use Rattle.concepts.specs.Lists.{Bytes}
 use Rattle.words.specs.Words.{putLe}
 use Rattle.words.specs.Fields.{Field, Apart}
 use Rattle.words.specs.Sizes.{nodeSize, edgeSize}
-use Rattle.records.specs.Areas.{Bytes, roomOf, Fits, field, Stored, Within}
+use Rattle.records.specs.Areas.{roomOf, Fits, field, Stored, Within}
 use Rattle.records.specs.Layout.{nodeExtent, numberAt, placedAt, nodeChains, edgeExtent, markFromAt, markRoleAt, markToAt, edgeChains}
 use Rattle.records.specs.AreaLaws.{within-put, within-fields, field-put, holds-put, within-beside, beside-refl, beside-wider, beside-then}
 use Rattle.marks.specs.Marks.{numberIn, stateIn, roleLinkIn}

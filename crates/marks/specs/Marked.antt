@@ -2,8 +2,9 @@
 -- Assumes nothing.
 use mathlib.Core.Path.{_≡_}
 use Prim.Native.Nat.{ℕ, _<_}
+use Rattle.concepts.specs.Lists.{Bytes}
 use Rattle.meaning.specs.Given.{RoleLink}
-use Rattle.records.specs.Areas.{Bytes, Stored}
+use Rattle.records.specs.Areas.{Stored}
 use Rattle.marks.specs.Marks.{NodesMarked, EdgesMarked, numberIn, stateIn, roleLinkIn}
 
 -- nodes n became n′: state y has the number v

@@ -4,11 +4,11 @@
 -- In order: where marks may stand; a state's number, an element's state; a link; the example that they hold.
 use mathlib.Core.List.{map}
 use Prim.Native.Nat.{ℕ}
-use Rattle.concepts.specs.Lists.{range}
+use Rattle.concepts.specs.Lists.{Bytes, range}
 use Rattle.meaning.specs.Given.{RoleLink}
 use Rattle.procedure.specs.Example.{Example}
 use Rattle.words.specs.Sizes.{nodeSize, edgeSize}
-use Rattle.records.specs.Areas.{Bytes, field, Beside}
+use Rattle.records.specs.Areas.{field, Beside}
 use Rattle.records.specs.Layout.{nodeExtent, numberAt, placedAt, nodeChains, edgeExtent, markFromAt, markRoleAt, markToAt, edgeChains}
 use Rattle.records.specs.Records.{nodeIn}
 use Rattle.marks.specs.declared.LinkMark.{LinkMark}

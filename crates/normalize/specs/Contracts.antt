@@ -5,10 +5,11 @@ use mathlib.Core.Path.{_≡_}
 use mathlib.Core.List.{List, List·Memᴰ}
 use Prim.Native.Nat.{ℕ, _≤_, _<_}
 use lib.ListN.{length, getD, take}
+use Rattle.concepts.specs.Lists.{Bytes}
 use Rattle.concepts.specs.Begins.{Begins}
 use Rattle.concepts.specs.Concept.{Table, NoInclusion}
 use Rattle.decoding.specs.Decoding.{draftKinds}
-use Rattle.rulefile.specs.Format.{Bytes, rowCount, wantedRows, mostRows}
+use Rattle.rulefile.specs.Format.{rowCount, wantedRows, mostRows}
 use Rattle.rulefile.specs.Checks.{PassedAll}
 use Rattle.drafts.specs.Normalize as Normalize
 use Rattle.drafts.specs.Normalize.{Sign, stands, share, put, PutList, putList, inclusionRows}

@@ -13,12 +13,12 @@ use lib.ListN.{length, getD, set, take}
 use lib.Seq.{take-suc, take-all}
 use borrow.Author.Tests.{eq-eqb, ne-eqb}
 use Rattle.concepts.specs.Tests.{as-false, from-true, from-false}
-use Rattle.concepts.specs.Lists.{range, select}
+use Rattle.concepts.specs.Lists.{Bytes, range, select}
 use Rattle.concepts.specs.ListLaws.{mem-getD, none-any-range, select-append, select-pass, select-fail, select-out}
 use Rattle.concepts.specs.Concept.{Concept, atomic, inclusion, Table, conceptAt, isInclusion}
 use Rattle.decoding.specs.RowParts.{ofParts}
 use Rattle.decoding.specs.RowPartLaws.{parts-own}
-use Rattle.rulefile.specs.Format.{Bytes, rowCount, rowByte, inclusionAt, someInclusion}
+use Rattle.rulefile.specs.Format.{rowCount, rowByte, inclusionAt, someInclusion}
 use Rattle.rulefile.specs.ReadLaws as Reader
 use Rattle.drafts.specs.Normalize.{inclusionRows}
 use Rattle.normalize.specs.Words.{rowsIn}

@@ -10,10 +10,11 @@ use native.Mathlib.Decide.{ℕ-discrete}
 use native.Mathlib.Omega.{arith}
 use lib.ListN.{length, getD, set, replicate, length-set, length-append, getD-replicate}
 use lib.Seq.{getD-set-same, getD-set-other}
+use Rattle.concepts.specs.Lists.{Bytes}
 use Rattle.concepts.specs.Begins.{Begins, begins-refl, begins-trans, begins-length}
 use Rattle.concepts.specs.Concept.{Concept, Table, conceptAt, arguments}
 use Rattle.decoding.specs.RowParts.{ofParts}
-use Rattle.rulefile.specs.Format.{Bytes, rowCount, mostRows}
+use Rattle.rulefile.specs.Format.{rowCount, mostRows}
 use Rattle.drafts.specs.Normalize as Normalize
 use Rattle.drafts.specs.Normalize.{Sign, other, stands, share, putShape, put}
 use Rattle.drafts.specs.ShareLaws.{placeOf-at, placeOf-nowhere, share-found, share-new, share-gives}

@@ -10,13 +10,14 @@ use native.Mathlib.Omega.{arith}
 use lib.Dec.{T, eqb, eqb→eq}
 use lib.ListN.{length}
 use borrow.Author.Tests.{le-leb, lt-leb, eq-eqb, ne-eqb}
+use Rattle.concepts.specs.Lists.{Bytes}
 use Rattle.concepts.specs.Tests.{impossible, or-cases, from-true}
 use Rattle.concepts.specs.ListLaws.{length-map-range}
 use Rattle.concepts.specs.Concept.{Concept, atomic, negated, conj, disj, univ, exist, inclusion, neg, impl, conceptAt, roleOf, Ordered, isInclusion, NoInclusion, asArgument}
 use Rattle.decoding.specs.Decoding.{draftKinds}
 use Rattle.decoding.specs.RowParts.{kindOf, leftOf, rightOf, ofParts}
 use Rattle.decoding.specs.RowPartLaws.{Parts}
-use Rattle.rulefile.specs.Format.{Bytes, rowCount, wantedRows, rowByte, conceptIn}
+use Rattle.rulefile.specs.Format.{rowCount, wantedRows, rowByte, conceptIn}
 use Rattle.rulefile.specs.Checks.{Parted}
 use Rattle.rulefile.specs.CheckLaws.{parted}
 use Rattle.rulefile.specs.FormatLaws.{contents-parts, contents-admitted}

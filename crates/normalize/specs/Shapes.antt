@@ -6,10 +6,11 @@ use mathlib.Core.Bool.{not, cond, _||_}
 use mathlib.Core.Logic.{_⊎_}
 use Prim.Native.Nat.{ℕ, _+_, _*_}
 use lib.Dec.{eqb, leb}
+use Rattle.concepts.specs.Lists.{Bytes}
 use Rattle.concepts.specs.Concept.{Table, conceptAt}
 use Rattle.decoding.specs.Decoding.{draftKinds}
 use Rattle.decoding.specs.RowParts.{ofParts}
-use Rattle.rulefile.specs.Format.{Bytes, mostRows, contents}
+use Rattle.rulefile.specs.Format.{mostRows, contents}
 use Rattle.drafts.specs.Normalize as Normalize
 use Rattle.drafts.specs.Normalize.{Sign, literal, other, unary, binary, shape}
 use Rattle.normalize.specs.declared.Shape.{Shape}

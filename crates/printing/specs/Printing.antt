@@ -7,7 +7,7 @@ use mathlib.Core.Logic.{_≢_}
 use Prim.Native.Nat.{ℕ, _+_, _*_, _^_, _≤_, _<_}
 use lib.ListN.{length, take}
 use lib.Seq.{sets}
-use Rattle.rulefile.specs.Format.{Bytes}
+use Rattle.concepts.specs.Lists.{Bytes}
 use Rattle.words.specs.Words.{overwrite}
 use Rattle.words.specs.Sizes.{setSize}
 use Rattle.run.specs.Run.{Numbers}

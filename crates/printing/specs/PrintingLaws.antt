@@ -13,7 +13,7 @@ use lib.Dec.{eqb}
 use lib.ListN.{length, getD, set, take, drop, length-append, length-drop}
 use lib.Seq.{sets, length-sets, set-out, length-take-le, take-all, take-length, take-at, drop-at}
 use borrow.Author.Tests.{eqb-true, eqb-false, eq-eqb, ne-eqb}
-use Rattle.rulefile.specs.Format.{Bytes}
+use Rattle.concepts.specs.Lists.{Bytes}
 use Rattle.words.specs.Words.{leAt, overwrite}
 use Rattle.words.specs.Sizes.{setSize}
 use Rattle.listing.specs.Layout.{linkAt}

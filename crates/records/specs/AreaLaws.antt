@@ -13,13 +13,13 @@ use native.Mathlib.Decide.{ℕ-discrete, decLt}
 use native.Mathlib.Omega.{arith}
 use lib.ListN.{length, getD, set, take, drop, length-set, length-append, List·getD-append}
 use lib.Seq.{take-append-le, take-all, getD-set-same, getD-set-other, getD-at, ext-getD, drop-cons}
-use Rattle.concepts.specs.Lists.{select}
+use Rattle.concepts.specs.Lists.{Bytes, select}
 use Rattle.concepts.specs.ListLaws.{length-map-range, getD-map-range, take-map-range}
 use Rattle.words.specs.Words.{putLe}
 use Rattle.words.specs.WordLaws.{length-putLe, leAt-same, leAt-putLe, below-putLe, above-putLe}
-use Rattle.words.specs.Fields.{Field, putFields, Holds, Apart}
+use Rattle.words.specs.Fields.{Field, putFields, HoldsFields, Apart}
 use Rattle.words.specs.FieldLaws.{length-putFields, below-putFields, above-putFields, holds-putFields}
-use Rattle.records.specs.Areas.{Bytes, roomOf, Fits, field, recordsIn, Stored, Within, Beside, Written, FirstAt, chosenFrom}
+use Rattle.records.specs.Areas.{roomOf, Fits, field, recordsIn, Stored, Within, Beside, Written, FirstAt, chosenFrom}
 
 -- ---- the room of an area
 
@@ -189,8 +189,8 @@ module _ {A : Type 0} (size : ℕ) (read : Bytes → ℕ → A) (local : (b c : 
 
 -- what is written in the fields of a record stands there
 pub holds-put : (size : ℕ) (b c : Bytes) (x lo hi : ℕ) (fs : List Field) → hi ≤ size → c ≡ putFields b (size * x) fs → Apart lo hi fs → size * x + size ≤ length b
-    → Holds c (size * x) fs
-holds-put size b c x lo hi fs m e s h = subst (λ (k : Bytes). Holds k (size * x) fs) (sym e) (holds-putFields b (size * x) lo hi fs s (omega arith))
+    → HoldsFields c (size * x) fs
+holds-put size b c x lo hi fs m e s h = subst (λ (k : Bytes). HoldsFields k (size * x) fs) (sym e) (holds-putFields b (size * x) lo hi fs s (omega arith))
 
 -- ---- the elements that pass, from a place on
 

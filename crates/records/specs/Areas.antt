@@ -8,12 +8,9 @@ use mathlib.Core.List.{List, map}
 use mathlib.Core.Logic.{_≢_, _⊎_}
 use Prim.Native.Nat.{ℕ, _+_, _*_, _≤_, _<_}
 use lib.ListN.{length, drop}
-use Rattle.concepts.specs.Lists.{range, select}
+use Rattle.concepts.specs.Lists.{Bytes, range, select}
 use Rattle.words.specs.Words.{leAt}
 use Rattle.words.specs.Sizes.{mostRecords, recordsLent}
-
-abbrev pub Bytes : Type 0
-Bytes = List ℕ
 
 -- how many records of a size an area holds: "whole records count, and at most 4,096 of each" (01, Areas)
 abbrev pub roomOf : ℕ → Bytes → ℕ

@@ -5,6 +5,7 @@ use mathlib.Core.List.{List, [], _∷_}
 use Prim.Native.Nat.{ℕ, _+_, _*_, _^_, _≤_, _<_}
 use native.Mathlib.Omega.{arith}
 use borrow.Author.Needs.{needs}
+use Rattle.concepts.specs.Lists.{Bytes}
 use Rattle.concepts.specs.RowSet.{RowSet}
 use Rattle.procedure.specs.Graph as G
 use Rattle.words.specs.Words.{leAt, putLe}
@@ -13,7 +14,7 @@ use Rattle.words.specs.Sizes.{nodeSize, edgeSize, alternativeSize, setSize}
 use Rattle.rowset.specs.SetOf.{setOf}
 use Rattle.records.specs.Codes.{statusOf, statusCode, status-back, statusCode-small, flag-back, flagCode-small}
 use Rattle.records.specs.Codes.{linkOf, linkKind, linkNumber, link-back, linkKind-small}
-use Rattle.records.specs.Areas.{Bytes, Fits, field, Beside}
+use Rattle.records.specs.Areas.{Fits, field, Beside}
 use Rattle.records.specs.AreaLaws.{Same, field-same, field-other, written-put, holds-put}
 use Rattle.records.specs.Layout.{statusAt, isStateAt, pstAt, prlAt, linkKindAt, linkNumberAt, nodeExtent}
 use Rattle.records.specs.Layout.{fromAt, toAt, edgeExtent, ownerAt, alternativeExtent}

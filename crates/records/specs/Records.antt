@@ -6,6 +6,7 @@ use mathlib.Core.Path.{_≡_}
 use mathlib.Core.Bool.{Bool}
 use mathlib.Core.List.{List, [], _∷_}
 use Prim.Native.Nat.{ℕ, _*_}
+use Rattle.concepts.specs.Lists.{Bytes}
 use Rattle.concepts.specs.RowSet.{RowSet}
 use Rattle.procedure.specs.Status.{isUnset}
 use Rattle.procedure.specs.Graph as G
@@ -13,7 +14,7 @@ use Rattle.words.specs.Fields.{Field}
 use Rattle.words.specs.Sizes.{nodeSize, edgeSize, alternativeSize, setSize}
 use Rattle.rowset.specs.SetOf.{setOf}
 use Rattle.records.specs.Codes.{statusOf, statusCode, statusIn, flagCode, flagIn, linkOf, linkKind, linkNumber, linkIn}
-use Rattle.records.specs.Areas.{Bytes, field, Written}
+use Rattle.records.specs.Areas.{field, Written}
 use Rattle.records.specs.Layout.{statusAt, isStateAt, pstAt, prlAt, linkKindAt, linkNumberAt, nodeExtent}
 use Rattle.records.specs.Layout.{fromAt, toAt, edgeExtent, ownerAt, alternativeExtent}
 use Rattle.records.specs.declared.Status.{Status}

@@ -3,7 +3,7 @@
 use mathlib.Core.Path.{_≡_}
 use Prim.Native.Nat.{ℕ, _≤_}
 use lib.ListN.{length, take, drop}
-use Rattle.rulefile.specs.Format.{Bytes}
+use Rattle.concepts.specs.Lists.{Bytes}
 use Rattle.run.specs.Program.{programText}
 
 -- the text area held `text` and now holds `text′`: its first so many bytes are what the program prints for the file, the others are as they were

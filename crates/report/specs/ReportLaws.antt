@@ -5,7 +5,8 @@ use mathlib.Core.Path.{_≡_, sym, ap, ap₂, subst, _∙_}
 use Prim.Native.Nat.{ℕ, _+_, _*_, _≤_}
 use native.Mathlib.Omega.{arith}
 use lib.ListN.{length}
-use Rattle.rulefile.specs.Format.{Bytes, wantedRows}
+use Rattle.concepts.specs.Lists.{Bytes}
+use Rattle.rulefile.specs.Format.{wantedRows}
 use Rattle.run.specs.Run.{Areas, Lengths, lengths, Numbers}
 use Rattle.run.specs.RunLaws.{Room, answer-room}
 use Rattle.run.specs.Promise.{Promise}

@@ -1,14 +1,14 @@
 -- The rounds of a run: a turn of the loop, on plain values.
 --
 -- In order: the root, loaded; the loop's invariant (`RoundsDone`); its start; the end, by the root's status or for want of a node without status;
--- the node to expand (`Fresh`), and its expansion.
+-- the node to expand (`NextToExpand`), and its expansion.
 use mathlib.Core.Path.{_≡_, refl, sym, ap, _∙_, subst}
 use mathlib.Core.Bool.{Bool, true, false, not}
 use mathlib.Core.List.{List}
 use mathlib.Core.Option.{some}
 use Prim.Native.Nat.{ℕ, zero, suc, _+_, _-_, _≤_, _<_}
 use native.Mathlib.Omega.{arith}
-use Rattle.concepts.specs.Lists.{NoneBelow}
+use Rattle.concepts.specs.Lists.{Bytes, NoneBelow}
 use Rattle.procedure.specs.Status.{unset, isUnset, isLive}
 use Rattle.procedure.specs.StatusLaws.{is-unset}
 use Rattle.procedure.specs.Problem.{Problem}
@@ -20,10 +20,10 @@ use Rattle.procedure.proofs.Measure.{count-le, withAStatus}
 use Rattle.procedure.proofs.ExpandFit.{Still, still-after, status-stays}
 use Rattle.words.specs.Sizes.{nodeSize}
 use Rattle.problem.specs.Decoded.{problemOf}
-use Rattle.records.specs.Areas.{Bytes, roomOf, Fits}
+use Rattle.records.specs.Areas.{roomOf, Fits}
 use Rattle.records.specs.Codes.{statusOf}
 use Rattle.records.specs.Records.{nodeIn, IsStatus, isUnsetAt}
-use Rattle.graph.specs.Graphs.{Work, work, graphOf, capacityOf, Held, Grown, Sized, WithNodes, foundOf, PassedOver}
+use Rattle.graph.specs.Graphs.{Work, work, graphOf, capacityOf, Held, CountsGrown, Sized, WithNodes, foundOf, PassedOver}
 use Rattle.graph.specs.GraphLaws.{grown-refl, grown-trans, sized-refl, sized-trans, sized-places, count-nodes, graph-node, held-node}
 use Rattle.graph.specs.RefineLaws.{refines-answer}
 use Rattle.graph.specs.declared.Counts.{Counts}
@@ -53,7 +53,7 @@ root-live s hs hb hv = record { status = ap isLive (sym hs) ∙ sym hb ∙ hv }
 pub record RoundsDone (ws : List ℕ) (w : Work) (c : Counts) (w′ : Work) (d : Counts) (from : ℕ) : Type 0 where
   pub asks : RoundsAsks ws w c
   pub held : Held w′ d
-  pub grown : Grown c d
+  pub grown : CountsGrown c d
   pub sized : Sized w w′
   pub place : from ≤ d .nodes
   pub passed : NoneBelow (isUnsetAt (w′ .nodes)) from
@@ -93,7 +93,7 @@ module _ {ws : List ℕ} {w : Work} {c : Counts} {n′ e′ a′ : Bytes} {d : C
   h = graphOf (work n′ e′ a′) d
 
   -- the root is live, and x is the lowest node without status
-  pub record Fresh (x : ℕ) : Type 0 where
+  pub record NextToExpand (x : ℕ) : Type 0 where
     pub live : isLive (nodeAt h 0 .status) ≡ true
     pub found : lowestUnset h ≡ some x
     pub passed : NoneBelow (isUnsetAt n′) x
@@ -130,14 +130,14 @@ module _ {ws : List ℕ} {w : Work} {c : Counts} {n′ e′ a′ : Bytes} {d : C
     pub turn-done : v ≡ Found.Nothing → RoundsGives ws w c (Done d) (work n′ e′ a′)
     turn-done ev = ended (loop-done P cap (fueled .0) h (live L) (sym (W .0 e′ a′ (T .held)) ∙ ap foundOf ev))
 
-    pub turn-fresh : {x : ℕ} → v ≡ Found.At x → Fresh x
+    pub turn-fresh : {x : ℕ} → v ≡ Found.At x → NextToExpand x
     turn-fresh ev =
         record { live = live L; found = sym (W .0 e′ a′ (T .held)) ∙ ap foundOf ev; passed = subst (λ (v : FoundNode). PassedOver v (isUnsetAt n′)) ev (W .1) }
 
 -- ---- an expansion
 
 module _ {ws : List ℕ} {w : Work} {c : Counts} {n′ e′ a′ : Bytes} {d : Counts} {from : ℕ} {T : RoundsDone ws w c (work n′ e′ a′) d from} {x : ℕ}
-    (F : Fresh T x) where
+    (F : NextToExpand T x) where
   there : x < nodeCount (h T)
   there = lowestUnset-some (h T) x (F .found) .0
 

@@ -5,7 +5,7 @@ use mathlib.Core.List.{List, []}
 use Prim.Native.Nat.{ℕ, _<_}
 use native.Mathlib.Omega.{arith}
 use lib.ListN.{length}
-use Rattle.concepts.specs.Lists.{range}
+use Rattle.concepts.specs.Lists.{Bytes, range}
 use Rattle.concepts.specs.RowSet.{RowSet, empty}
 use Rattle.procedure.specs.Graph.{Graph, Capacity, _>>=_, addNode}
 use Rattle.procedure.specs.Tableau.{state, run}
@@ -15,7 +15,6 @@ use Rattle.procedure.proofs.Whole.{rootOnly, first-inv, first-quiet}
 use Rattle.procedure.proofs.ExpandFit.{Still}
 use Rattle.problem.specs.Decoded.{problemOf, Decoded}
 use Rattle.problem.specs.DecodedLaws.{decoded-posed}
-use Rattle.records.specs.Areas.{Bytes}
 use Rattle.graph.specs.Chains.{noRecords}
 use Rattle.graph.specs.Graphs.{Work, work, graphOf, capacityOf, Refines, AddsNode}
 use Rattle.graph.specs.GraphLaws.{sized-refl, sized-places, held-none, count-nodes}

@@ -18,15 +18,15 @@ use Rattle.rowset.specs.Joined.{joined, Fit, place, wordAt, setAt}
 use Rattle.rowset.specs.JoinedLaws.{mem-joined, joined-same, joined-apart, joined-insert, place-row}
 
 -- every element is a byte
-abbrev pub Bytes : List ℕ → Type 0
-Bytes b = (i : ℕ) → getD b i 0 < 256
+abbrev pub AreBytes : List ℕ → Type 0
+AreBytes b = (i : ℕ) → getD b i 0 < 256
 
-pub leAt-lt : (b : List ℕ) → Bytes b → (at n : ℕ) → leAt b at n < 256 ^ n
+pub leAt-lt : (b : List ℕ) → AreBytes b → (at n : ℕ) → leAt b at n < 256 ^ n
 unfolding leAt
 leAt-lt b h at zero = omega arith
 leAt-lt b h at (suc n) = omega (arith, h at, leAt-lt b h (suc at) n, pow-suc 256 n)
 
-pub word-fits : (b : List ℕ) → Bytes b → (at : ℕ) → Fit 64 (wordAt b at)
+pub word-fits : (b : List ℕ) → AreBytes b → (at : ℕ) → Fit 64 (wordAt b at)
 word-fits b h at j = omega (arith, leAt-lt b h (at + 8 * j) 8)
 
 -- a number of 8 * n bytes is n words
@@ -62,7 +62,7 @@ module _ (b : List ℕ) (at j v : ℕ) (room : at + 8 * j + 8 ≤ length b) wher
       less e = elim (ℕ-discrete m j) [ yes s ↦ absurd (d s) | no n ↦ omega arith ]
 
 -- row k joins the set by its word
-pub set-insert : (b : List ℕ) → Bytes b → (at k n v : ℕ) → k < 64 * n → at + 8 * (k / 64) + 8 ≤ length b → v < 256 ^ 8
+pub set-insert : (b : List ℕ) → AreBytes b → (at k n v : ℕ) → k < 64 * n → at + 8 * (k / 64) + 8 ≤ length b → v < 256 ^ 8
     → v ≡ insert (k % 64) (wordAt b at (k / 64)) → setAt (putLe b (at + 8 * (k / 64)) 8 v) at n ≡ insert k (setAt b at n)
 set-insert b h at k n v l room fits e =
     let j : ℕ = k / 64 in
@@ -73,7 +73,7 @@ set-insert b h at k n v l room fits e =
     (word-written b at j v room fits ∙ e) (λ m d. word-kept b at j v room m d)
     ∙ ap₂ insert q (sym (set-words b n at))
 
-pub set-mem : (b : List ℕ) → Bytes b → (at k n : ℕ) → k < 64 * n → mem k (setAt b at n) ≡ mem (k % 64) (wordAt b at (k / 64))
+pub set-mem : (b : List ℕ) → AreBytes b → (at k n : ℕ) → k < 64 * n → mem k (setAt b at n) ≡ mem (k % 64) (wordAt b at (k / 64))
 set-mem b h at k n l =
     let j : ℕ = k / 64 in
     let i : ℕ = k % 64 in
@@ -86,7 +86,7 @@ pub sets-same : (b c : List ℕ) (at there n : ℕ) → ((j : ℕ) → j < n →
 sets-same b c at there n e =
     eq-eqb (setAt b at n) (setAt c there n) (set-words b n at ∙ joined-same 64 (wordAt b at) (wordAt c there) n e ∙ sym (set-words c n there))
 
-pub sets-differ : (b c : List ℕ) → Bytes b → Bytes c → (at there n j : ℕ) → j < n → (wordAt b at j ≡ wordAt c there j → ⊥)
+pub sets-differ : (b c : List ℕ) → AreBytes b → AreBytes c → (at there n j : ℕ) → j < n → (wordAt b at j ≡ wordAt c there j → ⊥)
     → eqb (setAt b at n) (setAt c there n) ≡ false
 sets-differ b c hb hc at there n j l d =
     ne-eqb (setAt b at n) (setAt c there n) (λ e.

@@ -13,7 +13,7 @@ use Rattle.concepts.specs.RowSet.{mem, common}
 use Rattle.concepts.specs.RowSetLaws.{mem-common, mem-empty, mem-lt, set-ext}
 use Rattle.rowset.specs.Joined.{joined, Fit, wordAt, setAt, maskAt}
 use Rattle.rowset.specs.JoinedLaws.{joined-in-use}
-use Rattle.rowset.specs.ByteLaws.{Bytes, word-fits, set-words}
+use Rattle.rowset.specs.ByteLaws.{AreBytes, word-fits, set-words}
 use Rattle.rowset.specs.NextLaws.{Words, row-of, joined-beyond}
 
 -- a row of the first m words, of n
@@ -37,7 +37,7 @@ common-in-use f g ff gf m n l none = set-ext (common (joined 64 f m) (joined 64 
           ∙ sym (ap (λ (x : Bool). mem k (joined 64 f n) && x) (none k (omega arith)) ∙ and-nothing (mem k (joined 64 f n)))
     ]
 
-pub set-in-use : (b : List ℕ) → Bytes b → (ws : List ℕ) → Words ws → (at mask m n : ℕ) → m ≤ n → ((k : ℕ) → 64 * m ≤ k → mem k (maskAt ws mask n) ≡ false)
+pub set-in-use : (b : List ℕ) → AreBytes b → (ws : List ℕ) → Words ws → (at mask m n : ℕ) → m ≤ n → ((k : ℕ) → 64 * m ≤ k → mem k (maskAt ws mask n) ≡ false)
     → common (setAt b at m) (maskAt ws mask m) ≡ common (setAt b at n) (maskAt ws mask n)
 unfolding maskAt
 set-in-use b hb ws hw at mask m n l none =

@@ -17,7 +17,7 @@ use Rattle.concepts.specs.Lowest.{Lowest, Above}
 use Rattle.rowset.specs.declared.Next.the-variants.{At, End}
 use Rattle.rowset.specs.Joined.{joined, Fit, place, wordAt, setAt, maskAt, IsNext}
 use Rattle.rowset.specs.JoinedLaws.{mem-high, mem-joined, joined-common, joined-insert, joined-true, joined-false, place-row}
-use Rattle.rowset.specs.ByteLaws.{Bytes, word-fits, set-words}
+use Rattle.rowset.specs.ByteLaws.{AreBytes, word-fits, set-words}
 
 -- every element is a word
 abbrev pub Words : List ℕ → Type 0
@@ -57,10 +57,10 @@ mask-some ws h at n j l d = joined-false 64 (λ (i : ℕ). getD ws (at + i) 0) (
 abbrev pub picked : List ℕ → ℕ → List ℕ → ℕ → ℕ → ℕ
 picked b at ws mask j = bitAnd (wordAt b at j) (getD ws (mask + j) 0)
 
-pub picked-fits : (b : List ℕ) (at : ℕ) (ws : List ℕ) (mask : ℕ) → Bytes b → Fit 64 (picked b at ws mask)
+pub picked-fits : (b : List ℕ) (at : ℕ) (ws : List ℕ) (mask : ℕ) → AreBytes b → Fit 64 (picked b at ws mask)
 picked-fits b at ws mask h j = omega (arith, word-fits b h at j, and-le-l (wordAt b at j) (getD ws (mask + j) 0))
 
-pub picked-all : (b : List ℕ) (at : ℕ) (ws : List ℕ) (mask n : ℕ) → Bytes b → Words ws
+pub picked-all : (b : List ℕ) (at : ℕ) (ws : List ℕ) (mask n : ℕ) → AreBytes b → Words ws
     → joined 64 (picked b at ws mask) n ≡ common (setAt b at n) (maskAt ws mask n)
 unfolding maskAt common
 picked-all b at ws mask n h w =

@@ -11,7 +11,7 @@ use Rattle.words.specs.Words.{leAt, putLe}
 use Rattle.words.specs.WordLaws.{putLe-one}
 use Rattle.rowset.specs.Joined.{joined, place}
 use Rattle.rowset.specs.JoinedLaws.{place-row, joined-same, joined-insert, joined-without}
-use Rattle.rowset.specs.ByteLaws.{Bytes}
+use Rattle.rowset.specs.ByteLaws.{AreBytes}
 use Rattle.rowset.specs.WholeLaws.{putLe-bytes, put-between}
 
 -- byte j of the bytes from place at on
@@ -31,11 +31,11 @@ number-bytes b (suc n) at =
 
 -- ---- the byte that has row k
 
-module _ (b : List ℕ) (h : Bytes b) (at k n : ℕ) (l : k < 8 * n) (room : at + n ≤ length b) where
+module _ (b : List ℕ) (h : AreBytes b) (at k n : ℕ) (l : k < 8 * n) (room : at + n ≤ length b) where
   row-place : place 8 (k / 8) (k % 8) ≡ k
   row-place = place-row 8 (k / 8) (k % 8) ∙ omega arith
 
-  stored-bytes : (v : ℕ) → v < 256 → Bytes (set b (at + k / 8) v)
+  stored-bytes : (v : ℕ) → v < 256 → AreBytes (set b (at + k / 8) v)
   stored-bytes v small = rw (putLe-one b (at + k / 8) v small) at (putLe-bytes b h (at + k / 8) 1 v)
 
   stored-here : (v : ℕ) → byteAt (set b (at + k / 8) v) at (k / 8) ≡ v

@@ -7,15 +7,15 @@ use native.Mathlib.Omega.{arith}
 use lib.ListN.{length, getD, set, length-set, List·getD-eq-default}
 use lib.Seq.{getD-set-same, getD-set-other, ext-getD}
 use Rattle.words.specs.Words.{leAt, putLe}
-use Rattle.rowset.specs.ByteLaws.{Bytes}
+use Rattle.rowset.specs.ByteLaws.{AreBytes}
 
 -- bytes stay bytes
-pub putLe-bytes : (b : List ℕ) → Bytes b → (at n v : ℕ) → Bytes (putLe b at n v)
+pub putLe-bytes : (b : List ℕ) → AreBytes b → (at n v : ℕ) → AreBytes (putLe b at n v)
 unfolding putLe
 putLe-bytes b h at zero v = h
 putLe-bytes b h at (suc n) v = putLe-bytes (set b at (v % 256)) stored (suc at) n (v / 256)
   where
-    stored : Bytes (set b at (v % 256))
+    stored : AreBytes (set b at (v % 256))
     stored i = elim (ℕ-discrete i at) [
       | yes e ↦ here i e (ℕ-discrete (length b - at) 0)
       | no d ↦ omega (arith, getD-set-other b at i (v % 256) 0 d, h i)
@@ -27,7 +27,7 @@ putLe-bytes b h at (suc n) v = putLe-bytes (set b at (v % 256)) stored (suc at) 
         here i e (no z) = rw e (omega (arith, getD-set-same b at (v % 256) 0 (omega arith)))
 
 -- what differs from b in the n bytes from place at on alone is b with the number that stands there
-pub put-between : (c : List ℕ) → Bytes c → (n : ℕ) (b : List ℕ) (at : ℕ) → length c ≡ length b → at + n ≤ length b
+pub put-between : (c : List ℕ) → AreBytes c → (n : ℕ) (b : List ℕ) (at : ℕ) → length c ≡ length b → at + n ≤ length b
     → ((i : ℕ) → i < at → getD c i 0 ≡ getD b i 0) → ((i : ℕ) → at + n ≤ i → getD c i 0 ≡ getD b i 0) → c ≡ putLe b at n (leAt c at n)
 unfolding putLe leAt
 put-between c h zero b at size room low high =

@@ -13,7 +13,7 @@ use Rattle.words.specs.Words.{putLe}
 use Rattle.words.specs.WordLaws.{length-putLe, leAt-putLe}
 use Rattle.rowset.specs.Joined.{joined, Fit, lowWord, wordAt, setAt, putWords, WordsPut, maskAt}
 use Rattle.rowset.specs.JoinedLaws.{joined-union, joined-minus, joined-none}
-use Rattle.rowset.specs.ByteLaws.{Bytes, leAt-lt, set-words, word-fits, word-kept}
+use Rattle.rowset.specs.ByteLaws.{AreBytes, leAt-lt, set-words, word-fits, word-kept}
 
 -- the low m bytes and the n above them
 pub putLe-add : (b : List ℕ) (at m n v : ℕ) → putLe b at (m + n) v ≡ putLe (putLe b at m v) (at + m) n (v / 256 ^ m)
@@ -112,12 +112,12 @@ pub set-put : (b : List ℕ) (at n v : ℕ) → at + 8 * n ≤ length b → v < 
 set-put b at n v room fits = leAt-putLe b at (8 * n) v room fits
 
 -- and a set fits
-pub set-fits : (b : List ℕ) → Bytes b → (at n : ℕ) → setAt b at n < 256 ^ (8 * n)
+pub set-fits : (b : List ℕ) → AreBytes b → (at n : ℕ) → setAt b at n < 256 ^ (8 * n)
 set-fits b h at n = leAt-lt b h at (8 * n)
 
 -- ---- two sets, word by word
 
-module _ (b c : List ℕ) (hb : Bytes b) (hc : Bytes c) (at there n : ℕ) where
+module _ (b c : List ℕ) (hb : AreBytes b) (hc : AreBytes c) (at there n : ℕ) where
   both : ℕ → ℕ
   both m = union (wordAt b at m) (wordAt c there m)
 
@@ -167,7 +167,7 @@ module _ (b c : List ℕ) (hb : Bytes b) (hc : Bytes c) (at there n : ℕ) where
 
 -- ---- a set and a mask
 
-module _ (b ws : List ℕ) (hb : Bytes b) (hw : (i : ℕ) → getD ws i 0 < 2 ^ 64) (at mask n : ℕ) where
+module _ (b ws : List ℕ) (hb : AreBytes b) (hw : (i : ℕ) → getD ws i 0 < 2 ^ 64) (at mask n : ℕ) where
   with-mask : ℕ → ℕ
   with-mask m = union (wordAt b at m) (getD ws (mask + m) 0)
 

@@ -13,7 +13,7 @@ use Rattle.concepts.specs.Concept.{Concept, conceptAt}
 use Rattle.concepts.specs.RowSet.{RowSet, mem, empty, common, minus, single}
 use Rattle.words.specs.Sizes.{setSize}
 use Rattle.rowset.specs.Joined.{joined, Fit}
-use Rattle.rowset.specs.ByteLaws.{Bytes}
+use Rattle.rowset.specs.ByteLaws.{AreBytes}
 use Rattle.rowset.specs.NextLaws.{Words, picked, picked-fits, picked-all}
 use Rattle.rowset.specs.Pending.{left}
 use Rattle.rowset.specs.WordLoops.{Midway, midway-begins, midway-passes, midway-ends, midway-also, midway-after, rowAt, LowestOfWord, lowest-of-word}
@@ -27,7 +27,7 @@ pub record Reading (w : List ℕ) (p : Concept → Bool) (mask : ℕ) (b : List 
   pub decoded : Decoded w
   pub masking : Mask w p mask
   pub words : Words w
-  pub bytes : Bytes b
+  pub bytes : AreBytes b
   pub room : at + setSize ≤ length b
 
 -- word j of their rows

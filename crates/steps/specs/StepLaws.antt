@@ -6,12 +6,12 @@ use mathlib.Core.Bool.{true, false}
 use mathlib.Core.Option.{Option}
 use Prim.Native.Nat.{ℕ, _+_, _≤_, _<_}
 use native.Mathlib.Omega.{arith}
+use Rattle.concepts.specs.Lists.{Bytes}
 use Rattle.concepts.specs.RowSet.{RowSet}
 use Rattle.procedure.specs.Status.{unset, toosmall, isLive}
 use Rattle.procedure.specs.Graph as G
 use Rattle.procedure.specs.GraphLaws.{find-state}
 use Rattle.procedure.specs.Tableau.{below, state, joinAlternatives, linkTo, linkFound, linkSpecial}
-use Rattle.records.specs.Areas.{Bytes}
 use Rattle.records.specs.Codes.{statusOf}
 use Rattle.records.specs.Records.{nodeIn, IsStatus}
 use Rattle.graph.specs.Graphs.{Work, work, graphOf, capacityOf, Held, Operation, Refines, WithNodes, AddsNode, AddsEdge, AddsAlternative, ChangesNodes, foundOf}

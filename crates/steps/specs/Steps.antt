@@ -1,10 +1,10 @@
 -- What the steps of the tableau answer on the graph in the work areas. Laws are in StepLaws.
 use Prim.Native.Nat.{ℕ}
+use Rattle.concepts.specs.Lists.{Bytes}
 use Rattle.concepts.specs.RowSet.{RowSet}
 use Rattle.procedure.specs.Status.{toosmall}
 use Rattle.procedure.specs.Graph as G
 use Rattle.procedure.specs.Tableau.{below, joinAlternatives}
-use Rattle.records.specs.Areas.{Bytes}
 use Rattle.graph.specs.Graphs.{work, Held, Operation, Refines}
 use Rattle.graph.specs.declared.Counts.{Counts}
 use Rattle.graph.specs.declared.Step.{Step}

@@ -7,11 +7,11 @@ use mathlib.Core.List.{List, [], _∷_, map, List·Memᴰ, List·Memᴰ·head, L
 use Prim.Native.Nat.{ℕ, zero, suc, _+_, _≤_, _<_}
 use native.Mathlib.Omega.{arith}
 use lib.ListN.{getD}
+use Rattle.concepts.specs.Lists.{Bytes}
 use Rattle.procedure.specs.Status as P
 use Rattle.procedure.specs.Graph as G
 use Rattle.procedure.specs.Tableau.{foldChildren}
 use Rattle.words.specs.Sizes.{edgeSize}
-use Rattle.records.specs.Areas.{Bytes}
 use Rattle.records.specs.Codes.{statusOf}
 use Rattle.records.specs.Records.{nodeIn}
 use Rattle.graph.specs.Graphs.{work, graphOf, WithEdges, ChangesNodes, childrenFrom, AmongChildren, Walks, IsNext}

@@ -2,9 +2,9 @@
 -- Assumes nothing.
 use mathlib.Core.List.{List, [], map, List·Memᴰ}
 use Prim.Native.Nat.{ℕ, _<_}
+use Rattle.concepts.specs.Lists.{Bytes}
 use Rattle.procedure.specs.Status.{Status, StatusTable, branchTable, stateTable}
 use Rattle.procedure.specs.Graph as G
-use Rattle.records.specs.Areas.{Bytes}
 use Rattle.records.specs.Records.{nodeIn}
 use Rattle.graph.specs.Graphs.{work, graphOf, Held, Changes, childrenFrom}
 use Rattle.graph.specs.declared.Counts.{Counts}

@@ -8,11 +8,12 @@ use mathlib.Core.Logic.{inl, inr}
 use Prim.Native.Nat.{ℕ, _<_}
 use native.Mathlib.Omega.{arith}
 use lib.ListN.{length}
+use Rattle.concepts.specs.Lists.{Bytes}
 use Rattle.concepts.specs.Concept.{atomic, negated, conceptAt, NoInclusion, Ordered}
 use Rattle.meaning.specs.Meaning.{Model, finite, Holds}
 use Rattle.meaning.specs.MeaningLaws.{holds-as}
 use Rattle.decoding.specs.Decoding.{ruleKinds}
-use Rattle.rulefile.specs.Format.{Bytes, wantedRows, RuleFile, accepted, reading, readingFor}
+use Rattle.rulefile.specs.Format.{wantedRows, RuleFile, accepted, reading, readingFor}
 use Rattle.rulefile.specs.FormatLaws.{accepted-admitted}
 use Rattle.rulefile.specs.WantedLaws.{wanting, reading-wanting}
 use Rattle.procedure.specs.Graph.{Area, roomFor, FindsNoPlace}

@@ -12,9 +12,10 @@ use native.Mathlib.Omega.{arith}
 use lib.Dec.{ltb}
 use lib.ListN.{length, getD, drop, List·getD-append}
 use borrow.Author.Tests.{ltb-true, ltb-false}
+use Rattle.concepts.specs.Lists.{Bytes}
 use Rattle.concepts.specs.ListLaws.{getD-mem}
 use Rattle.decoding.specs.Decoding.{ruleKinds}
-use Rattle.rulefile.specs.Format.{Bytes, wantedRows, RuleFile, Reading, refused, accepted, reading}
+use Rattle.rulefile.specs.Format.{wantedRows, RuleFile, Reading, refused, accepted, reading}
 use Rattle.rulefile.specs.Checks.{FileRefusal}
 use Rattle.rulefile.specs.CheckLaws.{refused-number}
 use Rattle.run.specs.Run.{Lengths}
@@ -22,7 +23,7 @@ use Rattle.subsumption.specs.Names.{names, rowAfterRow}
 use Rattle.subsumption.specs.NameLaws.{length-rowAfterRow, getD-rowAfterRow}
 use Rattle.subsumption.specs.Catalogue.{Areas, lent, entry, Catalogue, refusedWith, listed, listedIn, catalogueReading, catalogue}
 use Rattle.subsumption.specs.Catalogue.{refusalAlone, numbers, areasAfter}
-use Rattle.subsumption.specs.Promise.{EntryRight, entryAt, Right, Promise}
+use Rattle.subsumption.specs.Promise.{EntryRight, entryAt, TableRight, CataloguePromise}
 use Rattle.subsumption.proofs.Entry.{entry-right}
 
 -- ---- by the reading
@@ -91,7 +92,7 @@ module _ (file : Bytes) (before : Areas) (f : RuleFile) (e : reading file ≡ ac
       rw there (entry-right file f e (lent before) (getD ns i 0) (getD ns j 0) (getD-mem ns i 0 hi) (getD-mem ns j 0 hj))
 
   by-room : (short : Bool) → ltb (length (before .table)) (m * m) ≡ short
-      → let c : Catalogue = elim short [ true ↦ refusedWith 17 | false ↦ listed ns bytes ] in Right f before (numbers c) (areasAfter c before)
+      → let c : Catalogue = elim short [ true ↦ refusedWith 17 | false ↦ listed ns bytes ] in TableRight f before (numbers c) (areasAfter c before)
   unfolding numbers areasAfter
   by-room true q = record {
     tooShort = λ x. (ltb-true (length (before .table)) (m * m) q, refl, refl);
@@ -110,16 +111,16 @@ module _ (file : Bytes) (before : Areas) (f : RuleFile) (e : reading file ≡ ac
     entries = λ x. entry-there;
   }
 
-  right-kept : Right f before (numbers (catalogue file (lent before) (length (before .table)))) (areasAfter (catalogue file (lent before) (length (before .table))) before)
+  right-kept : TableRight f before (numbers (catalogue file (lent before) (length (before .table)))) (areasAfter (catalogue file (lent before) (length (before .table))) before)
   unfolding listedIn
   right-kept =
-      subst (λ (c : Catalogue). Right f before (numbers c) (areasAfter c before)) (sym (catalogue-accepted file (lent before) (length (before .table)) f e))
+      subst (λ (c : Catalogue). TableRight f before (numbers c) (areasAfter c before)) (sym (catalogue-accepted file (lent before) (length (before .table)) f e))
       (by-room (ltb (length (before .table)) (m * m)) refl)
 
 -- ---- the promise
 
 pub promise-kept : (file : Bytes) (before : Areas)
-    → Promise file before (numbers (catalogue file (lent before) (length (before .table)))) (areasAfter (catalogue file (lent before) (length (before .table))) before)
+    → CataloguePromise file before (numbers (catalogue file (lent before) (length (before .table)))) (areasAfter (catalogue file (lent before) (length (before .table))) before)
 promise-kept file before = record {
   numbersAre = refl;
   areasAre = refl;

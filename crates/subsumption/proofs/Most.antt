@@ -7,14 +7,15 @@ use native.Mathlib.Nat.{mul-le-mul}
 use native.Mathlib.Omega.{arith}
 use lib.Dec.{eqb}
 use borrow.Author.Tests.{eqb-true, eqb-false}
+use Rattle.concepts.specs.Lists.{Bytes}
 use Rattle.decoding.specs.Decoding.{ruleKinds}
-use Rattle.rulefile.specs.Format.{Bytes, wantedRows, RuleFile, Reading, refused, accepted, reading}
+use Rattle.rulefile.specs.Format.{wantedRows, RuleFile, Reading, refused, accepted, reading}
 use Rattle.rulefile.specs.FormatLaws.{accepted-admitted}
 use Rattle.subsumption.specs.NameCountLaws.{names-half}
-use Rattle.subsumption.specs.Catalogue.{Areas, Numbers}
-use Rattle.subsumption.specs.Promise.{Promise}
+use Rattle.subsumption.specs.Catalogue.{Areas, CatalogueNumbers}
+use Rattle.subsumption.specs.CataloguePromise.{CataloguePromise}
 
-module _ {file : Bytes} {before : Areas} {r : Numbers} {after : Areas} (P : Promise file before r after) where
+module _ {file : Bytes} {before : Areas} {r : CatalogueNumbers} {after : Areas} (P : CataloguePromise file before r after) where
   -- each name has two of the 64 rows; with a refusal none is told
   pub count-most : r .count ≤ 32
   count-most = by (reading file) refl

@@ -6,10 +6,11 @@ use mathlib.Core.Path.{_≡_, refl}
 use mathlib.Core.Bool.{Bool, true, false, not}
 use Prim.Native.Nat.{ℕ, _<_}
 use lib.Dec.{T}
-use Rattle.rulefile.specs.Format.{Bytes, RuleFile, accepted, reading}
+use Rattle.concepts.specs.Lists.{Bytes}
+use Rattle.rulefile.specs.Format.{RuleFile, accepted, reading}
 use Rattle.run.specs.Run.{Lengths}
-use Rattle.subsumption.specs.Catalogue.{Areas, Numbers}
-use Rattle.subsumption.specs.Promise.{Counterexample, Decided, EntryRight, entryAt, Promise}
+use Rattle.subsumption.specs.Catalogue.{Areas, CatalogueNumbers}
+use Rattle.subsumption.specs.Promise.{Counterexample, Decided, EntryRight, entryAt, CataloguePromise}
 
 -- ---- of entries that are right
 
@@ -54,7 +55,7 @@ module _ {f : RuleFile} {l : Lengths} where
 
 -- ---- of the table that the call leaves
 
-module _ {file : Bytes} {before : Areas} {r : Numbers} {after : Areas} (P : Promise file before r after) {f : RuleFile} (e : reading file ≡ accepted f) (filled : r .refusal ≡ 0) where
+module _ {file : Bytes} {before : Areas} {r : CatalogueNumbers} {after : Areas} (P : CataloguePromise file before r after) {f : RuleFile} (e : reading file ≡ accepted f) (filled : r .refusal ≡ 0) where
   -- the entry in row i, column j
   abbrev at : ℕ → ℕ → ℕ
   at i j = entryAt (after .table) (r .count) i j

@@ -7,7 +7,8 @@ use mathlib.Core.List.{List·Memᴰ}
 use mathlib.Core.Logic.{inl, inr}
 use Prim.Native.Nat.{ℕ}
 use native.Mathlib.Omega.{arith}
-use Rattle.rulefile.specs.Format.{Bytes, RuleFile, accepted, reading}
+use Rattle.concepts.specs.Lists.{Bytes}
+use Rattle.rulefile.specs.Format.{RuleFile, accepted, reading}
 use Rattle.rulefile.specs.WantedLaws.{wanting}
 use Rattle.procedure.specs.Graph.{Area}
 use Rattle.run.specs.Run.{Lengths, Answer, refusedFile, short, cannot, can, tooLong, undefined, answerFor, numbers}

@@ -7,9 +7,10 @@ use mathlib.Core.List.{List, [], _∷_}
 use Prim.Native.Nat.{ℕ, _*_}
 use lib.Dec.{ltb}
 use lib.ListN.{length}
+use Rattle.concepts.specs.Lists.{Bytes}
 use Rattle.concepts.specs.Concept.{Table}
 use Rattle.concepts.specs.RowSet.{RowSet, empty, fromList}
-use Rattle.rulefile.specs.Format.{Bytes, Reading, refused, accepted, reading}
+use Rattle.rulefile.specs.Format.{Reading, refused, accepted, reading}
 use Rattle.words.specs.Words.{overwrite}
 use Rattle.run.specs.Run as Run
 use Rattle.run.specs.Run.{Lengths, lengths, Answer, refusedFile, short, cannot, can, tooLong, undefined, answerFor, zeros}
@@ -67,16 +68,16 @@ catalogue file l room = catalogueReading file l room (reading file)
 
 -- ---- the answer's numbers
 
-pub record Numbers : Type 0 where
+pub record CatalogueNumbers : Type 0 where
   pub refusal : ℕ  -- 0 if the table is filled
   pub count : ℕ  -- how many names are listed
   pub names : RowSet  -- which: name n as bit n
 
 -- "Each gives its number and zeros elsewhere" (01)
-abbrev pub refusalAlone : ℕ → Numbers
+abbrev pub refusalAlone : ℕ → CatalogueNumbers
 refusalAlone n = record { refusal = n; count = 0; names = empty }
 
-unfoldable pub numbers : Catalogue → Numbers
+unfoldable pub numbers : Catalogue → CatalogueNumbers
 numbers (refusedWith n) = refusalAlone n
 numbers (listed ns entries) = record { refusal = 0; count = length ns; names = fromList ns }
 

@@ -10,15 +10,16 @@ use mathlib.Core.Logic.{_⊎_}
 use Prim.Native.Nat.{ℕ, _+_, _*_, _<_}
 use lib.Dec.{T}
 use lib.ListN.{length, getD}
+use Rattle.concepts.specs.Lists.{Bytes}
 use Rattle.concepts.specs.RowSet.{fromList}
 use Rattle.meaning.specs.Meaning.{World, finite, Obeys, ObeysInclusions}
-use Rattle.rulefile.specs.Format.{Bytes, RuleFile, refused, accepted, reading}
+use Rattle.rulefile.specs.Format.{RuleFile, refused, accepted, reading}
 use Rattle.procedure.specs.Problem.{problem}
 use Rattle.procedure.specs.Graph.{Area, Result, FindsNoPlace}
 use Rattle.procedure.specs.Tableau.{run}
 use Rattle.run.specs.Run.{Lengths, capacity}
 use Rattle.subsumption.specs.Names.{positive, negative, names}
-use Rattle.subsumption.specs.Catalogue.{Areas, lent, catalogue, Numbers, refusalAlone, numbers, areasAfter}
+use Rattle.subsumption.specs.Catalogue.{Areas, lent, catalogue, CatalogueNumbers, refusalAlone, numbers, areasAfter}
 
 -- ---- "an a that isn't a b"
 
@@ -66,7 +67,7 @@ abbrev pub square : RuleFile → ℕ
 square f = length (names (f .table)) * length (names (f .table))
 
 -- the file f is accepted, r are the numbers of the answer, and the areas hold `before` and then `after`
-pub record Right (f : RuleFile) (before : Areas) (r : Numbers) (after : Areas) : Type 0 where
+pub record TableRight (f : RuleFile) (before : Areas) (r : CatalogueNumbers) (after : Areas) : Type 0 where
   -- 17 exactly where the area is shorter than the square, then zeros elsewhere and no area is changed; and no other refusal
   pub tooShort : r .refusal ≡ 17 → (length (before .table) < square f) × (r ≡ refusalAlone 17) × (after ≡ before)
   pub tooShortOnly : length (before .table) < square f → r .refusal ≡ 17
@@ -80,11 +81,11 @@ pub record Right (f : RuleFile) (before : Areas) (r : Numbers) (after : Areas) :
 
 -- ---- the whole promise: the call found the areas `before` and left them as `after`
 
-pub record Promise (file : Bytes) (before : Areas) (r : Numbers) (after : Areas) : Type 0 where
+pub record CataloguePromise (file : Bytes) (before : Areas) (r : CatalogueNumbers) (after : Areas) : Type 0 where
   -- the answer's numbers and every byte of the four areas are those of the definition
   pub numbersAre : r ≡ numbers (catalogue file (lent before) (length (before .table)))
   pub areasAre : after ≡ areasAfter (catalogue file (lent before) (length (before .table))) before
   -- a file that check n refuses: its number, zeros elsewhere, and nothing touched
   pub refusal : (n : ℕ) → reading file ≡ refused n → (r ≡ refusalAlone n) × (after ≡ before)
   -- an accepted file
-  pub right : (f : RuleFile) → reading file ≡ accepted f → Right f before r after
+  pub right : (f : RuleFile) → reading file ≡ accepted f → TableRight f before r after

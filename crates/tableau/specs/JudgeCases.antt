@@ -6,6 +6,7 @@ use mathlib.Core.Bool.{Bool, true, false}
 use mathlib.Core.List.{List}
 use Prim.Native.Nat.{ℕ, _*_, _≤_, _<_}
 use native.Mathlib.Omega.{arith}
+use Rattle.concepts.specs.Lists.{Bytes}
 use Rattle.procedure.specs.Status.{Status}
 use Rattle.procedure.specs.Graph.{toState, Graph, reached, nodeAt, setStatus}
 use Rattle.procedure.specs.GraphLaws.{Child}
@@ -16,7 +17,7 @@ use Rattle.procedure.proofs.Bare.{bare}
 use Rattle.procedure.proofs.Setting.{Setting}
 use Rattle.procedure.proofs.Invariant.{LinkShape}
 use Rattle.problem.specs.Decoded.{problemOf}
-use Rattle.records.specs.Areas.{Bytes, roomOf, Fits}
+use Rattle.records.specs.Areas.{roomOf, Fits}
 use Rattle.graph.specs.Graphs.{Work, work, graphOf, capacityOf, Changes, ChangesNodes}
 use Rattle.procedure.specs.Graph as G
 use Rattle.words.specs.Sizes.{nodeSize}

@@ -12,6 +12,7 @@ use native.Mathlib.Decide.{decLt}
 use lib.Dec.{eqb, eqb→eq}
 use lib.ListN.{length}
 use borrow.Author.Tests.{not-true, not-false}
+use Rattle.concepts.specs.Lists.{Bytes}
 use Rattle.concepts.specs.Tests.{from-true, from-false}
 use Rattle.concepts.specs.Role.{inverse, inverse-high, Turned}
 use Rattle.concepts.specs.RowSet.{RowSet, empty}
@@ -31,7 +32,7 @@ use Rattle.procedure.proofs.Fit.{Anyone, anyone-quiet, JudgeFit}
 use Rattle.problem.specs.Decoded.{problemOf}
 use Rattle.words.specs.Sizes.{nodeSize, setSize}
 use Rattle.rowset.specs.SetOf.{setOf}
-use Rattle.records.specs.Areas.{Bytes, roomOf}
+use Rattle.records.specs.Areas.{roomOf}
 use Rattle.records.specs.Records.{nodeOf}
 use Rattle.graph.specs.Graphs.{Work, work, graphOf, capacityOf, Held, EdgesHeld, Operation, Refines, AddsEdge}
 use Rattle.graph.specs.GraphLaws.{sized-refl, sized-places, count-nodes, graph-set, held-set}

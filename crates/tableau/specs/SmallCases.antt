@@ -1,13 +1,14 @@
 -- The alternatives of a small state, put one after the other under the node that was linked to it: a turn of the loop, on plain values.
 --
 -- In order: what the call is about; the loop's invariant (`AlternativesPut`); its start; alternatives that were there stay where they are; the end;
--- the next alternative (`Chosen`, `Joined`), and its put.
+-- the next alternative (`AlternativeFound`, `AlternativeJoined`), and its put.
 use mathlib.Core.Path.{_≡_, sym, ap, _∙_, subst}
 use mathlib.Core.List.{List, [], _∷_, List·Memᴰ}
 use mathlib.Core.Logic.{_⊎_, inl}
 use Prim.Native.Nat.{ℕ, _+_, _-_, _*_, _≤_, _<_}
 use native.Mathlib.Omega.{arith}
 use lib.ListN.{length}
+use Rattle.concepts.specs.Lists.{Bytes}
 use Rattle.concepts.specs.RowSet.{RowSet, union}
 use Rattle.procedure.specs.Problem.{Problem}
 use Rattle.procedure.specs.Graph.{lapsed, Node, Graph, Capacity, Result, reached, nodeAt, children, alternativesOf, setLink}
@@ -24,7 +25,7 @@ use Rattle.procedure.proofs.Fit.{Anyone, pre-anyone, PutFit, JudgeFit}
 use Rattle.words.specs.Sizes.{nodeSize, alternativeSize, setSize, mostRecords}
 use Rattle.rowset.specs.SetOf.{setOf}
 use Rattle.problem.specs.Decoded.{problemOf}
-use Rattle.records.specs.Areas.{Bytes, roomOf}
+use Rattle.records.specs.Areas.{roomOf}
 use Rattle.records.specs.Records.{nodeOf, IsNode}
 use Rattle.graph.specs.Graphs.{Work, work, graphOf, capacityOf, Sized, Refines, Changes, ChangesNodes, WithAlternatives}
 use Rattle.graph.specs.Graphs.{alternativesFrom, AmongAlternatives, Walks, IsNextAlternative}
@@ -138,16 +139,16 @@ module _ {ws : List ℕ} {w : Work} {c : Counts} {z y : ℕ} {n′ e′ a′ : B
   so-far = t .course (k A) (omega arith)
 
   -- record j has the next alternative, b
-  pub record Chosen (j : ℕ) (b : RowSet) : Type 0 where
+  pub record AlternativeFound (j : ℕ) (b : RowSet) : Type 0 where
     pub from : i ≤ j
     pub below : j < c .alternatives
     pub here : alternativesFrom (g A) y i ≡ b ∷ alternativesFrom (g A) y (j + 1)
     pub among : AmongAlternatives (g A) y (j + 1)
 
   -- it is joined to the set of state y, and put under node z, which was loaded as v
-  pub record Joined (j : ℕ) (v : D.Node) (σ : RowSet) : Type 0 where
+  pub record AlternativeJoined (j : ℕ) (v : D.Node) (σ : RowSet) : Type 0 where
     pub set : RowSet
-    pub chosen : Chosen j set
+    pub chosen : AlternativeFound j set
     pub node : nodeAt (g A) z ≡ nodeOf (nodeAt (g A) z .rows) v
     pub join : σ ≡ union set (nodeAt (g A) y .rows)
 
@@ -180,7 +181,7 @@ module _ {ws : List ℕ} {w : Work} {c : Counts} {z y : ℕ} {n′ e′ a′ : B
         (next-alternative-same (g A) (graphOf (work n′ e′ a′) c) y i (c .alternatives) a′ same v
         (W e′ d (so-far .held) (so-far .grown) (among-alternatives-same (graphOf (work n′ e′ a′) c) (g A) y i (sym same) (t .among))))
 
-    pub turn-next : {j : ℕ} → v ≡ Next.At j → Chosen j (setOf a′ (alternativeSize * j))
+    pub turn-next : {j : ℕ} → v ≡ Next.At j → AlternativeFound j (setOf a′ (alternativeSize * j))
     turn-next ev = let (l, m, q, o) = told ev in record { from = l; below = m; here = q; among = o }
 
     none-left : v ≡ Next.End → alternativesFrom (g A) y i ≡ []
@@ -209,7 +210,7 @@ module _ {ws : List ℕ} {w : Work} {c : Counts} {z y : ℕ} {n′ e′ a′ : B
 
 module _ {ws : List ℕ} {n e a : Bytes} {c : Counts} {z y : ℕ} {n′ e′ a′ : Bytes} {d : Counts} {i : ℕ}
     {t : AlternativesPut ws (work n e a) c z y (work n′ e′ a′) d i} {j : ℕ} {b : RowSet}
-    (p : Chosen t j b) where
+    (p : AlternativeFound t j b) where
   pub turn-index : j + 1 ≤ mostRecords
   turn-index = omega (arith, p .below, held-most (A t .linked .judge .held) .2)
 
@@ -223,7 +224,7 @@ module _ {ws : List ℕ} {n e a : Bytes} {c : Counts} {z y : ℕ} {n′ e′ a�
       sym (graph-set (work n′ e′ a′) d y (omega (arith, so-far t .grown .nodes)))
       ∙ ap (λ (q : Node). q .rows) (t .alternates .kept y (omega (arith, count-nodes (work n e a) c)))
 
-  pub turn-joined : (v : D.Node) → IsNode n z v → {σ : RowSet} → σ ≡ union b (setOf n′ (nodeSize * y)) → Joined t j v σ
+  pub turn-joined : (v : D.Node) → IsNode n z v → {σ : RowSet} → σ ≡ union b (setOf n′ (nodeSize * y)) → AlternativeJoined t j v σ
   turn-joined v hv eσ =
       let l : z < c .nodes = omega (arith, J (A t) .there, count-nodes (work n e a) c) in
       record {
@@ -244,7 +245,7 @@ module _ {ws : List ℕ} {n e a : Bytes} {c : Counts} {z y : ℕ} {n′ e′ a�
 -- ---- its put
 
 module _ {ws : List ℕ} {w : Work} {c : Counts} {z y : ℕ} {n′ e′ a′ : Bytes} {d : Counts} {i : ℕ} {t : AlternativesPut ws w c z y (work n′ e′ a′) d i}
-    {j : ℕ} {v : D.Node} {σ : RowSet} (q : Joined t j v σ) where
+    {j : ℕ} {v : D.Node} {σ : RowSet} (q : AlternativeJoined t j v σ) where
   abbrev b : RowSet
   b = q .set
 

@@ -7,8 +7,8 @@ use mathlib.Core.Bool.{Bool, true}
 use mathlib.Core.List.{List}
 use Prim.Native.Nat.{ℕ, _+_, _-_, _*_, _<_}
 use native.Mathlib.Omega.{arith}
+use Rattle.concepts.specs.Lists.{Bytes}
 use Rattle.words.specs.Sizes.{mostRecords}
-use Rattle.records.specs.Areas.{Bytes}
 use Rattle.graph.specs.Graphs.{Work, work}
 use Rattle.graph.specs.GraphLaws.{held-most}
 use Rattle.graph.specs.declared.Counts.{Counts}
@@ -21,7 +21,7 @@ use Rattle.updates.specs.declared.Rejudged.{Rejudged}
 use Rattle.updates.specs.declared.Rejudged.the-variants as Rejudged
 use Rattle.updates.specs.Contracts.{UpdateAsks, unsettled, UpdateGives, ParentsGives, Later, Settles, RejudgedTo, RejudgeGives}
 use Rattle.updates.specs.LaterLaws.{later-refl, later-trans, later-unsettled, update-later}
-use Rattle.updates.specs.ParentCases.{Tells, TellsNone, Turn, Chosen, turn-start, turn-end, turn-asks, turn-less, turn-short, turn-updated, turn-jump}
+use Rattle.updates.specs.ParentCases.{Tells, TellsNone, ParentsTurn, ParentFound, turn-start, turn-end, turn-asks, turn-less, turn-short, turn-updated, turn-jump}
 
 -- ---- the loop's invariant, and its measure
 
@@ -29,7 +29,7 @@ use Rattle.updates.specs.ParentCases.{Tells, TellsNone, Turn, Chosen, tu
 pub record Climb (ws : List ℕ) (w : Work) (c : Counts) (x : ℕ) (w′ : Work) (child : ℕ) (start d : Counts) (i : ℕ) : Type 0 where
   -- the areas when its first parent was looked for
   pub areas : Work
-  pub turn : Turn ws areas start child w′ d i
+  pub turn : ParentsTurn ws areas start child w′ d i
   -- what its parents come to is what the call comes to
   pub whole : (r : Step) (w″ : Work) → ParentsGives ws areas start child r w″ → ParentsGives ws w c x r w″
   pub later : Later w c w′ d
@@ -47,7 +47,7 @@ module _ {ws : List ℕ} {w : Work} {c : Counts} {x : ℕ} {n′ e′ a′ : Byt
   pub climb-end : {v : Next} → Tells n′ e′ start child i v → v ≡ Next.End → ParentsGives ws w c x (Done d) (work n′ e′ a′)
   climb-end W ev = I .whole (Done d) (work n′ e′ a′) (turn-end (I .turn) W ev)
 
-  module _ {j y : ℕ} (p : Chosen (I .turn) j y) where
+  module _ {j y : ℕ} (p : ParentFound (I .turn) j y) where
     module _ {d₂ : Counts} {w″ : Work} (G : UpdateGives ws (work n′ e′ a′) d y (Done d₂) w″) where
       went-on : Later (work n′ e′ a′) d w″ d₂
       went-on = update-later (turn-asks p) G

@@ -13,7 +13,7 @@ use Rattle.procedure.proofs.Measure.{settled}
 use Rattle.words.specs.Sizes.{nodeSize}
 use Rattle.problem.specs.Decoded.{problemOf, Decoded}
 use Rattle.records.specs.Areas.{roomOf}
-use Rattle.graph.specs.Graphs.{Work, graphOf, capacityOf, Held, Grown, Sized, Refines}
+use Rattle.graph.specs.Graphs.{Work, graphOf, capacityOf, Held, CountsGrown, Sized, Refines}
 use Rattle.graph.specs.declared.Counts.{Counts}
 use Rattle.graph.specs.declared.Step.{Step}
 use Rattle.graph.specs.declared.Step.the-variants.{Done, Full}
@@ -54,7 +54,7 @@ ParentsGives ws w c x r w′ = (f : ℕ) → Enough w c f → Refines w c r w′
 -- the areas w′ with counts d are some steps after w with c
 pub record Later (w : Work) (c : Counts) (w′ : Work) (d : Counts) : Type 0 where
   pub held : Held w′ d
-  pub grown : Grown c d
+  pub grown : CountsGrown c d
   pub sized : Sized w w′
   pub grows : Grows (graphOf w c) (graphOf w′ d)
 

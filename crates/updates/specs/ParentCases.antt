@@ -1,19 +1,19 @@
 -- The parents of one node, updated one after the other: a turn, on plain values.
 --
--- In order: what a step along the chain says; what is left of the parents (`Turn`); its start; the next parent (`Chosen`), or the end; its update; the last parent, whose own parents are left.
+-- In order: what a step along the chain says; what is left of the parents (`ParentsTurn`); its start; the next parent (`ParentFound`), or the end; its update; the last parent, whose own parents are left.
 -- Assumes nothing.
 use mathlib.Core.Path.{_≡_, refl, sym, ap, _∙_, subst}
 use mathlib.Core.Bool.{Bool, true, false, true≢false}
 use mathlib.Core.List.{List, [], _∷_, List·Memᴰ, List·Memᴰ·head, List·Memᴰ·tail}
 use Prim.Native.Nat.{ℕ, _+_, _-_, _≤_, _<_}
 use native.Mathlib.Omega.{arith}
+use Rattle.concepts.specs.Lists.{Bytes}
 use Rattle.procedure.specs.Graph.{Graph, nodeCount, parents}
 use Rattle.procedure.specs.GraphLaws.{parent-child}
 use Rattle.procedure.specs.TableauLaws.{parents-each}
 use Rattle.procedure.proofs.Fit.{Fit}
 use Rattle.words.specs.Sizes.{edgeSize, mostRecords}
 use Rattle.problem.specs.Decoded.{problemOf}
-use Rattle.records.specs.Areas.{Bytes}
 use Rattle.graph.specs.Graphs.{Work, work, graphOf, capacityOf, WithEdges, parentsFrom, AmongParents, Walks, IsNext}
 use Rattle.graph.specs.GraphLaws.{count-nodes, held-most}
 use Rattle.graph.specs.SearchLaws.{parents-all, parents-same, among-parents-same, next-parent-same}
@@ -55,7 +55,7 @@ none-in (y ∷ ys) e = absurd (true≢false (sym e))
 -- ---- what is left
 
 -- the parents of x from record i on are left: w and c were the areas and the counts at the first of them, w′ and d are those now
-pub record Turn (ws : List ℕ) (w : Work) (c : Counts) (x : ℕ) (w′ : Work) (d : Counts) (i : ℕ) : Type 0 where
+pub record ParentsTurn (ws : List ℕ) (w : Work) (c : Counts) (x : ℕ) (w′ : Work) (d : Counts) (i : ℕ) : Type 0 where
   pub asks : UpdateAsks ws w c x
   pub place : i ≤ c .edges
   pub among : AmongParents (graphOf w c) x i
@@ -64,7 +64,7 @@ pub record Turn (ws : List ℕ) (w : Work) (c : Counts) (x : ℕ) (w′ : Work) 
   pub inside : (y : ℕ) → List·Memᴰ y (parentsFrom (graphOf w c) x i) → y < nodeCount (graphOf w c)
   pub course : (f : ℕ) → Enough w c f → Course (updates ws f) (parents (graphOf w c) x) w c (parentsFrom (graphOf w c) x i) w′ d
 
-pub turn-start : {ws : List ℕ} {w : Work} {c : Counts} {x : ℕ} → UpdateAsks ws w c x → Turn ws w c x w c 0
+pub turn-start : {ws : List ℕ} {w : Work} {c : Counts} {x : ℕ} → UpdateAsks ws w c x → ParentsTurn ws w c x w c 0
 turn-start {ws} {w} {c} {x} A =
     let g : Graph = graphOf w c in
     record {
@@ -79,7 +79,7 @@ turn-start {ws} {w} {c} {x} A =
 
 -- ---- a turn
 
-module _ {ws : List ℕ} {w : Work} {c : Counts} {x : ℕ} {n′ e′ a′ : Bytes} {d : Counts} {i : ℕ} (t : Turn ws w c x (work n′ e′ a′) d i) where
+module _ {ws : List ℕ} {w : Work} {c : Counts} {x : ℕ} {n′ e′ a′ : Bytes} {d : Counts} {i : ℕ} (t : ParentsTurn ws w c x (work n′ e′ a′) d i) where
   -- the graph of the start, and the areas as they are now
   abbrev g : Graph
   g = graphOf w c
@@ -88,7 +88,7 @@ module _ {ws : List ℕ} {w : Work} {c : Counts} {x : ℕ} {n′ e′ a′ : Byt
   w′ = work n′ e′ a′
 
   -- record j has the next parent, y
-  pub record Chosen (j y : ℕ) : Type 0 where
+  pub record ParentFound (j y : ℕ) : Type 0 where
     pub from : i ≤ j
     pub below : j < c .edges
     pub here : parentsFrom g x i ≡ y ∷ parentsFrom g x (j + 1)
@@ -108,7 +108,7 @@ module _ {ws : List ℕ} {w : Work} {c : Counts} {x : ℕ} {n′ e′ a′ : Byt
         next-parent-same g (graphOf w′ c) x i (c .edges) same u
         (answer x i W ev a′ d (t .later .held) (t .later .grown) (among-parents-same (graphOf w′ c) g x i (sym same) (t .among)))
 
-    pub turn-next : {j y : ℕ} → v ≡ Next.At j y → Chosen j y
+    pub turn-next : {j y : ℕ} → v ≡ Next.At j y → ParentFound j y
     turn-next ev = let (l, m, q, o) = next ev in record { from = l; below = m; here = q; among = o }
 
     pub turn-end : v ≡ Next.End → ParentsGives ws w c x (Done d) (work n′ e′ a′)
@@ -119,7 +119,7 @@ module _ {ws : List ℕ} {w : Work} {c : Counts} {x : ℕ} {n′ e′ a′ : Byt
 
 -- ---- the next parent
 
-module _ {ws : List ℕ} {w : Work} {c : Counts} {x : ℕ} {n′ e′ a′ : Bytes} {d : Counts} {i : ℕ} {t : Turn ws w c x (work n′ e′ a′) d i} {j y : ℕ} (p : Chosen t j y) where
+module _ {ws : List ℕ} {w : Work} {c : Counts} {x : ℕ} {n′ e′ a′ : Bytes} {d : Counts} {i : ℕ} {t : ParentsTurn ws w c x (work n′ e′ a′) d i} {j y : ℕ} (p : ParentFound t j y) where
   abbrev todo : List ℕ
   todo = parentsFrom (g t) x (j + 1)
 
@@ -140,7 +140,7 @@ module _ {ws : List ℕ} {w : Work} {c : Counts} {x : ℕ} {n′ e′ a′ : Byt
   pub turn-short : {s : Area} {w″ : Work} → UpdateGives ws (work n′ e′ a′) d y (Full s) w″ → ParentsGives ws w c x (Full s) w″
   turn-short G f few = refines-as (course-short (course-here f few) (G f (later-enough (t .later) f few))) (parents-each (updates ws f (capacityOf w)) x (g t))
 
-  pub turn-updated : {d₂ : Counts} {w″ : Work} → UpdateGives ws (work n′ e′ a′) d y (Done d₂) w″ → Turn ws w c x w″ d₂ (j + 1)
+  pub turn-updated : {d₂ : Counts} {w″ : Work} → UpdateGives ws (work n′ e′ a′) d y (Done d₂) w″ → ParentsTurn ws w c x w″ d₂ (j + 1)
   turn-updated G = record {
     asks = t .asks;
     place = omega (arith, p .below);

@@ -1,6 +1,6 @@
 -- The cases of a node that is judged again, on plain values.
 --
--- In order: a node that is not open; one that is (`Opened`), which is judged: no place; done (`Judged`), and then still open, or settled
+-- In order: a node that is not open; one that is (`Opened`), which is judged: no place; done (`JudgedAgain`), and then still open, or settled
 -- (`Settles`), with its parents to update.
 use mathlib.Core.Path.{_≡_, sym, ap, _∙_, subst}
 use mathlib.Core.Bool.{Bool, true, false}
@@ -8,6 +8,7 @@ use mathlib.Core.List.{List}
 use Prim.Native.Nat.{ℕ, zero, suc, _<_}
 use native.Mathlib.Omega.{arith}
 use lib.ListN.{length}
+use Rattle.concepts.specs.Lists.{Bytes}
 use Rattle.concepts.specs.Tests.{from-true}
 use Rattle.concepts.specs.RowSetLaws.{missing-all}
 use Rattle.procedure.specs.Status.{«open», isOpen}
@@ -21,7 +22,7 @@ use Rattle.procedure.proofs.Measure.{settled}
 use Rattle.procedure.proofs.Fit.{Fit, open-fit, OpenJudged, open-done, settled-fits}
 use Rattle.words.specs.Sizes.{nodeSize}
 use Rattle.problem.specs.Decoded.{problemOf}
-use Rattle.records.specs.Areas.{Bytes, Fits}
+use Rattle.records.specs.Areas.{Fits}
 use Rattle.records.specs.Codes.{statusOf}
 use Rattle.records.specs.Records.{nodeIn, IsStatus}
 use Rattle.graph.specs.Graphs.{Work, work, graphOf, capacityOf, Operation, Refines}
@@ -62,7 +63,7 @@ module _ {ws : List ℕ} {n e a : Bytes} {c : Counts} {x : ℕ} (A : UpdateAsks 
     pub is : isOpen (nodeAt g x .status) ≡ true
 
   -- it was judged, and nothing was short
-  pub record Judged (w₁ : Work) (d : Counts) : Type 0 where
+  pub record JudgedAgain (w₁ : Work) (d : Counts) : Type 0 where
     pub opened : Opened
     pub gives : Refines w c (Done d) w₁ (λ k h. judge (put P k) x h)
 
@@ -105,13 +106,13 @@ module _ {ws : List ℕ} {n e a : Bytes} {c : Counts} {x : ℕ} {A : UpdateAsks 
     update-short er =
         fueled A (λ f few. refines-as (refines-short (judged er) (changing f) sized-refl) (update-open (P A) (capacityOf (w A)) f x (g A) (o .is)))
 
-    pub update-judged : {d : Counts} → r₁ ≡ Done d → Judged A w₁ d
+    pub update-judged : {d : Counts} → r₁ ≡ Done d → JudgedAgain A w₁ d
     update-judged er = record { opened = o; gives = judged er }
 
 -- ---- a node that was judged
 
 module _ {ws : List ℕ} {n e a : Bytes} {c : Counts} {x : ℕ} {A : UpdateAsks ws (work n e a) c x} {n₁ e₁ a₁ : Bytes} {d : Counts}
-    (j : Judged A (work n₁ e₁ a₁) d) where
+    (j : JudgedAgain A (work n₁ e₁ a₁) d) where
   abbrev w₁ : Work
   w₁ = work n₁ e₁ a₁
 

@@ -10,13 +10,13 @@ use Prim.Native.Nat.{ℕ, _+_, _-_, _≤_, _<_}
 use native.Mathlib.Omega.{arith}
 use lib.ListN.{List·getD-eq-default}
 use Rattle.concepts.specs.Tests.{impossible}
-use Rattle.concepts.specs.Lists.{first}
+use Rattle.concepts.specs.Lists.{Bytes, first}
 use Rattle.procedure.specs.Status.{Status, unset, isOpen}
 use Rattle.procedure.specs.Graph.{Link, unlinked, toState, lapsed, Node, Graph, noNode, nodeAt}
 use Rattle.procedure.specs.Example.{firstChild, liveChild}
 use Rattle.procedure.proofs.Way.{Way, way-there, way-linked, way-child, way-descends, way-lands}
 use Rattle.words.specs.Sizes.{nodeSize, edgeSize, mostRecords}
-use Rattle.records.specs.Areas.{Bytes, roomOf, Fits}
+use Rattle.records.specs.Areas.{roomOf, Fits}
 use Rattle.records.specs.Codes.{statusOf, linkOf}
 use Rattle.records.specs.Records.{IsStatus, IsLink}
 use Rattle.records.specs.declared.Status as DStatus

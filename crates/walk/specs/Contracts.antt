@@ -8,6 +8,7 @@ use mathlib.Core.Logic.{_≢_}
 use mathlib.Core.Option.{Option, none, some}
 use Prim.Native.Nat.{ℕ, suc, _≤_, _<_}
 use lib.ListN.{length}
+use Rattle.concepts.specs.Lists.{Bytes}
 use Rattle.procedure.specs.Status.{Status, isSat, isOpen}
 use Rattle.procedure.specs.Graph.{Link, unlinked, toState, lapsed, nodeAt}
 use Rattle.procedure.specs.Example.{Walk, descend, meet, walkRows, rowsOf, example}
@@ -15,7 +16,7 @@ use Rattle.procedure.proofs.Finished.{Finished}
 use Rattle.procedure.proofs.Way.{Way}
 use Rattle.words.specs.Sizes.{nodeSize}
 use Rattle.problem.specs.Decoded.{tableOf, problemOf, Decoded}
-use Rattle.records.specs.Areas.{Bytes, roomOf, recordsIn}
+use Rattle.records.specs.Areas.{roomOf, recordsIn}
 use Rattle.graph.specs.Graphs.{Work, work, graphOf, Held, EdgesHeld}
 use Rattle.graph.specs.declared.Counts.{Counts}
 use Rattle.marks.specs.Marks.{NodesMarked, EdgesMarked, numberIn, stateIn, roleLinkIn, exampleHeld}

@@ -7,6 +7,7 @@ use mathlib.Core.Bool.{Bool}
 use mathlib.Core.List.{[], _∷_}
 use Prim.Native.Nat.{ℕ, _+_, _*_, _≤_, _<_}
 use native.Mathlib.Omega.{arith}
+use Rattle.concepts.specs.Lists.{Bytes}
 use Rattle.concepts.specs.Concept.{Table}
 use Rattle.procedure.specs.Problem.{Problem}
 use Rattle.procedure.specs.Status.{Status}
@@ -16,7 +17,7 @@ use Rattle.procedure.specs.WalkLaws.{example-same}
 use Rattle.procedure.proofs.Finished.{Under, Finished}
 use Rattle.words.specs.Sizes.{nodeSize, edgeSize}
 use Rattle.rowset.specs.SetOf.{setOf}
-use Rattle.records.specs.Areas.{Bytes, recordsIn}
+use Rattle.records.specs.Areas.{recordsIn}
 use Rattle.records.specs.AreaLaws.{records-same, beside-refl, beside-then}
 use Rattle.records.specs.Records.{nodeIn, edgeIn, alternativeIn}
 use Rattle.records.specs.RecordLaws.{node-beside, edge-beside}

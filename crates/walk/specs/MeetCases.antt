@@ -11,13 +11,13 @@ use native.Mathlib.Decide.{ℕ-discrete, decLt}
 use native.Mathlib.Omega.{arith}
 use borrow.Author.Tests.{lt-ltb, le-ltb}
 use lib.ListN.{length, getD, length-append}
-use Rattle.concepts.specs.Lists.{range}
+use Rattle.concepts.specs.Lists.{Bytes, range}
 use Rattle.concepts.specs.ListLaws.{getD-mem, map-same}
 use Rattle.meaning.specs.Given.{RoleLink}
 use Rattle.procedure.specs.Example.{Walk, position, meet}
 use Rattle.procedure.specs.ExampleLaws.{position-there, position-absent}
 use Rattle.words.specs.Sizes.{nodeSize, mostRecords}
-use Rattle.records.specs.Areas.{Bytes, Fits, recordsIn}
+use Rattle.records.specs.Areas.{Fits, recordsIn}
 use Rattle.records.specs.AreaLaws.{length-records, getD-records, records-append, beside-refl, beside-then}
 use Rattle.graph.specs.Graphs.{Work, work}
 use Rattle.graph.specs.declared.Counts.{Counts}

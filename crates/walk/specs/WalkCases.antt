@@ -8,7 +8,7 @@ use Prim.Native.Nat.{ℕ, suc, _+_, _-_, _≤_, _<_}
 use native.Mathlib.Omega.{arith}
 use lib.ListN.{length, getD, take}
 use lib.Seq.{take-length}
-use Rattle.concepts.specs.Lists.{range}
+use Rattle.concepts.specs.Lists.{Bytes, range}
 use Rattle.concepts.specs.ListLaws.{getD-mem, map-same, range-mem}
 use Rattle.concepts.specs.Begins.{begins-length, begins-getD}
 use Rattle.concepts.specs.Counting.{share-le}
@@ -26,7 +26,6 @@ use Rattle.procedure.proofs.Way.{Way, row-way, root-way}
 use Rattle.words.specs.Sizes.{mostRecords}
 use Rattle.problem.specs.Decoded.{tableOf, problemOf}
 use Rattle.problem.specs.DecodedLaws.{decoded-posed}
-use Rattle.records.specs.Areas.{Bytes}
 use Rattle.records.specs.AreaLaws.{length-records, getD-records}
 use Rattle.records.specs.Records.{nodeIn}
 use Rattle.graph.specs.Graphs.{Work, graphOf}

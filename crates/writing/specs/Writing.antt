@@ -7,7 +7,7 @@ use mathlib.Core.Path.{_≡_}
 use mathlib.Core.List.{List, [], _∷_, map}
 use Prim.Native.Nat.{ℕ, _*_, _≤_, _<_}
 use lib.ListN.{length}
-use Rattle.concepts.specs.Lists.{range}
+use Rattle.concepts.specs.Lists.{Bytes, range}
 use Rattle.concepts.specs.Concept.{Table}
 use Rattle.concepts.specs.RowSet.{RowSet}
 use Rattle.meaning.specs.Given.{RoleLink}
@@ -19,7 +19,7 @@ use Rattle.words.specs.Sizes.{nodeSize, edgeSize, setSize, linkSize, mostRecord
 use Rattle.problem.specs.Decoded.{tableOf, Decoded}
 use Rattle.listing.specs.Layout.{elementBytes, linkBytes}
 use Rattle.run.specs.Run.{listing}
-use Rattle.records.specs.Areas.{Bytes, roomOf}
+use Rattle.records.specs.Areas.{roomOf}
 use Rattle.records.specs.Records.{nodeIn}
 use Rattle.marks.specs.Marks.{stateIn, roleLinkIn, exampleHeld}
 use Rattle.marks.specs.declared.Sizes.{Sizes}
@@ -74,7 +74,7 @@ pub record WriteGives (ws : List ℕ) (nodes edges : Bytes) (sizes : Sizes) (ele
 -- ---- how far the writer of the links has come
 
 -- i of so many are written over the area
-pub record Written (e : Bytes) (count : ℕ) (area area′ : Bytes) (i : ℕ) : Type 0 where
+pub record CopiedUpTo (e : Bytes) (count : ℕ) (area area′ : Bytes) (i : ℕ) : Type 0 where
   pub within : i ≤ count
   pub size : length area′ ≡ length area
   pub here : area′ ≡ overwrite (linksTo e i) area

@@ -8,7 +8,7 @@ use native.Mathlib.Nat.{lt-of-lt-of-le}
 use native.Mathlib.Omega.{arith}
 use lib.ListN.{length, getD, length-append}
 use lib.Pow.{pow-mono}
-use Rattle.concepts.specs.Lists.{range}
+use Rattle.concepts.specs.Lists.{Bytes, range}
 use Rattle.concepts.specs.ListLaws.{length-map-range, getD-map-range, range-more, range-mem, map-mem, map-same}
 use Rattle.concepts.specs.Inclusion.{narrower}
 use Rattle.concepts.specs.RowSet.{RowSet}
@@ -33,12 +33,12 @@ use Rattle.evaluation.specs.HoldingLaws.{hold-none, hold-length, hold-get, hold
 use Rattle.evaluation.specs.Contracts.{EvaluateAsks}
 use Rattle.run.specs.Run.{listing}
 use Rattle.settests.specs.AnswerLaws.{names-lt}
-use Rattle.records.specs.Areas.{Bytes, Fits}
+use Rattle.records.specs.Areas.{Fits}
 use Rattle.records.specs.RecordLaws.{node-rows}
 use Rattle.marks.specs.Marks.{stateIn, roleLinkOf, roleLinkIn, exampleHeld}
 use Rattle.marks.specs.declared.LinkMark.{LinkMark}
 use Rattle.marks.specs.declared.Sizes.{Sizes}
-use Rattle.writing.specs.Writing.{setIn, namesIn, linksTo, linkFields, ElementsAsk, WriteAsks, WriteGives, Written}
+use Rattle.writing.specs.Writing.{setIn, namesIn, linksTo, linkFields, ElementsAsk, WriteAsks, WriteGives, CopiedUpTo}
 
 -- ---- the names of the elements
 
@@ -92,11 +92,11 @@ length-linksTo e k = length-linkBytes (map (roleLinkIn e) (range 0 k)) ∙ ap (�
 
 -- ---- the links: a start and an end
 
-pub written-none : (e : Bytes) {count : ℕ} {area : Bytes} → Written e count area area 0
+pub written-none : (e : Bytes) {count : ℕ} {area : Bytes} → CopiedUpTo e count area area 0
 unfolding linkBytes range
 written-none e = record { within = omega arith; size = refl; here = refl }
 
-pub written-all : {e : Bytes} {count : ℕ} {area area′ : Bytes} {i : ℕ} → Written e count area area′ i → count ≤ i → area′ ≡ overwrite (linksTo e count) area
+pub written-all : {e : Bytes} {count : ℕ} {area area′ : Bytes} {i : ℕ} → CopiedUpTo e count area area′ i → count ≤ i → area′ ≡ overwrite (linksTo e count) area
 written-all {e} {area = area} w h = w .here ∙ ap (λ (k : ℕ). overwrite (linksTo e k) area) (omega (arith, w .within))
 
 -- ---- a link
@@ -121,8 +121,8 @@ link-overwrite bs area at l e h =
     let joined : bs ++ f ++ r ++ littleEndian 2 (l .to) ≡ bs ++ linkRecord l = simp append-assoc in
     cc
 
-pub link-written : (e : Bytes) {count : ℕ} {area area′ area″ : Bytes} {k : ℕ} → Written e count area area′ k → k < count
-    → linkSize * count ≤ length area → area″ ≡ putFields area′ (linkSize * k) (linkFields (roleLinkIn e k)) → Written e count area area″ (k + 1)
+pub link-written : (e : Bytes) {count : ℕ} {area area′ area″ : Bytes} {k : ℕ} → CopiedUpTo e count area area′ k → k < count
+    → linkSize * count ≤ length area → area″ ≡ putFields area′ (linkSize * k) (linkFields (roleLinkIn e k)) → CopiedUpTo e count area area″ (k + 1)
 link-written e {count} {area} {area′} {area″} {k} w h room put =
     record {
       within = omega arith;

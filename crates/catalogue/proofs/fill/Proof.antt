@@ -5,14 +5,14 @@ use native.Mathlib.Omega.{arith}
 use lib.ListN.{length}
 use Rattle.problem.specs.Want.{withWanted}
 use Rattle.graph.specs.Graphs.{work}
-use Rattle.engine.specs.Asking.{Written}
+use Rattle.engine.specs.Asking.{PiecesWritten}
 use Rattle.catalogue.specs.FillCases.{tableUpTo, fill-none, table-size, row-start, row-start-small, fill-asks, fill-more, fill-all}
 use Rattle.catalogue.proofs.fill.Statement.{statement}
 use Rattle.catalogue.proofs.fill.Tie as tie
 
 abbrev Inv-loop : tie.InvT-loop
 Inv-loop problem₀ positives negatives nodes₀ edges₀ alternatives₀ table₀ i₀ problem nodes edges alternatives table i =
-    Written withWanted (tableUpTo problem₀ (work nodes₀ edges₀ alternatives₀) positives negatives) (length positives)
+    PiecesWritten withWanted (tableUpTo problem₀ (work nodes₀ edges₀ alternatives₀) positives negatives) (length positives)
     problem₀ (work nodes₀ edges₀ alternatives₀) table₀ i problem (work nodes edges alternatives) table
 
 abbrev μ-loop : tie.MeasureT-loop

@@ -5,14 +5,14 @@ use native.Mathlib.Omega.{arith}
 use lib.ListN.{length}
 use Rattle.problem.specs.Want.{withWanted}
 use Rattle.graph.specs.Graphs.{work}
-use Rattle.engine.specs.Asking.{Written}
+use Rattle.engine.specs.Asking.{PiecesWritten}
 use Rattle.catalogue.specs.FillCases.{rowUpTo, row-none, row-size, row-asks, row-more, row-all}
 use Rattle.catalogue.proofs.fill_row.Statement.{statement}
 use Rattle.catalogue.proofs.fill_row.Tie as tie
 
 abbrev Inv-loop : tie.InvT-loop
 Inv-loop problem₀ positive negatives nodes₀ edges₀ alternatives₀ row₀ j₀ problem nodes edges alternatives row j =
-    Written withWanted (rowUpTo problem₀ (work nodes₀ edges₀ alternatives₀) positive negatives) (length negatives)
+    PiecesWritten withWanted (rowUpTo problem₀ (work nodes₀ edges₀ alternatives₀) positive negatives) (length negatives)
     problem₀ (work nodes₀ edges₀ alternatives₀) row₀ j problem (work nodes edges alternatives) row
 
 abbrev μ-loop : tie.MeasureT-loop

@@ -8,7 +8,7 @@ use Rattle.words.specs.Words.{putLe}
 use Rattle.words.specs.WordLaws.{length-putLe}
 use Rattle.words.specs.Sizes.{setWords}
 use Rattle.rowset.specs.Joined.{putWords}
-use Rattle.rowset.specs.ByteLaws.{Bytes}
+use Rattle.rowset.specs.ByteLaws.{AreBytes}
 use Rattle.rowset.specs.WriteLaws.{put-words-more}
 use Rattle.rowset.specs.WordOf.{wordOf}
 use Rattle.problem.specs.Decoded.{tableOf}
@@ -56,7 +56,7 @@ written c =
     let w : At tie.After-word = search in
     let l = c .before .loop in
     let a = s .args in
-    let bytes : Bytes (a .elements .now) = λ i. omega (arith, k .slice-known .given i) in
+    let bytes : AreBytes (a .elements .now) = λ i. omega (arith, k .slice-known .given i) in
     let all : l .j ≡ setWords = omega arith in
     l .inv .2 ∙ ap (putWords (a .elements .now) (a .at) (word (a .problem .now) (w .word .result))) all
     ∙ literals-written (s .pre .0) (a .elements .now) bytes (a .at) (w .word .ensures)

@@ -9,12 +9,12 @@ use lib.Pow.{shl-exact}
 use borrow.Author.Needs.{needs}
 use Rattle.concepts.specs.RowSet.{single, union, minus}
 use Rattle.words.specs.Sizes.{setSize}
-use Rattle.rowset.specs.ByteLaws.{Bytes}
+use Rattle.rowset.specs.ByteLaws.{AreBytes}
 use Rattle.rowset.specs.RowByteLaws.{byte-insert, byte-remove}
 use Rattle.evaluation.proofs.put_row.Statement.{statement}
 use Rattle.evaluation.proofs.put_row.Tie as tie
 
-bytes : (k : tie.After-slice-known) → Bytes (k .before .args .elements .now)
+bytes : (k : tie.After-slice-known) → AreBytes (k .before .args .elements .now)
 bytes k i = omega (arith, k .slice-known .given i)
 
 -- 1u8 << (k % 8)

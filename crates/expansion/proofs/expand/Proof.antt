@@ -6,7 +6,7 @@ use borrow.Author.Needs.{needs}
 use Rattle.graph.specs.Graphs.{Work, work}
 use Rattle.updates.specs.UpdateCases.{loaded}
 use Rattle.expansion.specs.ExpandCases.{WithChildren, children-short, children-done, judge-asks, judge-short}
-use Rattle.expansion.specs.ExpandCases.{Judged, judge-done, judged-fits, judged-open, parents-asks, parents-gives}
+use Rattle.expansion.specs.ExpandCases.{WithStatus, judge-done, judged-fits, judged-open, parents-asks, parents-gives}
 use Rattle.expansion.proofs.expand.Statement.{statement}
 use Rattle.expansion.proofs.expand.Tie as tie
 
@@ -34,7 +34,7 @@ abbrev the-done : tie.After-b → tie.After-d
 the-done c = the-judge c .before .before .before .before .before
 
 -- and the node is judged
-judged : (c : tie.After-b) → Judged (begun (the-children (the-done c)) .pre) (after-judge (the-judge c)) (c .b .given .0 .0)
+judged : (c : tie.After-b) → WithStatus (begun (the-children (the-done c)) .pre) (after-judge (the-judge c)) (c .b .given .0 .0)
 judged c = judge-done (with-children (the-done c)) (the-judge c .judge .ensures) (c .b .given .1)
 
 pub expand-spec : {M : Type 1} → statement M

@@ -8,7 +8,7 @@ use Rattle.procedure.proofs.Measure.{withAStatus}
 use Rattle.words.specs.Sizes.{nodeSize}
 use Rattle.records.specs.Areas.{roomOf}
 use Rattle.graph.specs.Graphs.{work, graphOf}
-use Rattle.rounds.specs.RoundCases.{root-live, RoundsDone, Fresh, turn-start, turn-fits, turn-seeks, turn-settled, turn-done}
+use Rattle.rounds.specs.RoundCases.{root-live, RoundsDone, NextToExpand, turn-start, turn-fits, turn-seeks, turn-settled, turn-done}
 use Rattle.rounds.specs.RoundCases.{turn-fresh, turn-asks, turn-short, turn-less, turn-expanded}
 use Rattle.rounds.proofs.rounds.Statement.{statement}
 use Rattle.rounds.proofs.rounds.Tie as tie
@@ -25,7 +25,7 @@ abbrev the-loop : tie.After-x Inv-loop μ-loop → tie.At-loop Inv-loop μ-loop
 the-loop c = c .before .before .before .before .before .before .before .before
 
 -- the root is live, and a node lacks a status
-fresh : (c : tie.After-x Inv-loop μ-loop) → Fresh (the-loop c .loop .inv) (c .x .given .0 .0)
+fresh : (c : tie.After-x Inv-loop μ-loop) → NextToExpand (the-loop c .loop .inv) (c .x .given .0 .0)
 fresh c =
     turn-fresh (the-loop c .loop .inv) (search (root-live, not-false, needs)) (c .before .before .lowest-unset .ensures) (c .x .given .1)
 

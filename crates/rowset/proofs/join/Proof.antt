@@ -5,7 +5,7 @@ use Prim.Native.Nat.{ℕ, _-_}
 use native.Mathlib.Omega.{arith}
 use Rattle.concepts.specs.RowSet.{union}
 use Rattle.rowset.specs.Joined.{wordAt, setAt, WordsPut}
-use Rattle.rowset.specs.ByteLaws.{Bytes}
+use Rattle.rowset.specs.ByteLaws.{AreBytes}
 use Rattle.rowset.specs.WriteLaws.{put-begins, put-unread, put-again, put-ends, put-union, set-union}
 use Rattle.rowset.proofs.join.Statement.{statement}
 use Rattle.rowset.proofs.join.Tie as tie
@@ -30,8 +30,8 @@ returns : tie.Need-returns Inv-loop μ-loop
 returns c =
     let known = c .before .before in
     let a = known .before .before .args in
-    let hb : Bytes (a .b .now) = λ i. omega (arith, known .before .slice-known .given i) in
-    let hc : Bytes (a .c .now) = λ i. omega (arith, known .shared-slice-known .given i) in
+    let hb : AreBytes (a .b .now) = λ i. omega (arith, known .before .slice-known .given i) in
+    let hc : AreBytes (a .c .now) = λ i. omega (arith, known .shared-slice-known .given i) in
     let put = put-ends (c .before .loop .inv) (omega arith) ∙ put-union (a .b .now) (a .c .now) hb hc (a .at) (a .there) (a .n) in
     (put, ap (λ (x : List ℕ). setAt x (a .at) (a .n)) put ∙ set-union (a .b .now) (a .c .now) hb hc (a .at) (a .there) (a .n) (omega arith))
 

@@ -6,7 +6,7 @@ use native.Mathlib.Omega.{arith}
 use lib.ListN.{getD}
 use Rattle.concepts.specs.RowSet.{union}
 use Rattle.rowset.specs.Joined.{wordAt, setAt, WordsPut}
-use Rattle.rowset.specs.ByteLaws.{Bytes}
+use Rattle.rowset.specs.ByteLaws.{AreBytes}
 use Rattle.rowset.specs.WriteLaws.{put-begins, put-unread, put-again, put-ends, put-mask, set-mask}
 use Rattle.rowset.proofs.join_mask.Statement.{statement}
 use Rattle.rowset.proofs.join_mask.Tie as tie
@@ -32,7 +32,7 @@ returns : tie.Need-returns Inv-loop μ-loop
 returns c =
     let known = c .before .before in
     let a = known .before .before .args in
-    let hb : Bytes (a .b .now) = λ i. omega (arith, known .before .slice-known .given i) in
+    let hb : AreBytes (a .b .now) = λ i. omega (arith, known .before .slice-known .given i) in
     let hw : (i : ℕ) → getD (a .ws .now) i 0 < 2 ^ 64 = λ i. omega (arith, known .shared-slice-known .given i) in
     let put = put-ends (c .before .loop .inv) (omega arith) ∙ put-mask (a .b .now) (a .ws .now) hb hw (a .at) (a .mask) (a .n) in
     (put, ap (λ (x : List ℕ). setAt x (a .at) (a .n)) put ∙ set-mask (a .b .now) (a .ws .now) hb hw (a .at) (a .mask) (a .n) (omega arith))

@@ -14,7 +14,7 @@ use borrow.Author.Needs.{needs}
 use Rattle.rowset.specs.declared.Next.{Next}
 use Rattle.rowset.specs.declared.Next.the-variants.{At, End}
 use Rattle.rowset.specs.Joined.{joined, setAt, maskAt, IsNext}
-use Rattle.rowset.specs.ByteLaws.{Bytes}
+use Rattle.rowset.specs.ByteLaws.{AreBytes}
 use Rattle.rowset.specs.NextLaws.{Words, picked, picked-fits, picked-all, Passed, joined-beyond, pass-start, pass-next, pass-end, pass-found}
 use Rattle.rowset.proofs.next_row.Statement.{statement}
 use Rattle.rowset.proofs.next_row.Tie as tie
@@ -26,7 +26,7 @@ abbrev μ-loop : tie.MeasureT-loop
 μ-loop b at ws mask n from start first j₀ m₀ j m = n - j
 
 -- what holds of the joined words holds of the common rows
-whole : (b : List ℕ) (at : ℕ) (ws : List ℕ) (mask n from : ℕ) → Bytes b → Words ws → (r : Next) → IsNext (joined 64 (picked b at ws mask) n) from r
+whole : (b : List ℕ) (at : ℕ) (ws : List ℕ) (mask n from : ℕ) → AreBytes b → Words ws → (r : Next) → IsNext (joined 64 (picked b at ws mask) n) from r
     → IsNext (common (setAt b at n) (maskAt ws mask n)) from r
 whole b at ws mask n from hb hw r h = subst (λ (s : RowSet). IsNext s from r) (picked-all b at ws mask n hb hw) h
 
@@ -34,7 +34,7 @@ returns : tie.Need-returns Inv-loop μ-loop
 returns c =
     let known = c .before in
     let a = known .before .before .args in
-    let hb : Bytes (a .b .now) = λ i. omega (arith, known .before .shared-slice-known .given i) in
+    let hb : AreBytes (a .b .now) = λ i. omega (arith, known .before .shared-slice-known .given i) in
     let hw : Words (a .ws .now) = λ i. omega (arith, known .shared-slice-known2 .given i) in
     whole (a .b .now) (a .at) (a .ws .now) (a .mask) (a .n) (a .from) hb hw End
     (λ k l. joined-beyond (a .n) (picked (a .b .now) (a .at) (a .ws .now) (a .mask)) (picked-fits (a .b .now) (a .at) (a .ws .now) (a .mask) hb) k
@@ -45,7 +45,7 @@ loop-holds c =
     let word = c .before in
     let known = word .before .before in
     let a = known .before .before .args in
-    let hb : Bytes (a .b .now) = λ i. omega (arith, known .before .shared-slice-known .given i) in
+    let hb : AreBytes (a .b .now) = λ i. omega (arith, known .before .shared-slice-known .given i) in
     let f : ℕ → ℕ = picked (a .b .now) (a .at) (a .ws .now) (a .mask) in
     let g : ℕ = a .from % 64 in
     let x : ℕ = bitAnd (word .word .result) (getD (a .ws .now) (a .mask + a .from / 64) 0) in
@@ -65,7 +65,7 @@ returns-2 c =
     let l = at-loop .loop in
     let known = at-loop .before .before .before .before in
     let a = known .before .before .args in
-    let hb : Bytes (a .b .now) = λ i. omega (arith, known .before .shared-slice-known .given i) in
+    let hb : AreBytes (a .b .now) = λ i. omega (arith, known .before .shared-slice-known .given i) in
     let hw : Words (a .ws .now) = λ i. omega (arith, known .shared-slice-known2 .given i) in
     whole (a .b .now) (a .at) (a .ws .now) (a .mask) (a .n) (a .from) hb hw End
     (pass-end (picked (a .b .now) (a .at) (a .ws .now) (a .mask)) (picked-fits (a .b .now) (a .at) (a .ws .now) (a .mask) hb) (a .n) (a .from)
@@ -78,7 +78,7 @@ loop-again c =
     let l = at-loop .loop in
     let known = at-loop .before .before .before .before in
     let a = known .before .before .args in
-    let hb : Bytes (a .b .now) = λ i. omega (arith, known .before .shared-slice-known .given i) in
+    let hb : AreBytes (a .b .now) = λ i. omega (arith, known .before .shared-slice-known .given i) in
     let f : ℕ → ℕ = picked (a .b .now) (a .at) (a .ws .now) (a .mask) in
     let x : ℕ = bitAnd (word .word2 .result) (getD (a .ws .now) (a .mask + (l .j + 1)) 0) in
     let e : x ≡ f (l .j + 1) = ap (λ (w : ℕ). bitAnd w (getD (a .ws .now) (a .mask + (l .j + 1)) 0)) (word .word2 .ensures) in (
@@ -101,7 +101,7 @@ returns-3 c =
     let l = c .before .loop in
     let known = c .before .before .before .before .before in
     let a = known .before .before .args in
-    let hb : Bytes (a .b .now) = λ i. omega (arith, known .before .shared-slice-known .given i) in
+    let hb : AreBytes (a .b .now) = λ i. omega (arith, known .before .shared-slice-known .given i) in
     let hw : Words (a .ws .now) = λ i. omega (arith, known .shared-slice-known2 .given i) in
     let pos : 0 < l .m = elim (ℕ-discrete (l .m) 0) [ yes e ↦ absurd (c .loop-test .left e) | no d ↦ omega arith ] in
     let low = trailing-lowest 64 (l .m) pos (l .inv .2) in

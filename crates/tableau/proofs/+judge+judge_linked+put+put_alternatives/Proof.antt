@@ -26,7 +26,7 @@ use Rattle.tableau.specs.JudgeCases.{takes-sat, takes-unsat, takes-unset
 use Rattle.tableau.specs.PutCases.{Finished, Weighed, Complete, Linked, put-adds, put-joins, put-clashes, put-waits, put-finished, put-weighed, put-above}
 use Rattle.tableau.specs.PutCases.{put-lapses, put-complete, put-link-short, put-links, put-judge-asks, put-judge-falls}
 use Rattle.tableau.specs.PutCases.{put-judge-short, put-edge-asks, put-judged}
-use Rattle.tableau.specs.SmallCases.{AlternativesPut, Chosen, Joined, turn-start, turn-walks, turn-sets, turn-next, turn-judges, turn-end}
+use Rattle.tableau.specs.SmallCases.{AlternativesPut, AlternativeFound, AlternativeJoined, turn-start, turn-walks, turn-sets, turn-next, turn-judges, turn-end}
 use Rattle.tableau.specs.SmallCases.{turn-index, turn-less, turn-joined, turn-sets-inside, turn-asks, turn-falls, turn-short, turn-put}
 use Rattle.graph.proofs.add_edge.Reads as add-edge
 use Rattle.records.proofs.load_node.Reads as load-node
@@ -230,7 +230,7 @@ first c = c .before .before .before .before .before .before .before
 
 -- an alternative was found
 chosen : (t : ℕ) (c : In-small t small-lts.After-index)
-    → Chosen (the-loop c .loop .inv) (c .index .given .0 .0) (setOf (the-loop c .loop .alternatives) (alternativeSize * c .index .given .0 .0))
+    → AlternativeFound (the-loop c .loop .inv) (c .index .given .0 .0) (setOf (the-loop c .loop .alternatives) (alternativeSize * c .index .given .0 .0))
 chosen t c = turn-next (the-loop c .loop .inv) (c .before .before .next-alternative .ensures) (c .index .given .1)
 
 -- the sets that are joined are there
@@ -243,7 +243,7 @@ the-index c = c .before .before .before .before .before
 
 -- and joined to the state's set
 joined : (t : ℕ) (c : In-small t small-lts.After-join-alternative) → let l = the-loop (the-index c) in
-    Joined (l .loop .inv) (the-index c .index .given .0 .0) (l .before .load-node .result) (setOf (c .join-alternative .last .1 .1 .1 .1 .0) 0)
+    AlternativeJoined (l .loop .inv) (the-index c .index .given .0 .0) (l .before .load-node .result) (setOf (c .join-alternative .last .1 .1 .1 .1 .0) 0)
 joined t c =
     let i = the-index c in
     let l = the-loop i in

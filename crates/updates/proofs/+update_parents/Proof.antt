@@ -9,7 +9,7 @@ use borrow.Fn.Kinds.{In, Out}
 use borrow.Fn.PlainCycle.{Measures, is, falls, and}
 use Rattle.graph.specs.Graphs.{Work, work}
 use Rattle.updates.specs.Contracts.{unsettled}
-use Rattle.updates.specs.ParentCases.{Chosen, turn-walks, turn-next, turn-asks, turn-index, last-walks}
+use Rattle.updates.specs.ParentCases.{ParentFound, turn-walks, turn-next, turn-asks, turn-index, last-walks}
 use Rattle.updates.specs.ClimbCases.{Climb, climbing, climb-start, climb-end, climb-short, climb-kept, climb-kept-less, Changed, climb-changed}
 use Rattle.updates.specs.ClimbCases.{climb-last, climb-last-less, climb-falls, climb-nested-short, climb-nested, climb-nested-less}
 use Rattle.graph.proofs.next_parent.Reads as next-parent
@@ -56,7 +56,7 @@ abbrev the-loop : {t : ℕ} → At t lts.After-index → At t lts.At-loop
 the-loop c = c .before .before .before .before .before
 
 -- a parent was found
-chosen : (t : ℕ) (c : At t lts.After-index) → Chosen (the-loop c .loop .inv .turn) (c .index .given .0 .0) (c .index .given .0 .1 .0)
+chosen : (t : ℕ) (c : At t lts.After-index) → ParentFound (the-loop c .loop .inv .turn) (c .index .given .0 .0) (c .index .given .0 .1 .0)
 chosen t c = turn-next (the-loop c .loop .inv .turn) (c .before .before .next-parent .ensures) (c .index .given .1)
 
 abbrev the-rejudge : {t : ℕ} → At t lts.After-next2 → At t lts.After-rejudge

@@ -4,7 +4,7 @@
 use borrow.Author.Needs.{needs}
 use borrow.Author.Tests.{not-true, not-false}
 use Rattle.graph.specs.Graphs.{Work, work}
-use Rattle.updates.specs.UpdateCases.{loaded, Opened, Judged, update-fits, update-not, update-opened, update-asks}
+use Rattle.updates.specs.UpdateCases.{loaded, Opened, JudgedAgain, update-fits, update-not, update-opened, update-asks}
 use Rattle.updates.specs.UpdateCases.{update-short, update-judged, update-refits, update-kept, update-settles}
 use Rattle.updates.proofs.rejudge.Statement.{statement}
 use Rattle.updates.proofs.rejudge.Tie as tie
@@ -27,7 +27,7 @@ abbrev after : tie.After-judge → Work
 after c = work (c .judge .last .1 .0) (c .judge .last .1 .1 .0) (c .judge .last .1 .1 .1 .0)
 
 -- it was judged, and nothing was short
-judged : (c : tie.After-d) → Judged (begun (the-open c) .pre) (after (the-judge c)) (c .d .given .0 .0)
+judged : (c : tie.After-d) → JudgedAgain (begun (the-open c) .pre) (after (the-judge c)) (c .d .given .0 .0)
 judged c = update-judged (opened (the-open c)) (the-judge c .judge .ensures) (c .d .given .1)
 
 pub rejudge-spec : {M : Type 1} → statement M

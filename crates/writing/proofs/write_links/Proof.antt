@@ -2,13 +2,13 @@
 use Prim.Native.Nat.{_-_}
 use native.Mathlib.Omega.{arith}
 use borrow.Author.Needs.{needs}
-use Rattle.writing.specs.Writing.{Written}
+use Rattle.writing.specs.Writing.{CopiedUpTo}
 use Rattle.writing.specs.WritingLaws.{written-none, written-all, link-written}
 use Rattle.writing.proofs.write_links.Statement.{statement}
 use Rattle.writing.proofs.write_links.Tie as tie
 
 abbrev Inv-loop : tie.InvT-loop
-Inv-loop edges count links₀ k₀ links k = Written edges count links₀ links k
+Inv-loop edges count links₀ k₀ links k = CopiedUpTo edges count links₀ links k
 
 abbrev μ-loop : tie.MeasureT-loop
 μ-loop edges count links₀ k₀ links k = count - k
