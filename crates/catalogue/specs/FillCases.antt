@@ -65,7 +65,8 @@ module _ {ws : List ℕ} {p : ℕ} {negatives row : List ℕ} (A : RowAsks ws p 
         let more : rowUpTo ws w p negatives (j + 1) ≡ rowUpTo ws w p negatives j ++ f (getD negatives j 0) ∷ [] =
         ap (map f) (take-more negatives j h) ∙ map-append f (take j negatives) (getD negatives j 0 ∷ []) in
         written-more L h (G .same) words Z
-        ((λ i. set (L .here i) j (is i)) ∙ overwrite-more (rowUpTo ws w p negatives j) row j (f (getD negatives j 0)) (sym row-length) (omega (arith, A .room))
+        ((λ i. set (L .here i) j (is i))
+        ∙ overwrite-more (rowUpTo ws w p negatives j) row j (f (getD negatives j 0)) (sym row-length) (omega (arith, A .room))
         ∙ ap (λ (xs : List ℕ). overwrite xs row) (sym more))
 
     pub row-all : length negatives ≤ j → RowGives ws (capacityOf w) p negatives row ws′ row′

@@ -25,8 +25,8 @@ module _ {other : RowSet → Problem → Problem} {upTo : ℕ → List ℕ} {cou
   }
 
   module _ {i : ℕ} {ws′ : List ℕ} {w′ : Work} {area′ : List ℕ} (L : PiecesWritten other upTo count ws w area i ws′ w′ area′) where
-    pub written-more : i < count → {ws″ : List ℕ} {w″ : Work} {area″ : List ℕ} → SameRows other ws′ ws″ → length ws″ ≡ length ws′ → Sized w′ w″
-        → area″ ≡ overwrite (upTo (i + 1)) area
+    pub written-more : i < count → {ws″ : List ℕ} {w″ : Work} {area″ : List ℕ} → SameRows other ws′ ws″ → length ws″ ≡ length ws′
+        → Sized w′ w″ → area″ ≡ overwrite (upTo (i + 1)) area
         → PiecesWritten other upTo count ws w area (i + 1) ws″ w″ area″
     written-more h S words Z e = record {
       within = omega arith;
