@@ -227,7 +227,7 @@ def check_deaf(room, copy):
     copy.run("building, rt ignores SIGINT: the next", '"$R/fit" "$F"', 0, CAN, None, ["rt check fit", "rt check fit"])
 
 
-ARCHIVES = ["rt staticlib gumbyra", "rt staticlib gumbyra_kinds"]
+ARCHIVES = ["rt staticlib gumbyra", "rt staticlib gumbyra_more"]
 LAID_OUT = ["include/gumbyra.h", "lib/libgumbyra.a", "lib/libgumbyra.so", "lib/pkgconfig/gumbyra.pc"]
 
 

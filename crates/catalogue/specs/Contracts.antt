@@ -18,7 +18,7 @@ use Rattle.decoding.specs.RowParts.{kindOf, leftOf}
 use Rattle.words.specs.Words.{overwrite}
 use Rattle.run.specs.Said.{Said, saysShort, saysCannot, saysCan, saysNothing, said}
 use Rattle.problem.specs.Decoded.{tableOf, problemOf, Decoded}
-use Rattle.problem.specs.Want.{MayServe, AllServe, withWanted, SameRows}
+use Rattle.decoder.specs.Want.{MayServe, AllServe, withWanted, SameRows}
 use Rattle.subsumption.specs.Names.{placeOf, ofName, positive, negative, hasBoth, rowAfterRow}
 use Rattle.subsumption.specs.Catalogue.{Areas, lent, catalogue, CatalogueNumbers, numbers, areasAfter}
 use Rattle.catalogue.specs.declared.Listed.{Listed}

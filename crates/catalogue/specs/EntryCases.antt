@@ -7,8 +7,8 @@ use mathlib.Core.Logic.{inl, inr}
 use Prim.Native.Nat.{ℕ}
 use Rattle.procedure.specs.Graph.{Capacity}
 use Rattle.problem.specs.Decoded.{tableOf}
-use Rattle.problem.specs.Want.{AllServe, withWanted}
-use Rattle.problem.specs.WantLaws.{wanted-same}
+use Rattle.decoder.specs.Want.{AllServe, withWanted}
+use Rattle.decoder.specs.WantLaws.{wanted-same}
 use Rattle.engine.specs.Asking.{saidOf, Asked}
 use Rattle.engine.specs.declared.asking.Said.{Said}
 use Rattle.catalogue.specs.Contracts.{entryNumber, EntryAsks, EntryGives}

@@ -16,8 +16,8 @@ use Rattle.procedure.specs.Tableau.{run}
 use Rattle.words.specs.Words.{overwrite}
 use Rattle.words.specs.WordLaws.{overwrite-more, take-more, length-overwrite, overwrite-piece, put-back}
 use Rattle.run.specs.Said.{said}
-use Rattle.problem.specs.Want.{withWanted, SameRows}
-use Rattle.problem.specs.WantLaws.{same-serve, same-all}
+use Rattle.decoder.specs.Want.{withWanted, SameRows}
+use Rattle.decoder.specs.WantLaws.{same-serve, same-all}
 use Rattle.graph.specs.Graphs.{Work, capacityOf, Sized}
 use Rattle.graph.specs.GraphLaws.{sized-places}
 use Rattle.subsumption.specs.Names.{rowAfterRow}

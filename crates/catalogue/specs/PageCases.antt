@@ -15,10 +15,10 @@ use Rattle.concepts.specs.RowSet.{fromList}
 use Rattle.words.specs.Words.{overwrite}
 use Rattle.decoding.specs.Decoding.{ruleKinds}
 use Rattle.rulefile.specs.Format.{wantedRows, refused, reading}
-use Rattle.rulefile.specs.Read.{LaidFor, Laid}
-use Rattle.rulefile.specs.PartLaws.{laid-placed}
+use Rattle.reader.specs.Read.{LaidFor, Laid}
+use Rattle.reader.specs.PartLaws.{laid-placed}
 use Rattle.rulefile.specs.WantedLaws as Wanted
-use Rattle.rulefile.specs.declared.Layout.{Layout}
+use Rattle.reader.specs.declared.Layout.{Layout}
 use Rattle.procedure.specs.Problem.{Problem}
 use Rattle.procedure.specs.Tableau.{run}
 use Rattle.run.specs.Run.{Lengths, capacity, Answer, refusedFile, short, cannot, can, tooLong, undefined, fileProblem}
@@ -26,8 +26,8 @@ use Rattle.run.specs.Said.{said, saidBy}
 use Rattle.run.proofs.Verdict.{Backs, answer-accepted, answer-backed}
 use Rattle.run.proofs.Said.{result-said}
 use Rattle.problem.specs.Decoded.{tableOf}
-use Rattle.problem.specs.Want.{withWanted}
-use Rattle.problem.specs.FileProblem.{FileDecoded}
+use Rattle.decoder.specs.Want.{withWanted}
+use Rattle.decoder.specs.FileProblem.{FileDecoded}
 use Rattle.subsumption.specs.Names.{positive, negative, names, rowAfterRow}
 use Rattle.subsumption.specs.NameLaws.{rowAfterRow-same}
 use Rattle.subsumption.specs.Catalogue.{Areas, areasOf, lent, entryOf, entry, Catalogue, refusedWith, listed, listedIn, catalogue}

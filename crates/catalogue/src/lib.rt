@@ -1,10 +1,10 @@
 // The catalogue of names (02, [7]): which names are under which, by a run of the engine's for each pair of names.
 //
 // In order: the names that are listed; the answer; what a run says that wants two rows; such answers in a row, and row after row; an accepted file; every file.
-// How the names are listed is in names.rt. Through the C convention the call is in `gumbyra_kinds`.
+// How the names are listed is in names.rt. Through the C convention the call is in `gumbyra_more`.
 ghost use Rattle.graph.specs.Graphs.{work, capacityOf};
 ghost use Rattle.decoding.specs.Decoding.{ruleKinds};
-ghost use Rattle.rulefile.specs.Read.{Laid};
+ghost use Rattle.reader.specs.Read.{Laid};
 ghost use Rattle.subsumption.specs.Catalogue.{areasOf};
 ghost use Rattle.subsumption.specs.CataloguePromise.{CataloguePromise};
 ghost use Rattle.catalogue.specs.Contracts.{EntryAsks, EntryGives, RowAsks, RowGives, FillAsks, FillGives, numbersOf, Answered};
@@ -12,13 +12,13 @@ use decoding::RULE_KINDS;
 use engine::asking::Said;
 use engine::asking::ask_wanted;
 use names::listed;
-use problem::WORDS;
-use problem::decode_file;
+use problem::layout::WORDS;
+use decoder::decode_file;
 use records::clear;
-use rulefile::Layout;
-use rulefile::Outcome;
-use rulefile::read;
-use rulefile::wanted_of;
+use reader::Layout;
+use reader::Outcome;
+use reader::read;
+use reader::wanted_of;
 
 pub mod names;
 

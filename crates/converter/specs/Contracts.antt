@@ -9,8 +9,8 @@ use lib.ListN.{length, take}
 use Rattle.concepts.specs.Lists.{Bytes}
 use Rattle.decoding.specs.Decoding.{draftKinds}
 use Rattle.rulefile.specs.Format.{RuleFile, contents}
-use Rattle.rulefile.specs.Read.{Laid}
-use Rattle.rulefile.specs.declared.Layout.{Layout}
+use Rattle.reader.specs.Read.{Laid}
+use Rattle.reader.specs.declared.Layout.{Layout}
 use Rattle.drafts.specs.Normalize.{normalized}
 use Rattle.drafts.specs.Conversion.{ConversionNumbers, numbers, conversion, areaAfter}
 use Rattle.normalize.specs.Words.{rowsIn, Held}

@@ -18,11 +18,11 @@ use Rattle.concepts.specs.Begins.{begins-length}
 use Rattle.concepts.specs.Concept.{Table, conceptAt, asRule, asWanted}
 use Rattle.decoding.specs.Decoding.{draftKinds}
 use Rattle.rulefile.specs.Format.{ruleCount, rule, rules, wantedRows, mostRows, mostRules, RuleFile, contents, refused, accepted}
-use Rattle.rulefile.specs.Read.{Laid}
+use Rattle.reader.specs.Read.{Laid}
 use Rattle.rulefile.specs.CheckLaws.{accepted-contents, accepted-passed}
 use Rattle.rulefile.specs.FormatLaws.{Admitted, contents-admitted}
-use Rattle.rulefile.specs.PartLaws.{laid-placed, whole}
-use Rattle.rulefile.specs.declared.Layout.{Layout}
+use Rattle.reader.specs.PartLaws.{laid-placed, whole}
+use Rattle.reader.specs.declared.Layout.{Layout}
 use Rattle.words.specs.Words.{overwrite}
 use Rattle.drafts.specs.Normalize.{PutList, putList, inclusionRows, normalized}
 use Rattle.drafts.specs.PutListLaws.{putList-grown}

@@ -3,7 +3,7 @@
 // In order: the answer; a refusal; a file that fits is written; an accepted draft; the call.
 ghost use mathlib.Core.Path.{_≡_};
 ghost use Rattle.decoding.specs.Decoding.{draftKinds};
-ghost use Rattle.rulefile.specs.Read.{Laid};
+ghost use Rattle.reader.specs.Read.{Laid};
 ghost use Rattle.drafts.specs.ConversionPromise.{ConversionPromise};
 ghost use Rattle.converter.specs.Contracts.{numbersOf, refusedNumbers, FinishAsks, Converts};
 use decoding::DRAFT_KINDS;
@@ -14,15 +14,15 @@ use normalize::SLOTS;
 use normalize::keep_inclusions;
 use normalize::put_list;
 use rulefile::LONGEST;
-use rulefile::Layout;
+use reader::Layout;
 use rulefile::MOST_ROWS;
 use rulefile::MOST_RULES;
-use rulefile::Outcome;
+use reader::Outcome;
 use rulefile::ROW;
 use rulefile::TRAILER;
-use rulefile::read;
-use rulefile::rules_of;
-use rulefile::wanted_of;
+use reader::read;
+use reader::rules_of;
+use reader::wanted_of;
 
 // The refusal's number and 0, or 0 and the length of the file that is written.
 #[repr(C)]

@@ -9,9 +9,9 @@ use lib.ListN.{length, replicate}
 use Rattle.concepts.specs.Lists.{Bytes}
 use Rattle.rulefile.specs.Format.{wantedRows, refused, readingFor}
 use Rattle.decoding.specs.Decoding.{ruleKinds}
-use Rattle.rulefile.specs.Read.{LaidFor}
-use Rattle.rulefile.specs.ReadLaws.{reading-own}
-use Rattle.rulefile.specs.declared.Layout.{Layout}
+use Rattle.reader.specs.Read.{LaidFor}
+use Rattle.rulefile.specs.ReadingLaws.{reading-own}
+use Rattle.reader.specs.declared.Layout.{Layout}
 use Rattle.procedure.specs.Problem.{Problem}
 use Rattle.procedure.specs.Tableau.{run}
 use Rattle.run.specs.Run.{Areas, areasOf, lengths, capacity, Answer, answerResult, answerReading, Numbers, refusedWith, numbers, answerFor, zeros, areasAfter}
@@ -19,7 +19,7 @@ use Rattle.run.specs.Promise.{PromiseFor, Promise}
 use Rattle.run.proofs.Verdict.{answer-accepted, answer-refused}
 use Rattle.run.proofs.Kept.{promise-kept}
 use Rattle.problem.specs.Decoded.{tableOf, problemOf}
-use Rattle.problem.specs.FileProblem.{FileDecoded}
+use Rattle.decoder.specs.FileProblem.{FileDecoded}
 use Rattle.conclusion.specs.Contracts.{Decides, Decided, DecideGives}
 use Rattle.conclusion.specs.declared.Decision.{Decision}
 use Rattle.conclusion.specs.declared.Decision.the-variants.{Short, Cannot, Can, TooLong}

@@ -14,7 +14,7 @@ use Rattle.words.specs.Words.{overwrite}
 use Rattle.run.specs.Said as Run
 use Rattle.run.specs.Said.{saysShort, saysCannot, saysCan, said}
 use Rattle.problem.specs.Decoded.{problemOf}
-use Rattle.problem.specs.Want.{Poses, SameRows}
+use Rattle.decoder.specs.Want.{Poses, SameRows}
 use Rattle.graph.specs.Graphs.{Work, Sized}
 use Rattle.engine.specs.declared.asking.Said.{Said}
 use Rattle.engine.specs.declared.asking.Said.the-variants.{Short, Cannot, Can}

@@ -11,7 +11,7 @@ use Rattle.procedure.specs.Graph.{Capacity}
 use Rattle.procedure.specs.Tableau.{run}
 use Rattle.run.specs.Said.{saysShort, saysCannot, saysCan, said}
 use Rattle.problem.specs.Decoded.{problemOf}
-use Rattle.problem.specs.Want.{Poses}
+use Rattle.decoder.specs.Want.{Poses}
 use Rattle.graph.specs.Graphs.{Work, capacityOf}
 use Rattle.graph.specs.declared.Counts.{Counts}
 use Rattle.graph.specs.declared.Area.{Area}

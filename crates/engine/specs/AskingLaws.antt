@@ -8,8 +8,8 @@ use Rattle.concepts.specs.RowSet.{RowSet}
 use Rattle.procedure.specs.Problem.{Problem}
 use Rattle.words.specs.Words.{overwrite}
 use Rattle.problem.specs.Decoded.{Decoded}
-use Rattle.problem.specs.Want.{SameRows}
-use Rattle.problem.specs.WantLaws.{same-refl, same-then}
+use Rattle.decoder.specs.Want.{SameRows}
+use Rattle.decoder.specs.WantLaws.{same-refl, same-then}
 use Rattle.graph.specs.Graphs.{Work, Sized}
 use Rattle.graph.specs.GraphLaws.{sized-refl, sized-trans}
 use Rattle.engine.specs.Asking.{PiecesWritten}

@@ -5,13 +5,13 @@ ghost use mathlib.Core.Path.{_≡_};
 ghost use Rattle.procedure.specs.Tableau.{run};
 ghost use Rattle.run.specs.Said.{said};
 ghost use Rattle.problem.specs.Decoded.{tableOf, problemOf, Decoded};
-ghost use Rattle.problem.specs.Want.{AllServe, withWanted, withRules};
+ghost use Rattle.decoder.specs.Want.{AllServe, withWanted, withRules};
 ghost use Rattle.graph.specs.Graphs.{work, capacityOf};
 ghost use Rattle.engine.specs.Asking.{saidOf, Asked};
 use conclusion::Verdict;
 use conclusion::verdict_of;
-use problem::impose;
-use problem::want;
+use decoder::impose;
+use decoder::want;
 
 // A record found no place; "cannot"; "can".
 pub enum Said {

@@ -1,4 +1,4 @@
-// The engine (00, demands 1 to 3; 02, [4] and [7]): a rule file, wanted rows and five lent areas in, the answer out. Through the C convention it is called in `gumbyra` and `gumbyra_kinds`.
+// The engine (00, demands 1 to 3; 02, [4] and [7]): a rule file, wanted rows and five lent areas in, the answer out. Through the C convention it is called in `gumbyra` and `gumbyra_more`.
 //
 // In order: the answer's numbers; an accepted file; every file, with wanted rows that are given and with its own; the text of a file, likewise.
 // Runs with no example, for whoever asks often of one file, are in asking.rt.
@@ -8,7 +8,7 @@ ghost use Rattle.answers.specs.Numbers.{numbersOf};
 ghost use lib.ListN.{length, take};
 ghost use Rattle.rulefile.specs.Format.{textFor, textOf};
 ghost use Rattle.decoding.specs.Decoding.{ruleKinds};
-ghost use Rattle.rulefile.specs.Read.{LaidFor};
+ghost use Rattle.reader.specs.Read.{LaidFor};
 ghost use Rattle.words.specs.Sizes.{mostRecords};
 ghost use Rattle.run.specs.Run.{areasOf, verdictWith, refusedWith, shortRefusal, shortWith, tooLongWith};
 ghost use Rattle.run.specs.Promise.{PromiseFor, Promise};
@@ -28,15 +28,15 @@ use decoding::RULE_KINDS;
 use graph::Area;
 use graph::Counts;
 use marks::Sizes;
-use problem::WORDS;
-use problem::decode_file;
+use problem::layout::WORDS;
+use decoder::decode_file;
 use records::clear;
-use rulefile::Layout;
-use rulefile::Outcome;
-use rulefile::read_for;
-use rulefile::text;
-use rulefile::text_for;
-use rulefile::wanted_of;
+use reader::Layout;
+use reader::Outcome;
+use reader::read_for;
+use reader::text;
+use reader::text_for;
+use reader::wanted_of;
 
 pub mod asking;
 

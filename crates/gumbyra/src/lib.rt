@@ -1,6 +1,6 @@
 // The calls of the archive `libgumbyra.a`, through the C convention: what each promises is what the function that it calls promises.
 //
-// In order: the engine's call; the text of a rule file; the converter's call. Several wanted rows and the catalogue are in `gumbyra_kinds`.
+// In order: the engine's call; the text of a rule file; the converter's call. Several wanted rows and the catalogue are in `gumbyra_more`.
 ghost use mathlib.Core.Path.{_≡_};
 ghost use lib.ListN.{length, take};
 ghost use Rattle.decoding.specs.Decoding.{ruleKinds};

@@ -19,7 +19,7 @@ use Rattle.concepts.specs.Concept.{Concept, atomic, inclusion, Table, conceptAt
 use Rattle.decoding.specs.RowParts.{ofParts}
 use Rattle.decoding.specs.RowPartLaws.{parts-own}
 use Rattle.rulefile.specs.Format.{rowCount, rowByte, inclusionAt, someInclusion}
-use Rattle.rulefile.specs.ReadLaws as Reader
+use Rattle.rulefile.specs.ReadingLaws as Reader
 use Rattle.drafts.specs.Normalize.{inclusionRows}
 use Rattle.normalize.specs.Words.{rowsIn}
 use Rattle.normalize.specs.WordLaws.{inclusion-row, rowsIn-more, held-more}

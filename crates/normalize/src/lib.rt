@@ -21,8 +21,8 @@ use decoding::kinds::NEG;
 use decoding::kinds::NEGATED;
 use decoding::kinds::UNIV;
 use rulefile::MOST_ROWS;
-use rulefile::inclusions::some_inclusion;
-use rulefile::row_byte;
+use checks::inclusions::some_inclusion;
+use checks::row_byte;
 
 // What becomes of a row: a row without arguments (kind, name); what becomes of another row (sign, row); a row over one (kind, role, sign, row) or over two
 // (kind, sign, row, sign, row). The sign says whether the row is needed as it stands or its opposite is.

@@ -3,7 +3,7 @@
 use decoding::RULE_KINDS;
 use libc::STDIN_FILENO;
 use libc::STDOUT_FILENO;
-use rulefile::Outcome;
+use reader::Outcome;
 
 // Room for one file, above the 4,096 bytes that may pass.
 const ROOM: usize = 8192;
@@ -29,7 +29,7 @@ fn sum(bytes: &[u8]) -> u16 {
 
 // Writes the refusal of one file, or that it is accepted.
 fn show_refusal(file: &[u8]) {
-    match rulefile::read(file, RULE_KINDS) {
+    match reader::read(file, RULE_KINDS) {
         Outcome::Refused(n) => {
             io::print_decimal(STDOUT_FILENO, n as u64);
         }
@@ -42,7 +42,7 @@ fn show_refusal(file: &[u8]) {
 // Writes the line of one file.
 fn answer(file: &[u8]) {
     show_refusal(file);
-    let text = rulefile::text(file, RULE_KINDS);
+    let text = reader::text(file, RULE_KINDS);
     io::write_all(STDOUT_FILENO, b" ");
     io::print_decimal(STDOUT_FILENO, text.len() as u64);
     io::write_all(STDOUT_FILENO, b" ");

@@ -4,7 +4,7 @@ use mathlib.Core.Path.{refl, sym, _∙_}
 use borrow.Author.Needs.{needs}
 use Rattle.decoding.specs.Decoding.{ruleKinds}
 use Rattle.rulefile.specs.Format.{wantedRows}
-use Rattle.rulefile.specs.PartLaws.{reads-refused, reads-accepted}
+use Rattle.reader.specs.PartLaws.{reads-refused, reads-accepted}
 use Rattle.subsumption.specs.Catalogue.{areasOf}
 use Rattle.catalogue.specs.PageCases.{promised, refused-answered}
 use Rattle.catalogue.proofs.classify.Statement.{statement}

@@ -5,8 +5,8 @@ use Prim.Native.Nat.{_-_}
 use native.Mathlib.Nat.{mul-le-mul}
 use native.Mathlib.Omega.{arith}
 use borrow.Author.Needs.{needs}
-use Rattle.problem.specs.WritingLaws.{fresh-zeros}
-use Rattle.problem.specs.FileProblem.{FileDecoded}
+use Rattle.decoder.specs.WritingLaws.{fresh-zeros}
+use Rattle.decoder.specs.FileProblem.{FileDecoded}
 use Rattle.rulefile.specs.Format.{wantedRows}
 use Rattle.subsumption.specs.Catalogue.{Areas, areasOf}
 use Rattle.catalogue.specs.ListedLaws.{listed-fill}

@@ -3,7 +3,7 @@ use Prim.Native.Nat.{_-_}
 use borrow.Author.Needs.{needs}
 use native.Mathlib.Omega.{arith}
 use lib.ListN.{length}
-use Rattle.problem.specs.Want.{withWanted}
+use Rattle.decoder.specs.Want.{withWanted}
 use Rattle.graph.specs.Graphs.{work}
 use Rattle.engine.specs.Asking.{PiecesWritten}
 use Rattle.catalogue.specs.FillCases.{tableUpTo, fill-none, table-size, row-start, row-start-small, fill-asks, fill-more, fill-all}

@@ -3,7 +3,7 @@
 use borrow.Author.Needs.{needs}
 use mathlib.Core.Path.{sym, _∙_}
 use Rattle.rulefile.specs.Format.{wantedRows}
-use Rattle.rulefile.specs.PartLaws.{reads-refused, reads-accepted}
+use Rattle.reader.specs.PartLaws.{reads-refused, reads-accepted}
 use Rattle.decoding.specs.Decoding.{draftKinds}
 use Rattle.converter.specs.ConvertCases.{numbers-as, refused-converts, converts-promise}
 use Rattle.converter.proofs.convert.Statement.{statement}

@@ -3,7 +3,7 @@
 use mathlib.Core.Path.{_≡_, refl}
 use borrow.Author.Needs.{needs}
 use Rattle.rulefile.specs.Format.{wantedRows}
-use Rattle.rulefile.specs.PartLaws.{laid-placed}
+use Rattle.reader.specs.PartLaws.{laid-placed}
 use Rattle.converter.specs.ConvertCases.{list-as, numbers-as, inclusions-asks, rules-asks, rules-full, kit-asks, kit-full, finish-asks, too-many}
 use Rattle.converter.proofs.convert_accepted.Statement.{statement}
 use Rattle.converter.proofs.convert_accepted.Tie as tie

@@ -2,7 +2,7 @@
 -- Assumes nothing.
 use mathlib.Core.Path.{refl}
 use borrow.Author.Needs.{needs}
-use Rattle.problem.specs.WritingLaws.{fresh-zeros}
+use Rattle.decoder.specs.WritingLaws.{fresh-zeros}
 use Rattle.run.specs.Run.{areasOf}
 use Rattle.engine.specs.AnswerCases.{Settled, file-settled, file-answered}
 use Rattle.engine.proofs.fit_accepted.Statement.{statement}

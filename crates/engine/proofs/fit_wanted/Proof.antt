@@ -4,7 +4,7 @@ use mathlib.Core.Path.{sym, _∙_}
 use borrow.Author.Needs.{needs}
 use Rattle.run.specs.Run.{areasOf}
 use Rattle.decoding.specs.Decoding.{ruleKinds}
-use Rattle.rulefile.specs.PartLaws.{reads-refused, reads-accepted}
+use Rattle.reader.specs.PartLaws.{reads-refused, reads-accepted}
 use Rattle.engine.specs.AnswerCases.{promised, refused-answered}
 use Rattle.engine.proofs.fit_wanted.Statement.{statement}
 use Rattle.engine.proofs.fit_wanted.Tie as tie

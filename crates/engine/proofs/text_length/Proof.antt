@@ -5,7 +5,7 @@ use lib.ListN.{length}
 use borrow.Author.Needs.{needs}
 use Rattle.decoding.specs.Decoding.{ruleKinds}
 use Rattle.rulefile.specs.Format.{wantedRows}
-use Rattle.rulefile.specs.ReadLaws.{take-textFor}
+use Rattle.rulefile.specs.ReadingLaws.{take-textFor}
 use Rattle.engine.proofs.text_length.Statement.{statement}
 use Rattle.engine.proofs.text_length.Tie as tie
 

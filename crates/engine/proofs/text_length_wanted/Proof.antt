@@ -4,7 +4,7 @@ use mathlib.Core.Path.{ap}
 use lib.ListN.{length}
 use borrow.Author.Needs.{needs}
 use Rattle.decoding.specs.Decoding.{ruleKinds}
-use Rattle.rulefile.specs.ReadLaws.{take-textFor}
+use Rattle.rulefile.specs.ReadingLaws.{take-textFor}
 use Rattle.engine.proofs.text_length_wanted.Statement.{statement}
 use Rattle.engine.proofs.text_length_wanted.Tie as tie
 

@@ -1,0 +1,3 @@
+-- What the reader answers, and the parts of a file.
+pub mod Read
+pub mod PartLaws
