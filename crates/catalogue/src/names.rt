@@ -22,7 +22,7 @@ fn put_place(problem: &[u64], kind: u8, k: usize, places: &mut [u8])
     requires { ⌜ Decoded (now problem) × (kind < 3) × PlacesFrom kind (tableOf (now problem)) (k + 1) (now places) ⌝ }
     ensures { λ _. ⌜ PlacesFrom kind (tableOf (now (problem .entry))) k (now (places .exit)) ⌝ }
 {
-    if kind_at(problem, k) == kind {
+    if kind_at(problem, k) == kind as usize {
         places[left_at(problem, k)] = k as u8;
     }
 }
