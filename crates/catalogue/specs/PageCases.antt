@@ -32,7 +32,7 @@ use Rattle.subsumption.specs.Names.{positive, negative, names, rowAfterRow}
 use Rattle.subsumption.specs.NameLaws.{rowAfterRow-same}
 use Rattle.subsumption.specs.Catalogue.{Areas, areasOf, lent, entryOf, entry, Catalogue, refusedWith, listed, listedIn, catalogue}
 use Rattle.subsumption.specs.Catalogue.{CatalogueNumbers, refusalAlone, numbers, areasAfter}
-use Rattle.subsumption.specs.CataloguePromise.{CataloguePromise}
+use Rattle.subsumption.specs.Promise.{CataloguePromise}
 use Rattle.subsumption.proofs.Entry.{rowsFor, reads-rows}
 use Rattle.subsumption.proofs.Kept.{entriesOf, catalogue-refused, catalogue-accepted, promise-kept}
 use Rattle.catalogue.specs.Contracts.{Lists, entryNumber, ranEntry, FillGives, Answered}

@@ -6,7 +6,7 @@ ghost use Rattle.graph.specs.Graphs.{work, capacityOf};
 ghost use Rattle.decoding.specs.Decoding.{ruleKinds};
 ghost use Rattle.reader.specs.Read.{Laid};
 ghost use Rattle.subsumption.specs.Catalogue.{areasOf};
-ghost use Rattle.subsumption.specs.CataloguePromise.{CataloguePromise};
+ghost use Rattle.subsumption.specs.Promise.{CataloguePromise};
 ghost use Rattle.catalogue.specs.Contracts.{EntryAsks, EntryGives, RowAsks, RowGives, FillAsks, FillGives, numbersOf, Answered};
 use decoding::RULE_KINDS;
 use engine::asking::Said;

@@ -29,7 +29,7 @@ use Rattle.drafts.specs.PutListLaws.{putList-grown}
 use Rattle.drafts.specs.Encoding.{rowBytes, trailer, fileBytes}
 use Rattle.drafts.specs.EncodingLaws.{length-fileBytes}
 use Rattle.drafts.specs.Conversion.{draftReading, Conversion, ConversionNumbers, refusedWith, written, tooLarge, writtenOr, numbers, conversion, areaAfter}
-use Rattle.drafts.specs.ConversionPromise.{ConversionPromise}
+use Rattle.drafts.specs.Promise.{ConversionPromise}
 use Rattle.drafts.proofs.Kept.{conversion-refused, conversion-accepted, promise-kept}
 use Rattle.normalize.specs.Words.{rowIn, rowsIn}
 use Rattle.normalize.specs.WordLaws.{own-parts, length-rowsIn, conceptAt-rowsIn}

@@ -4,7 +4,7 @@
 ghost use mathlib.Core.Path.{_≡_};
 ghost use Rattle.decoding.specs.Decoding.{draftKinds};
 ghost use Rattle.reader.specs.Read.{Laid};
-ghost use Rattle.drafts.specs.ConversionPromise.{ConversionPromise};
+ghost use Rattle.drafts.specs.Promise.{ConversionPromise};
 ghost use Rattle.converter.specs.Contracts.{numbersOf, refusedNumbers, FinishAsks, Converts};
 use decoding::DRAFT_KINDS;
 use encoder::write_file;

@@ -11,7 +11,7 @@ ghost use Rattle.answers.specs.Numbers as Answers;
 ghost use Rattle.run.specs.Run as Run;
 ghost use Rattle.run.specs.Promise.{PromiseFor};
 ghost use Rattle.subsumption.specs.Catalogue.{areasOf};
-ghost use Rattle.subsumption.specs.CataloguePromise.{CataloguePromise};
+ghost use Rattle.subsumption.specs.Promise.{CataloguePromise};
 ghost use Rattle.catalogue.specs.Contracts.{numbersOf};
 use answers::Answer;
 use catalogue::Page;

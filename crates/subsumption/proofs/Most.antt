@@ -13,7 +13,7 @@ use Rattle.rulefile.specs.Format.{wantedRows, RuleFile, Reading, refused, accep
 use Rattle.rulefile.specs.FormatLaws.{accepted-admitted}
 use Rattle.subsumption.specs.NameCountLaws.{names-half}
 use Rattle.subsumption.specs.Catalogue.{Areas, CatalogueNumbers}
-use Rattle.subsumption.specs.CataloguePromise.{CataloguePromise}
+use Rattle.subsumption.specs.Promise.{CataloguePromise}
 
 module _ {file : Bytes} {before : Areas} {r : CatalogueNumbers} {after : Areas} (P : CataloguePromise file before r after) where
   -- each name has two of the 64 rows; with a refusal none is told
