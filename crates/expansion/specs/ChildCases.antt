@@ -87,7 +87,7 @@ module _ {ws : List ℕ} {n e a : Bytes} {c : Counts} {x : ℕ} {A : ExpandAsks 
   both-right = both-fit .1
 
   may : MayPut A (g A) (nodeAt (g A) x .pst) (nodeAt (g A) x .prl) (insert l (insert r (nodeAt (g A) x .rows)))
-  may = conj-puts (P A) (cap A) (g A) x (A .still) (A .there) (A .fresh) (l, r) (B .found)
+  may = conj-puts (A .expands) (l, r) (B .found)
 
   module _ {σ : RowSet} (eσ : σ ≡ insert l (insert r (setOf n (nodeSize * x)))) where
     pub both-asks : PutAsks ws (work n e a) c x (v .pst) (v .prl) σ
@@ -153,7 +153,7 @@ module _ {ws : List ℕ} {n e a : Bytes} {c : Counts} {x : ℕ} {A : DisjAsks ws
     pub now : Now (A .node) w₁ d
 
   may-left : MayPut N (g N) (nodeAt (g N) x .pst) (nodeAt (g N) x .prl) (insert l (nodeAt (g N) x .rows))
-  may-left = disj-puts (P N) (cap N) (g N) x (N .still) (N .there) (N .fresh) (l, r) (E .found) (g N) (growing-start N) .0
+  may-left = disj-puts (N .expands) (l, r) (E .found) (g N) (growing-start N) .0
 
   module _ {σ : RowSet} (eσ : σ ≡ insert l (setOf n (nodeSize * x))) where
     pub left-asks : PutAsks ws (work n e a) c x (v .pst) (v .prl) σ
@@ -174,7 +174,7 @@ module _ {ws : List ℕ} {n e a : Bytes} {c : Counts} {x : ℕ} {A : DisjAsks ws
   may-right : MayPut (N E) (graphOf w₁ d) (nodeAt (g (N E)) x .pst) (nodeAt (g (N E)) x .prl) (insert r (nodeAt (g (N E)) x .rows))
   may-right =
       let B = A .node in
-      disj-puts (P B) (cap B) (g B) x (B .still) (B .there) (B .fresh) (l, r) (E .found) (graphOf w₁ d) (S .now .growing) .1
+      disj-puts (B .expands) (l, r) (E .found) (graphOf w₁ d) (S .now .growing) .1
 
   pub right-asks : PutAsks ws w₁ d x (v .pst) (v .prl) τ
   right-asks = set-asks v (E .loaded) (S .now) (insert r) may-right eτ
@@ -217,7 +217,7 @@ module _ {ws : List ℕ} {w : Work} {c : Counts} (A : StateAsks ws w c 0) {σ : 
   kit = union (wantedOf ws) (rulesOf ws)
 
   kit-may : MayPut R (graphOf w c) 0 noRole kit
-  kit-may = kit-puts (P R) (cap R) (g R) 0 (R .still) (R .there) (R .fresh) (A .disj .noConj) (A .noDisj) refl
+  kit-may = kit-puts (R .expands) (A .disj .noConj) (A .noDisj) refl
 
   pub kit-asks : PutAsks ws w c 0 0 noRole σ
   kit-asks = subst (λ (s : RowSet). PutAsks ws w c 0 0 noRole s) (sym kit-is) (now-asks (now-start R) kit-may)

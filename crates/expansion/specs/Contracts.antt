@@ -10,7 +10,7 @@ use Rattle.procedure.specs.Status.{unset}
 use Rattle.procedure.specs.SetTests.{lowestConj, lowestDisj}
 use Rattle.procedure.specs.Graph.{nodeAt, nodeCount}
 use Rattle.procedure.specs.Tableau.{putKit, putSuccessors, expandState, expandDisj, expandConj, expand}
-use Rattle.procedure.proofs.ExpandFit.{Still}
+use Rattle.procedure.proofs.ExpandFit.{Expands}
 use Rattle.problem.specs.Decoded.{tableOf, problemOf, Decoded}
 use Rattle.graph.specs.Graphs.{Work, graphOf, capacityOf, Held, Refines}
 use Rattle.graph.specs.declared.Counts.{Counts}
@@ -22,9 +22,7 @@ use Rattle.graph.specs.declared.Step.{Step}
 pub record ExpandAsks (ws : List ℕ) (w : Work) (c : Counts) (x : ℕ) : Type 0 where
   pub decoded : Decoded ws
   pub held : Held w c
-  pub still : Still (problemOf ws) (capacityOf w) (graphOf w c)
-  pub there : x < nodeCount (graphOf w c)
-  pub fresh : nodeAt (graphOf w c) x .status ≡ unset
+  pub expands : Expands (problemOf ws) (capacityOf w) (graphOf w c) x
 
 -- .. and no unfinished conjunction
 pub record DisjAsks (ws : List ℕ) (w : Work) (c : Counts) (x : ℕ) : Type 0 where

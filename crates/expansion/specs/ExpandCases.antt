@@ -77,7 +77,7 @@ module _ {ws : List ℕ} {w : Work} {c : Counts} {x : ℕ} {A : ExpandAsks ws w 
   judge-asks = record {
     decoded = A .decoded;
     held = refines-held (K .gives);
-    fit = subst (λ (q : Capacity). JudgeFit (P A) q h x) (sym places) (judge-fit (P A) (cap A) (g A) x (A .still) (A .there) (A .fresh) h (sym (K .gives .meets)));
+    fit = subst (λ (q : Capacity). JudgeFit (P A) q h x) (sym places) (judge-fit (A .expands) h (sym (K .gives .meets)));
   }
 
   module _ {w₂ : Work} {r : Step} (J : JudgeGives ws w₁ d x r w₂) where
@@ -94,12 +94,12 @@ module _ {ws : List ℕ} {w : Work} {c : Counts} {x : ℕ} {A : ExpandAsks ws w 
     pub judge-done : {b : Counts} → r ≡ Done b → WithStatus A w₂ b
     judge-done {b} er =
         let q = judged er .meets ∙ ap (λ (k : Capacity). judging A k h) places in
-        let (f, l) = judged-fit (P A) (cap A) (g A) x (A .still) (A .there) (A .fresh) h (sym (K .gives .meets)) (graphOf w₂ b) (sym q) in
+        let (f, l) = judged-fit (A .expands) h (sym (K .gives .meets)) (graphOf w₂ b) (sym q) in
         record {
           gives = both er;
           fit = f;
           there = l;
-          unmoved = open-unmoved (P A) (cap A) (g A) x (A .still) (A .there) (A .fresh) h (sym (K .gives .meets)) (graphOf w₂ b) (sym q);
+          unmoved = open-unmoved (A .expands) h (sym (K .gives .meets)) (graphOf w₂ b) (sym q);
         }
 
 -- ---- after the judgement

@@ -40,7 +40,7 @@ module _ {ws : List ℕ} {w : Work} {c : Counts} {x : ℕ} (A : ExpandAsks ws w 
   g = graphOf w c
 
   there : x < c .nodes
-  there = omega (arith, A .there, count-nodes w c)
+  there = omega (arith, A .expands .there, count-nodes w c)
 
   -- a row of the table is one of the set's width
   pub row-fits : (k : ℕ) → k < length (tableOf ws) → k < width
@@ -50,7 +50,7 @@ module _ {ws : List ℕ} {w : Work} {c : Counts} {x : ℕ} (A : ExpandAsks ws w 
 
   -- some children of x are put
   abbrev pub Growing : Graph → Type 0
-  Growing h = E.Growing P cap g x (A .still) (A .there) (A .fresh) h
+  Growing h = E.Growing (A .expands) h
 
   pub record Now (w′ : Work) (d : Counts) : Type 0 where
     pub held : Held w′ d
@@ -58,14 +58,14 @@ module _ {ws : List ℕ} {w : Work} {c : Counts} {x : ℕ} (A : ExpandAsks ws w 
     pub growing : Growing (graphOf w′ d)
 
   pub growing-start : Growing g
-  growing-start = E.growing-start P cap g x (A .still) (A .there) (A .fresh)
+  growing-start = E.growing-start (A .expands)
 
   pub now-start : Now w c
   now-start = record { held = A .held; sized = sized-refl; growing = growing-start }
 
   -- the set s may be put now
   abbrev pub MayPut : Graph → (p ρ : ℕ) → RowSet → Type 0
-  MayPut h p ρ s = E.Puts P cap g x (A .still) (A .there) (A .fresh) h p ρ s
+  MayPut h p ρ s = E.Puts (A .expands) h p ρ s
 
 -- ---- the node, as it was loaded
 
@@ -87,10 +87,10 @@ module _ {ws : List ℕ} {n e a : Bytes} {c : Counts} {x : ℕ} (A : ExpandAsks 
 
 module _ {ws : List ℕ} {w : Work} {c : Counts} {x : ℕ} {A : ExpandAsks ws w c x} {w′ : Work} {d : Counts} (N : Now A w′ d) where
   there-still : x < d .nodes
-  there-still = omega (arith, N .growing .grows .longer, A .there, count-nodes w′ d)
+  there-still = omega (arith, N .growing .grows .longer, A .expands .there, count-nodes w′ d)
 
   pub now-set : setOf (w′ .nodes) (nodeSize * x) ≡ nodeAt (graphOf w c) x .rows
-  now-set = sym (graph-set w′ d x there-still) ∙ ap (λ (v : Node). v .rows) (N .growing .kept x (A .there))
+  now-set = sym (graph-set w′ d x there-still) ∙ ap (λ (v : Node). v .rows) (N .growing .kept x (A .expands .there))
 
   pub now-inside : nodeSize * x + setSize ≤ length (w′ .nodes)
   now-inside = held-set (N .held) there-still
@@ -108,7 +108,7 @@ module _ {ws : List ℕ} {w : Work} {c : Counts} {x : ℕ} {A : ExpandAsks ws w 
     held = N .held;
     fit =
         subst (λ (q : Capacity). PutFit (P A) q h x p ρ s) (sym (sized-places (N .sized)))
-        (E.puts-fit (P A) (cap A) (g A) x (A .still) (A .there) (A .fresh) h (N .growing) p ρ s M);
+        (E.puts-fit (A .expands) h (N .growing) p ρ s M);
   }
 
   module _ {w″ : Work} {r : Step} (G : PutGives ws w′ d x p ρ s r w″) where
@@ -125,5 +125,5 @@ module _ {ws : List ℕ} {w : Work} {c : Counts} {x : ℕ} {A : ExpandAsks ws w 
           held = refines-held R;
           sized = sized-trans (N .sized) (R .sized);
           growing =
-              subst (λ (q : Result). Sure (P A) (Growing A) q) (sym q) (E.puts-done (P A) (cap A) (g A) x (A .still) (A .there) (A .fresh) h (N .growing) p ρ s M);
+              subst (λ (q : Result). Sure (P A) (Growing A) q) (sym q) (E.puts-done (A .expands) h (N .growing) p ρ s M);
         }

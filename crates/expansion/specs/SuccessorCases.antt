@@ -133,7 +133,7 @@ module _ {ws : List ℕ} {w : Work} {c : Counts} {x : ℕ} {w′ : Work} {d : Co
   may : MayPut (A T) (h T) x role (successor (problemOf ws) (s T) (role, argument))
   may =
       let B = A T in
-      successor-puts (P B) (cap B) (g B) x (B .still) (B .there) (B .fresh) (T .asks .disj .noConj) (T .asks .noDisj) (T .other) (h T) (T .growing)
+      successor-puts (B .expands) (T .asks .disj .noConj) (T .asks .noDisj) (T .other) (h T) (T .growing)
       (role, argument) one-of
 
   pub record Made (σ : RowSet) : Type 0 where

@@ -17,7 +17,7 @@ use Rattle.procedure.specs.GraphLaws.{lowestUnset-some}
 use Rattle.procedure.specs.Tableau.{expand, loopWithin}
 use Rattle.procedure.specs.TableauLaws.{bind-reached, short-bind, short-as, loop-settled, loop-done, loop-round}
 use Rattle.procedure.proofs.Measure.{count-le, withAStatus}
-use Rattle.procedure.proofs.ExpandFit.{Still, still-after, status-stays}
+use Rattle.procedure.proofs.ExpandFit.{Still, Expands, still-after, status-stays}
 use Rattle.words.specs.Sizes.{nodeSize}
 use Rattle.problem.specs.Decoded.{problemOf}
 use Rattle.records.specs.Areas.{roomOf, Fits}
@@ -144,6 +144,9 @@ module _ {ws : List ℕ} {w : Work} {c : Counts} {n′ e′ a′ : Bytes} {d : C
   fresh : nodeAt (h T) x .status ≡ unset
   fresh = is-unset (nodeAt (h T) x .status) (lowestUnset-some (h T) x (F .found) .1)
 
+  expands : Expands (P T) (cap T) (h T) x
+  expands = record { still = T .still; there = there; fresh = fresh }
+
   places : capacityOf (work n′ e′ a′) ≡ cap T
   places = sized-places (T .sized)
 
@@ -151,9 +154,7 @@ module _ {ws : List ℕ} {w : Work} {c : Counts} {n′ e′ a′ : Bytes} {d : C
   turn-asks = record {
     decoded = T .asks .decoded;
     held = T .held;
-    still = subst (λ (q : Capacity). Still (P T) q (h T)) (sym places) (T .still);
-    there = there;
-    fresh = fresh;
+    expands = subst (λ (q : Capacity). Expands (P T) q (h T) x) (sym places) expands;
   }
 
   module _ {w″ : Work} {r : Step} (G : ExpandGives ws (work n′ e′ a′) d x r w″) where
@@ -177,7 +178,7 @@ module _ {ws : List ℕ} {w : Work} {c : Counts} {n′ e′ a′ : Bytes} {d : C
       expanded = refines-answer G er .meets ∙ same-places
 
       after : Still (P T) (cap T) (graphOf w″ d₂) × (withAStatus (h T) < withAStatus (graphOf w″ d₂))
-      after = still-after (P T) (cap T) (h T) x (T .still) there fresh (graphOf w″ d₂) (sym expanded)
+      after = still-after expands (graphOf w″ d₂) (sym expanded)
 
       -- one node more has a status
       pub turn-less : roomOf nodeSize (w .nodes) - withAStatus (graphOf w″ d₂) < roomOf nodeSize (w .nodes) - withAStatus (graphOf (work n′ e′ a′) d)
@@ -189,7 +190,7 @@ module _ {ws : List ℕ} {w : Work} {c : Counts} {n′ e′ a′ : Bytes} {d : C
       set-after k l u =
           let was : isUnset (nodeAt (h T) k .status) ≡ false = ap (λ (v : Node). isUnset (v .status)) (graph-node (work n′ e′ a′) d k l) ∙ u in
           ap (λ (v : Node). isUnset (v .status)) (sym (graph-node w″ d₂ k (omega (arith, l, refines-answer G er .held .1 .nodes))))
-          ∙ status-stays (P T) (cap T) (h T) x (T .still) there fresh (graphOf w″ d₂) (sym expanded) k
+          ∙ status-stays expands (graphOf w″ d₂) (sym expanded) k
           (omega (arith, l, count-nodes (work n′ e′ a′) d)) was
 
       left : loop T (fueled T .0) (graphOf w″ d₂) ≡ allRounds ws (cap T) (g T)

@@ -192,8 +192,9 @@ module _ {ws : List ℕ} {n e a : Bytes} {c : Counts} {m p ρ : ℕ} {s : RowSet
       let B = A .fit .pre in
       let K = L .complete in
       subst (λ (r : Result). Sure (S .problem) (Started S Anyone (g A) p ρ s) r) (sym (L .gives .meets))
-      (special-started S Anyone (g A) p ρ s (A .fit .fit .inv) (B .place) (eqb→eq (lacked A) empty (from-true (eqb (lacked A) empty) (K .nothing)))
-      (anyone-quiet S (g A)) (B .standing) (B .rules)
+      (special-started S
+      (record { inv = A .fit .fit .inv; quiet = anyone-quiet S (g A); place = B .place; standing = B .standing; rules = B .rules })
+      (eqb→eq (lacked A) empty (from-true (eqb (lacked A) empty) (K .nothing)))
       (from-false (clash (P A) s) (K .finished .clean)) (from-false (unfinished (P A .table) s) (K .finished .finished)))
 
   -- the judgement of the new node may rely on this
