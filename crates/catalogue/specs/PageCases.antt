@@ -106,7 +106,8 @@ module _ {b : Bytes} {l : Layout} (L : Laid ruleKinds b l) {ws : List ℕ} (F : 
       abbrev answerIf : Bool → Catalogue
       answerIf lacking = elim lacking [ true ↦ refusedWith 17 | false ↦ listed (names t) (entriesOf b room (L .file)) ]
 
-      answer-by : (x : Bool) → ltb (length (before .table)) (length (names t) * length (names t)) ≡ x → catalogue b room (length (before .table)) ≡ answerIf x
+      answer-by : (x : Bool) → ltb (length (before .table)) (length (names t) * length (names t)) ≡ x
+          → catalogue b room (length (before .table)) ≡ answerIf x
       unfolding listedIn
       answer-by x e = catalogue-accepted b room (length (before .table)) (L .file) (L .reads) ∙ ap answerIf e
 
@@ -124,9 +125,12 @@ module _ {b : Bytes} {l : Layout} (L : Laid ruleKinds b l) {ws : List ℕ} (F : 
           }
 
       -- the runs filled the table, and then the work areas were cleared, each of which kept its length until then
-      pub page-filled : {r : CatalogueNumbers} → r ≡ record { refusal = 0; count = k .count; names = k .names } → k .count * k .count ≤ length (before .table)
-          → {ws′ table′ : List ℕ} → FillGives ws (capacity room) (take (k .count) (k .positives)) (take (k .count) (k .negatives)) (before .table) ws′ table′
-          → {n e a : Bytes} {n₁ e₁ a₁ : ℕ} → n ≡ replicate n₁ 0 → n₁ ≡ length (before .nodes) → e ≡ replicate e₁ 0 → e₁ ≡ length (before .edges)
+      pub page-filled : {r : CatalogueNumbers} → r ≡ record { refusal = 0; count = k .count; names = k .names }
+          → k .count * k .count ≤ length (before .table)
+          → {ws′ table′ : List ℕ} → FillGives ws (capacity room) (take (k .count) (k .positives)) (take (k .count) (k .negatives))
+          (before .table) ws′ table′
+          → {n e a : Bytes} {n₁ e₁ a₁ : ℕ} → n ≡ replicate n₁ 0 → n₁ ≡ length (before .nodes) → e ≡ replicate e₁ 0
+          → e₁ ≡ length (before .edges)
           → a ≡ replicate a₁ 0 → a₁ ≡ length (before .alternatives) → Answered b before r (areasOf n e a table′)
       unfolding numbers areasAfter
       page-filled hr h W zn hn ze he za ha =
@@ -144,7 +148,8 @@ module _ {b : Bytes} {l : Layout} (L : Laid ruleKinds b l) {ws : List ℕ} (F : 
 
 module _ (b : Bytes) (before : Areas) where
   pub promised : (r : CatalogueNumbers) (after : Areas) → Answered b before r after → CataloguePromise b before r after
-  promised r after A = subst₂ (λ (x : CatalogueNumbers) (y : Areas). CataloguePromise b before x y) (sym (A .numbersAre)) (sym (A .areasAre)) (promise-kept b before)
+  promised r after A = subst₂ (λ (x : CatalogueNumbers) (y : Areas). CataloguePromise b before x y) (sym (A .numbersAre)) (sym (A .areasAre))
+      (promise-kept b before)
 
   pub refused-answered : (n : ℕ) → reading b ≡ refused n → (r : CatalogueNumbers) → r ≡ refusalAlone n → CataloguePromise b before r before
   unfolding numbers areasAfter

@@ -8,17 +8,17 @@ ghost use Rattle.reader.specs.Read.{Laid};
 ghost use Rattle.subsumption.specs.Catalogue.{areasOf};
 ghost use Rattle.subsumption.specs.Promise.{CataloguePromise};
 ghost use Rattle.catalogue.specs.Contracts.{EntryAsks, EntryGives, RowAsks, RowGives, FillAsks, FillGives, numbersOf, Answered};
+use decoder::decode_file;
 use decoding::RULE_KINDS;
 use engine::asking::Said;
 use engine::asking::ask_wanted;
 use names::listed;
 use problem::layout::WORDS;
-use decoder::decode_file;
-use records::clear;
 use reader::Layout;
 use reader::Outcome;
 use reader::read;
 use reader::wanted_of;
+use records::clear;
 
 pub mod names;
 

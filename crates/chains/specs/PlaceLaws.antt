@@ -1,7 +1,6 @@
 -- Laws of Places: what code writes, and that a chain stays one.
 --
 -- In order: a record appended, as the code writes it; a node with no records; a chain where other bytes change; a record more; a node more.
--- Assumes nothing.
 use mathlib.Core.Path.{_≡_, refl, sym, subst, _∙_}
 use mathlib.Core.Logic.{_⊎_, inl, inr}
 use Prim.Native.Nat.{ℕ, _+_, _*_, _^_, _≤_, _<_}
@@ -79,7 +78,8 @@ module _ {p : Places} {n b : Bytes} {x i : ℕ} (H : Has p n b x i) where
       let U : Within nodeSize x (p .first) (p .first + 2) n₁ n₂ = within-put nodeSize n₁ x (p .first) 2 i in-first in
       record {
         joined = record {
-          ends = let e : nextIn p b₁ i ≡ mostRecords = field-put (p .size) b i (p .next) 2 mostRecords (H .here .1) (H .sits .in-next) (omega arith) in omega arith;
+          ends = let e : nextIn p b₁ i ≡ mostRecords = field-put (p .size) b i (p .next) 2 mostRecords (H .here .1) (H .sits .in-next)
+              (omega arith) in omega arith;
           after = λ h. absurd (omega arith);
           nexts = λ z h d. Q .elsewhere z (p .next) 2 (omega arith) (H .sits .in-next);
           begins = λ _. field-put nodeSize n₁ x (p .first) 2 i (omega (arith, W .long, H .node .1)) in-first small;
@@ -88,18 +88,21 @@ module _ {p : Places} {n b : Bytes} {x i : ℕ} (H : Has p n b x i) where
           lastly = U .beside (p .first + 2) 2 (inr (omega arith)) in-node ∙ field-put nodeSize n x (p .first + 2) 2 i (H .node .1) in-node small;
           lasts = λ y d. U .elsewhere y (p .first + 2) 2 d in-node ∙ W .elsewhere y (p .first + 2) 2 d in-node;
         };
-        nodes = within-then (within-wider (p .first) (p .first + 4) (omega arith) (omega arith) W) (within-wider (p .first) (p .first + 4) (omega arith) (omega arith) U);
+        nodes = within-then (within-wider (p .first) (p .first + 4) (omega arith) (omega arith) W)
+            (within-wider (p .first) (p .first + 4) (omega arith) (omega arith) U);
         area = within-beside Q;
       }
 
   -- the same of the number v that the code read, and of what it left
-  pub appended-some : {v : ℕ} {n′ b′ : Bytes} → v ≡ last → v < i → n′ ≡ n₁ → b′ ≡ putLe b₁ (p .size * v + p .next) 2 i → Appended p n n′ b b′ i x
+  pub appended-some : {v : ℕ} {n′ b′ : Bytes} → v ≡ last → v < i → n′ ≡ n₁ → b′ ≡ putLe b₁ (p .size * v + p .next) 2 i
+      → Appended p n n′ b b′ i x
   appended-some {v} {n′} {b′} ev l en eb =
       let e : b′ ≡ putLe b₁ (p .size * last + p .next) 2 i = cc in
       subst (λ (k : Bytes). Appended p n n′ b k i x) (sym e)
       (subst (λ (k : Bytes). Appended p n k b (putLe b₁ (p .size * last + p .next) 2 i) i x) (sym en) (after-some (omega arith)))
 
-  pub appended-none : {v : ℕ} {n′ b′ : Bytes} → v ≡ last → i ≤ v → n′ ≡ putLe n₁ (nodeSize * x + p .first) 2 i → b′ ≡ b₁ → Appended p n n′ b b′ i x
+  pub appended-none : {v : ℕ} {n′ b′ : Bytes} → v ≡ last → i ≤ v → n′ ≡ putLe n₁ (nodeSize * x + p .first) 2 i → b′ ≡ b₁
+      → Appended p n n′ b b′ i x
   appended-none {v} {n′} ev l en eb =
       subst (λ (k : Bytes). Appended p n n′ b k i x) (sym eb) (subst (λ (k : Bytes). Appended p n k b b₁ i x) (sym en) (after-none (omega arith)))
 
@@ -115,7 +118,8 @@ begun {p} {n} {x} S fits =
     let U : Within nodeSize x (p .first + 2) (p .first + 2 + 2) n₁ (putLe n₁ (nodeSize * x + (p .first + 2)) 2 mostRecords) =
     within-put nodeSize n₁ x (p .first + 2) 2 mostRecords in-last in
     record {
-      within = within-then (within-wider (p .first) (p .first + 4) (omega arith) (omega arith) W) (within-wider (p .first) (p .first + 4) (omega arith) (omega arith) U);
+      within = within-then (within-wider (p .first) (p .first + 4) (omega arith) (omega arith) W)
+          (within-wider (p .first) (p .first + 4) (omega arith) (omega arith) U);
       unused = (
         U .beside (p .first) 2 (inl (omega arith)) in-first ∙ field-put nodeSize n x (p .first) 2 mostRecords (fits .1) in-first (omega arith),
         field-put nodeSize n₁ x (p .first + 2) 2 mostRecords (omega (arith, W .long, fits .1)) in-last (omega arith),
@@ -137,7 +141,8 @@ module _ {p : Places} (S : Sits p) {n n′ b b′ : Bytes} {m k : ℕ} where
       C
 
   -- a record more
-  pub chain-appended : {x : ℕ} → ChainIn p n b m k → keyIn p b k ≡ x → x < m → k < mostRecords → Appended p n n′ b b′ k x → ChainIn p n′ b′ m (k + 1)
+  pub chain-appended : {x : ℕ} → ChainIn p n b m k → keyIn p b k ≡ x → x < m → k < mostRecords → Appended p n n′ b b′ k x
+      → ChainIn p n′ b′ m (k + 1)
   chain-appended C e h l J =
       chain-same
       (λ z _. J .area .kept z (p .key) 2 (S .apart) (S .in-key))
@@ -147,7 +152,8 @@ module _ {p : Places} (S : Sits p) {n n′ b b′ : Bytes} {m k : ℕ} where
       (chain-joined C e h l (J .joined))
 
 -- a record past the last of all changes
-pub chain-past : {p : Places} → Sits p → (n : Bytes) {b b′ : Bytes} {m k lo hi : ℕ} → Within (p .size) k lo hi b b′ → ChainIn p n b m k → ChainIn p n b′ m k
+pub chain-past : {p : Places} → Sits p → (n : Bytes) {b b′ : Bytes} {m k lo hi : ℕ} → Within (p .size) k lo hi b b′ → ChainIn p n b m k
+    → ChainIn p n b′ m k
 chain-past {p} S n B C =
     chain-same
     (λ z l. B .elsewhere z (p .key) 2 (omega arith) (S .in-key))
@@ -157,7 +163,8 @@ chain-past {p} S n B C =
     C
 
 -- a node more, which has no record
-pub chain-blank : {p : Places} → Sits p → (b : Bytes) {n n′ : Bytes} {m k lo hi : ℕ} → Within nodeSize m lo hi n n′ → Unused p n′ m → ChainIn p n b m k → ChainIn p n′ b (m + 1) k
+pub chain-blank : {p : Places} → Sits p → (b : Bytes) {n n′ : Bytes} {m k lo hi : ℕ} → Within nodeSize m lo hi n n′ → Unused p n′ m
+    → ChainIn p n b m k → ChainIn p n′ b (m + 1) k
 chain-blank {p} S b new (f, l) C =
     chain-key
     (chain-same

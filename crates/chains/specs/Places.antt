@@ -1,7 +1,6 @@
 -- Where a chain keeps its numbers, in bytes behind the extents of the records, and what code writes there. Laws are in PlaceLaws.
 --
 -- In order: a chain in two areas; the end of a chain; a node with no records; what a step along a chain relies on.
--- Assumes nothing.
 use mathlib.Core.Path.{_≡_}
 use mathlib.Core.Logic.{_⊎_}
 use Prim.Native.Nat.{ℕ, _+_, _≤_}

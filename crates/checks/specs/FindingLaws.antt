@@ -11,7 +11,8 @@ use Rattle.rulefile.specs.Format.{rowByte, inclusionAt, inclusionNamed}
 use Rattle.checks.specs.Findings.{namedAt}
 
 -- by the rows that row k names
-pub named-inclusion : (b : Bytes) (kinds : Kinds) (k : ℕ) {o : Option (List ℕ)} → namedAt kinds b k ≡ o → inclusionNamed kinds b k ≡ any (inclusionAt b) (rowsOf o)
+pub named-inclusion : (b : Bytes) (kinds : Kinds) (k : ℕ) {o : Option (List ℕ)} → namedAt kinds b k ≡ o
+    → inclusionNamed kinds b k ≡ any (inclusionAt b) (rowsOf o)
 unfolding inclusionNamed
 named-inclusion b kinds k e =
     ap (any (inclusionAt b)) (arguments-named kinds (rowByte b k 0) (rowByte b k 1) (rowByte b k 2) (rowByte b k 3) ∙ ap rowsOf e)

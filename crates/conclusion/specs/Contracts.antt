@@ -92,4 +92,5 @@ ShowGives ws n e c elements links r elements′ links′ =
 
 abbrev pub DecideGives : List ℕ → Areas → Decision → (elements′ links′ : Bytes) → Type 0
 DecideGives ws before r elements′ links′ =
-    Decided (answerResult (lengths before) (tableOf ws) (run (problemOf ws) (capacityOf (work (before .nodes) (before .edges) (before .alternatives))))) before r elements′ links′
+    Decided (answerResult (lengths before) (tableOf ws)
+    (run (problemOf ws) (capacityOf (work (before .nodes) (before .edges) (before .alternatives))))) before r elements′ links′

@@ -14,7 +14,8 @@ use Rattle.procedure.specs.Status.{Status, unset, «open», sat, unsat, toosmal
 use Rattle.procedure.specs.Graph.{Graph, roomFor, nodeAt}
 use Rattle.procedure.proofs.Can.{goodIf}
 use Rattle.procedure.proofs.Outcome.{finished-at, root-set}
-use Rattle.run.specs.Run.{roomIn, Areas, areasOf, Lengths, lengths, capacity, shown, used, Answer, short, cannot, answerCan, answerRoot, answerResult, areasAfter}
+use Rattle.run.specs.Run.{roomIn, Areas, areasOf, Lengths, lengths, capacity, shown, used, Answer, short, cannot, answerCan, answerRoot, answerResult}
+use Rattle.run.specs.Run.{areasAfter}
 use Rattle.run.specs.Said.{goodRoot}
 use Rattle.run.specs.ShortLaws.{roomFor-most}
 use Rattle.problem.specs.Decoded.{tableOf, problemOf, Decoded}
@@ -65,7 +66,8 @@ decide-short {ws} {n} {e} {a} elements links {p} S {m} hm hn he ha =
       linksAre = sym (ap (λ (r : Answer). areasAfter r before .links) k);
     }
 
-module _ {ws : List ℕ} {n e a : Bytes} (D : Decoded ws) {c : Counts} {n′ e′ a′ : Bytes} {b : Bool} (E : EndsWith ws (work n e a) c (work n′ e′ a′) b) where
+module _ {ws : List ℕ} {n e a : Bytes} (D : Decoded ws) {c : Counts} {n′ e′ a′ : Bytes} {b : Bool}
+    (E : EndsWith ws (work n e a) c (work n′ e′ a′) b) where
   abbrev g : Graph
   g = graphOf (work n′ e′ a′) c
 
@@ -77,7 +79,8 @@ module _ {ws : List ℕ} {n e a : Bytes} (D : Decoded ws) {c : Counts} {n′ e�
     decide-cannot elements links =
         let before : Areas = areasOf n e a elements links in
         let set : nodeAt g 0 .status ≡ unset → ⊥ = root-set (problemOf ws) (capacityOf (work n e a)) (decoded-posed D) g (E .ran) in
-        let q = ap (answerResult (lengths before) (tableOf ws)) (E .ran) ∙ answer-cannot (nodeAt g 0 .status) (lengths before) (tableOf ws) g (E .says ∙ hb) set
+        let q = ap (answerResult (lengths before) (tableOf ws)) (E .ran)
+        ∙ answer-cannot (nodeAt g 0 .status) (lengths before) (tableOf ws) g (E .says ∙ hb) set
         ∙ ap cannot (used-counts (work n′ e′ a′) c) in
         record {
           decides = q;

@@ -1,5 +1,4 @@
 -- The cases after "can", on plain values: the example does not fit, or it is written.
--- Assumes nothing.
 use mathlib.Core.Path.{_≡_, sym, ap, ap₂, _∙_}
 use mathlib.Core.Bool.{Bool, true, false, _&&_}
 use mathlib.Core.List.{List, List·Memᴰ}
@@ -43,7 +42,8 @@ answer-unfit : (l : Lengths) (u : Used) (x : Example) → fits l x ≡ false →
 unfolding answerCan
 answer-unfit l u x e = rw (e, answerCan)
 
-module _ {ws : List ℕ} {n e : Bytes} {c : Counts} (A : WalkAsks ws (nodesEdges n e) c) {s : Sizes} {n₁ e₁ : Bytes} (W : WalkGives ws (nodesEdges n e) c s (nodesEdges n₁ e₁)) where
+module _ {ws : List ℕ} {n e : Bytes} {c : Counts} (A : WalkAsks ws (nodesEdges n e) c) {s : Sizes} {n₁ e₁ : Bytes}
+    (W : WalkGives ws (nodesEdges n e) c s (nodesEdges n₁ e₁)) where
   -- the example as the procedure placed it, and as it is shown
   abbrev placed : Example
   placed = exampleHeld n₁ e₁ (s .elements) (s .links)
@@ -53,17 +53,23 @@ module _ {ws : List ℕ} {n e : Bytes} {c : Counts} (A : WalkAsks ws (nodesEdges
 
   sizes : HasSizes s x
   unfolding listing
-  sizes =
-      (length-listing (tableOf ws) placed ∙ length-map-range (λ d. nodeIn n₁ (stateIn n₁ d) .rows) 0 (s .elements), length-map-range (roleLinkIn e₁) 0 (s .links))
+  sizes = (
+    length-listing (tableOf ws) placed ∙ length-map-range (λ d. nodeIn n₁ (stateIn n₁ d) .rows) 0 (s .elements),
+    length-map-range (roleLinkIn e₁) 0
+        (s .links),
+  )
 
   -- each link goes between elements
-  pub link-ends : (i : ℕ) → i < s .links → (roleLinkIn e₁ i .from < s .elements) × (roleLinkIn e₁ i .role < 32) × (roleLinkIn e₁ i .to < s .elements)
+  pub link-ends : (i : ℕ) → i < s .links → (roleLinkIn e₁ i .from < s .elements) × (roleLinkIn e₁ i .role < 32)
+      × (roleLinkIn e₁ i .to < s .elements)
   link-ends i h =
       let a = A .holds .alternatives in
       let (y, found, R) = example-right (problemOf ws) (graphOf (work n e a) c) (A .good) (decoded-posed (A .decoded)) (A .finished) in
       let same : y ≡ placed = cc (W .walked a) in
-      let many : length (y .elements) ≡ s .elements = ap (λ (z : Example). length (z .elements)) same ∙ length-map-range (λ d. nodeIn n₁ (stateIn n₁ d) .rows) 0 (s .elements) in
-      let there : List·Memᴰ (roleLinkIn e₁ i) (y .links) = rw same (mem-map (roleLinkIn e₁) (range 0 (s .links)) i (mem-range 0 (s .links) i (omega arith) (omega arith))) in
+      let many : length (y .elements) ≡ s .elements = ap (λ (z : Example). length (z .elements)) same
+      ∙ length-map-range (λ d. nodeIn n₁ (stateIn n₁ d) .rows) 0 (s .elements) in
+      let there : List·Memᴰ (roleLinkIn e₁ i) (y .links) = rw same
+      (mem-map (roleLinkIn e₁) (range 0 (s .links)) i (mem-range 0 (s .links) i (omega arith) (omega arith))) in
       let (from, role, to) = R .link-ends (roleLinkIn e₁ i) there in
       (omega (arith, from, many), role, omega (arith, to, many))
 
@@ -74,7 +80,8 @@ module _ {ws : List ℕ} {n e : Bytes} {c : Counts} (A : WalkAsks ws (nodesEdges
   pub record Tried (elements links : Bytes) (b : Bool) : Type 0 where
     pub test : b ≡ (leb (setSize * s .elements) (length elements) && leb (linkSize * s .links) (length links))
 
-module _ {ws : List ℕ} {n e : Bytes} {c : Counts} {A : WalkAsks ws (nodesEdges n e) c} {s : Sizes} {n₁ e₁ : Bytes} {W : WalkGives ws (nodesEdges n e) c s (nodesEdges n₁ e₁)}
+module _ {ws : List ℕ} {n e : Bytes} {c : Counts} {A : WalkAsks ws (nodesEdges n e) c} {s : Sizes} {n₁ e₁ : Bytes} {W : WalkGives ws (nodesEdges n e) c s
+    (nodesEdges n₁ e₁)}
     {elements links : Bytes} {b : Bool} (t : Tried A W elements links b) where
   module _ (before : Areas) (he : before .elements ≡ elements) (hl : before .links ≡ links) where
     abbrev l : Lengths
@@ -83,11 +90,13 @@ module _ {ws : List ℕ} {n e : Bytes} {c : Counts} {A : WalkAsks ws (nodesEdges
     fits-is : {v : Bool} → b ≡ v → fits l (x A W) ≡ v
     unfolding fits
     fits-is hv =
-        ap₂ _&&_ (ap₂ (λ (m k : ℕ). leb (setSize * m) k) (sizes A W .0) (ap length he)) (ap₂ (λ (m k : ℕ). leb (linkSize * m) k) (sizes A W .1) (ap length hl))
+        ap₂ _&&_ (ap₂ (λ (m k : ℕ). leb (setSize * m) k) (sizes A W .0) (ap length he))
+        (ap₂ (λ (m k : ℕ). leb (linkSize * m) k) (sizes A W .1) (ap length hl))
         ∙ sym (t .test) ∙ hv
 
     found : (a : Bytes) → answerCan l (used (graphOf (work n e a) c)) (shown (tableOf ws) (graphOf (work n e a) c)) ≡ answerCan l (usedOf c) (some (x A W))
-    found a = ap₂ (λ (u : Used) (o : Option Example). answerCan l u o) (used-counts (work n e a) c) (shown-some (tableOf ws) (graphOf (work n e a) c) (placed A W) (W .walked a))
+    found a = ap₂ (λ (u : Used) (o : Option Example). answerCan l u o) (used-counts (work n e a) c)
+        (shown-some (tableOf ws) (graphOf (work n e a) c) (placed A W) (W .walked a))
 
   pub show-long : b ≡ false → ShowGives ws n e c elements links (TooLong s) elements links
   unfolding areasAfter
@@ -119,13 +128,15 @@ module _ {ws : List ℕ} {n e : Bytes} {c : Counts} {A : WalkAsks ws (nodesEdges
       ends = link-ends A W;
     }
 
-    pub show-can : {elements′ links′ : Bytes} → WriteGives ws n₁ e₁ s elements elements′ links links′ → ShowGives ws n e c elements links (Can c s) elements′ links′
+    pub show-can : {elements′ links′ : Bytes} → WriteGives ws n₁ e₁ s elements elements′ links links′
+        → ShowGives ws n e c elements links (Can c s) elements′ links′
     unfolding areasAfter
     show-can G a before he hl =
         let q = found before he hl a ∙ answer-fits (lengths before) (usedOf c) (x A W) (fits-is before he hl hv) in
         record {
           decides = (x A W, q, sizes A W);
           small = (held-most (A .holds .held), sizes-small A W);
-          elementsAre = G .elementsWritten ∙ sym (ap (λ (r : Answer). areasAfter r before .elements) q ∙ ap (overwrite (elementBytes (x A W .elements))) he);
+          elementsAre = G .elementsWritten ∙ sym (ap (λ (r : Answer). areasAfter r before .elements) q
+              ∙ ap (overwrite (elementBytes (x A W .elements))) he);
           linksAre = G .linksWritten ∙ sym (ap (λ (r : Answer). areasAfter r before .links) q ∙ ap (overwrite (linkBytes (x A W .links))) hl);
         }

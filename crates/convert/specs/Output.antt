@@ -1,7 +1,6 @@
 -- What the program writes for a draft: the rule file, or one line. Laws are in OutputLaws.
 --
 -- In order: what is written; what the function that makes it gives.
--- Assumes nothing.
 use mathlib.Core.Path.{_≡_}
 use mathlib.Core.List.{[], _∷_}
 use Prim.Native.Nat.{ℕ, _≤_}

@@ -19,7 +19,8 @@ use Rattle.run.specs.Printed.{ascii, line}
 use Rattle.run.specs.ProgramLaws.{reading-take}
 use Rattle.drafts.specs.Normalize.{normalized}
 use Rattle.drafts.specs.Encoding.{fileBytes}
-use Rattle.drafts.specs.Conversion.{draftReading, Conversion, refusedWith, written, tooLarge, writtenOr, conversionOf, conversion, ConversionNumbers, numbers, areaAfter}
+use Rattle.drafts.specs.Conversion.{draftReading, Conversion, refusedWith, written, tooLarge, writtenOr, conversionOf, conversion, ConversionNumbers, numbers}
+use Rattle.drafts.specs.Conversion.{areaAfter}
 use Rattle.drafts.specs.Promise.{ConversionPromise}
 use Rattle.printing.specs.Printing.{Wrote}
 use Rattle.printing.specs.PrintingLaws.{wrote-size, wrote-start}

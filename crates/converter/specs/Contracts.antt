@@ -1,7 +1,6 @@
 -- What the converter's functions ask and give. Laws are in ConvertCases.
 --
 -- In order: the answer's numbers; the whole; the file that is to be written.
--- Assumes nothing.
 use mathlib.Core.Path.{_≡_}
 use mathlib.Core.List.{List, [], _∷_}
 use Prim.Native.Nat.{ℕ, _≤_}

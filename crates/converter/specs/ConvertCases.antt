@@ -45,7 +45,8 @@ use Rattle.converter.specs.Contracts.{refusedNumbers, Converts, result, 
 
 -- ---- answers by their names
 
-pub list-as : {b list ws : List ℕ} {n : ℕ} {memo′ ws′ places places′ : List ℕ} {r q : Listed} → ListGives b list ws n memo′ ws′ places places′ r → r ≡ q
+pub list-as : {b list ws : List ℕ} {n : ℕ} {memo′ ws′ places places′ : List ℕ} {r q : Listed}
+    → ListGives b list ws n memo′ ws′ places places′ r → r ≡ q
     → ListGives b list ws n memo′ ws′ places places′ q
 list-as {b} {list} {ws} {n} {memo′} {ws′} {places} {places′} G e = subst (ListGives b list ws n memo′ ws′ places places′) e G
 
@@ -78,7 +79,8 @@ module _ {b : Bytes} {l : Layout} (L : Laid draftKinds b l) where
   pub inclusions-asks : (ws : List ℕ) → length ws ≡ mostRows → KeepAsks b (l .rows) ws
   inclusions-asks ws words = record { draft = laid-draft; rows = ap (λ (x : Layout). x .rows) (laid-placed L .layout); size = words }
 
-  module _ {list : List ℕ} (is-rules : list ≡ rules b) {ws : List ℕ} {n₀ : ℕ} (I : KeepGives b ws n₀) (places : List ℕ) (room : length places ≡ mostRules) where
+  module _ {list : List ℕ} (is-rules : list ≡ rules b) {ws : List ℕ} {n₀ : ℕ} (I : KeepGives b ws n₀) (places : List ℕ)
+      (room : length places ≡ mostRules) where
     pub rules-asks : ListAsks b list (replicate slots noPlace) ws n₀ places
     rules-asks = record {
       draft = laid-draft;
@@ -93,7 +95,8 @@ module _ {b : Bytes} {l : Layout} (L : Laid draftKinds b l) where
     rules-put = rw (is-rules, I .rows)
 
     -- too many rows
-    pub rules-full : {memo′ ws′ places′ : List ℕ} → ListGives b list ws n₀ memo′ ws′ places places′ Full → mostRows < length (result b .table)
+    pub rules-full : {memo′ ws′ places′ : List ℕ} → ListGives b list ws n₀ memo′ ws′ places places′ Full
+        → mostRows < length (result b .table)
     unfolding normalized
     rules-full G =
         let long : mostRows < length (rulePlaces .rows) = rw rules-put at (G .got) in
@@ -118,7 +121,8 @@ module _ {b : Bytes} {l : Layout} (L : Laid draftKinds b l) where
       kit-put : putList (tableOf b) kit (rowsIn ws′ n) ≡ kitPlaces
       kit-put = rw (is-kit, G .got .rows, rules-put)
 
-      pub kit-full : {memo″ ws″ wanted′ : List ℕ} → ListGives b kit ws′ n memo″ ws″ (0 ∷ []) wanted′ Full → mostRows < length (result b .table)
+      pub kit-full : {memo″ ws″ wanted′ : List ℕ} → ListGives b kit ws′ n memo″ ws″ (0 ∷ []) wanted′ Full
+          → mostRows < length (result b .table)
       unfolding normalized
       kit-full F = rw kit-put at (F .got)
 

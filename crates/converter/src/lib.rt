@@ -13,16 +13,16 @@ use normalize::NO_PLACE;
 use normalize::SLOTS;
 use normalize::keep_inclusions;
 use normalize::put_list;
-use rulefile::LONGEST;
 use reader::Layout;
-use rulefile::MOST_ROWS;
-use rulefile::MOST_RULES;
 use reader::Outcome;
-use rulefile::ROW;
-use rulefile::TRAILER;
 use reader::read;
 use reader::rules_of;
 use reader::wanted_of;
+use rulefile::LONGEST;
+use rulefile::MOST_ROWS;
+use rulefile::MOST_RULES;
+use rulefile::ROW;
+use rulefile::TRAILER;
 
 // The refusal's number and 0, or 0 and the length of the file that is written.
 #[repr(C)]

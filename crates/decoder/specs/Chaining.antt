@@ -48,7 +48,8 @@ pub record JoinsWords (n ρ σ : ℕ) (w w′ : List ℕ) : Type 0 where
 -- all of them
 pub record JoinsUniversals (ρ σ : ℕ) (w w′ : List ℕ) : Type 0 where
   pub beside : Beside universalsAt (32 * setWords) w w′
-  pub rows : (c : ℕ) → c < 32 → maskOf w′ (rolePlace c) ≡ joining (mem c (getD w (narrowsAt + ρ) 0)) (maskOf w (rolePlace σ)) (maskOf w (rolePlace c))
+  pub rows : (c : ℕ) → c < 32 → maskOf w′ (rolePlace c) ≡ joining (mem c (getD w (narrowsAt + ρ) 0)) (maskOf w (rolePlace σ))
+      (maskOf w (rolePlace c))
 
 -- ---- the words of a problem
 

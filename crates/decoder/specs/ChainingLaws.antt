@@ -116,7 +116,8 @@ module _ {n ρ σ : ℕ} (hρ : ρ < 32) (hσ : σ < 32) (few : n < setWords) {w
           rw e (R .made c h ∙ rw (narrow, word σ hσ, word c h))
 
 -- the words in use are all
-pub words-joined : {ρ σ : ℕ} → σ < 32 → (w : List ℕ) → Words w → InUse w → {v : List ℕ} → JoinsWords (usedOf w) ρ σ w v → JoinsUniversals ρ σ w v
+pub words-joined : {ρ σ : ℕ} → σ < 32 → (w : List ℕ) → Words w → InUse w → {v : List ℕ} → JoinsWords (usedOf w) ρ σ w v
+    → JoinsUniversals ρ σ w v
 words-joined {ρ} {σ} hσ w words U {v} J = record {
   beside = J .beside;
   rows = λ c h. mask-joining (mem c (getD w (narrowsAt + ρ) 0)) w v words (rolePlace c) (rolePlace σ) (λ j l. elim (ℕ-discrete (suc j - usedOf w) 0) [
@@ -149,7 +150,8 @@ module _ {ρ σ : ℕ} (hρ : ρ < 32) (hσ : σ < 32) {w v u : List ℕ} (I : I
   narrow-kept : (c : ℕ) → getD v (narrowsAt + c) 0 ≡ getD w (narrowsAt + c) 0
   narrow-kept c = U .beside .others (narrowsAt + c) (inr (omega arith))
 
-  narrow-there : (c : ℕ) → c < 32 → getD u (narrowsAt + c) 0 ≡ joining (mem σ (getD w (narrowsAt + c) 0)) (getD w (narrowsAt + ρ) 0) (getD w (narrowsAt + c) 0)
+  narrow-there : (c : ℕ) → c < 32 → getD u (narrowsAt + c) 0 ≡ joining (mem σ (getD w (narrowsAt + c) 0)) (getD w (narrowsAt + ρ) 0)
+      (getD w (narrowsAt + c) 0)
   narrow-there c h = N .made c h ∙ ap₂ (λ (x y : ℕ). joining (mem σ x) y x) (narrow-kept c) (narrow-kept ρ)
 
   -- the rows along a role

@@ -68,7 +68,8 @@ mark-mem w words enough i m k q hi hm hk = elim (ℕ-discrete m i) [
 -- ---- a list of rows as a mask
 
 -- by its words
-pub list-put : (at n : ℕ) {list w v : List ℕ} → AllBelow (64 * n) list → Remade (λ j. at + j) n (λ j _. wordOf (fromList list) j) w v → PutsList at n list w v
+pub list-put : (at n : ℕ) {list w v : List ℕ} → AllBelow (64 * n) list → Remade (λ j. at + j) n (λ j _. wordOf (fromList list) j) w v
+    → PutsList at n list w v
 unfolding maskAt
 list-put at n {list} {w} {v} below R = record {
   beside = remade-beside R;

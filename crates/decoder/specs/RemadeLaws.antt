@@ -94,7 +94,8 @@ pub remade-none : (at : ℕ → ℕ) (f : ℕ → ℕ → ℕ) (w : List ℕ) �
 remade-none at f w = record { longs = refl; others = λ i d. refl; made = λ c h. absurd (omega arith) }
 
 -- nothing changes where each word is made what it was
-pub remade-same : {at : ℕ → ℕ} {n : ℕ} {f : ℕ → ℕ → ℕ} (w : List ℕ) → ((c : ℕ) → c < n → f c (getD w (at c) 0) ≡ getD w (at c) 0) → Remade at n f w w
+pub remade-same : {at : ℕ → ℕ} {n : ℕ} {f : ℕ → ℕ → ℕ} (w : List ℕ) → ((c : ℕ) → c < n → f c (getD w (at c) 0) ≡ getD w (at c) 0)
+    → Remade at n f w w
 remade-same w e = record { longs = refl; others = λ i d. refl; made = λ c h. sym (e c h) }
 
 -- n words from a place on
@@ -109,7 +110,8 @@ pub stretch-apart : (at c d : ℕ) → at + c ≡ at + d → c ≡ d
 stretch-apart at c d e = omega arith
 
 -- at places that are all apart
-module _ {at : ℕ → ℕ} (apart : (c d : ℕ) → at c ≡ at d → c ≡ d) {n : ℕ} {f : ℕ → ℕ → ℕ} {w v : List ℕ} (R : Remade at n f w v) where
+module _ {at : ℕ → ℕ} (apart : (c d : ℕ) → at c ≡ at d → c ≡ d) {n : ℕ} {f : ℕ → ℕ → ℕ} {w v : List ℕ}
+    (R : Remade at n f w v) where
   -- the next word is still as it was
   pub next-word : getD v (at n) 0 ≡ getD w (at n) 0
   next-word = R .others (at n) (λ c h e. omega (arith, apart n c e))

@@ -52,5 +52,6 @@ module _ {b : List ℕ} (rows : Rows b) (k : ℕ) (h : k < rowCount b) where
 
 -- ---- lists of rows
 
-pub listed-inside : (b : List ℕ) {list : List ℕ} → ListsRows b list → (k : ℕ) → T (mem k (fromList list)) → (k < length (tableIn b)) × NoInclusion (tableIn b) k
+pub listed-inside : (b : List ℕ) {list : List ℕ} → ListsRows b list → (k : ℕ) → T (mem k (fromList list)) → (k < length (tableIn b))
+    × NoInclusion (tableIn b) k
 listed-inside b {list} listed k m = let (h, s) = listed k (fromList-mem k list m) in (omega (arith, length-tableIn b), s)

@@ -84,12 +84,14 @@ module _ {b : List ℕ} (ok : Rows b) {k : ℕ} (h : k < rowCount b) where
 
 -- the word and the two marks, from the row's parts
 pub row-put : (b w : List ℕ) (k : ℕ) {w₁ w₂ w₃ : List ℕ} {kind role left right at : ℕ}
-    → kind ≡ rowByte b k 0 → role ≡ rowByte b k 1 → left ≡ rowByte b k 2 → right ≡ rowByte b k 3 → w₁ ≡ set w (rowsAt + k) (pack kind role left right)
+    → kind ≡ rowByte b k 0 → role ≡ rowByte b k 1 → left ≡ rowByte b k 2 → right ≡ rowByte b k 3
+    → w₁ ≡ set w (rowsAt + k) (pack kind role left right)
     → w₂ ≡ mark w₁ (kindPlace kind) k → at ≡ maskPlace (along kind role) → w₃ ≡ mark w₂ at k → w₃ ≡ putRow b k w
 unfolding putRow
 row-put b w k k₀ k₁ k₂ k₃ e₁ e₂ place e₃ = rw (e₃, e₂, e₁, place, k₀, k₁, k₂, k₃)
 
-module _ {b : List ℕ} (ok : Rows b) (bytes : (i : ℕ) → getD b i 0 < 256) {n : ℕ} (h : n < rowCount b) (w : List ℕ) (words : Words w) (p : Partly b n w) where
+module _ {b : List ℕ} (ok : Rows b) (bytes : (i : ℕ) → getD b i 0 < 256) {n : ℕ} (h : n < rowCount b) (w : List ℕ) (words : Words w)
+    (p : Partly b n w) where
   abbrev first : ℕ
   first = kindMask (rowByte b n 0)
 
@@ -140,7 +142,8 @@ module _ {b : List ℕ} (ok : Rows b) (bytes : (i : ℕ) → getD b i 0 < 256) {
   -- the words before the kinds are not marked
   unwritten-there : (i : ℕ) → i < kindsAt → getD w₃ i 0 ≡ 0
   unwritten-there i l =
-      marked₃ .others i (inl (omega (arith, second-some))) ∙ marked₂ .others i (inl (omega arith)) ∙ put₁ .others i (inl (omega arith)) ∙ p .unwritten i l
+      marked₃ .others i (inl (omega (arith, second-some))) ∙ marked₂ .others i (inl (omega arith)) ∙ put₁ .others i (inl (omega arith))
+      ∙ p .unwritten i l
 
   -- nor are the words of rows
   row-kept : (k : ℕ) → getD w₃ (rowsAt + k) 0 ≡ getD w₁ (rowsAt + k) 0
@@ -203,7 +206,8 @@ marked-role kind role ρ h =
 
 module _ {b : List ℕ} (ok : Rows b) {w : List ℕ} (p : Partly b (rowCount b) w) where
   -- a mask that has a row just where it is marked
-  picks : (test : Concept → Bool) (i : ℕ) → i < masks → ((k : ℕ) → k < rowCount b → marked (rowByte b k 0) (rowByte b k 1) i ≡ test (conceptAt (tableIn b) k))
+  picks : (test : Concept → Bool) (i : ℕ) → i < masks →
+      ((k : ℕ) → k < rowCount b → marked (rowByte b k 0) (rowByte b k 1) i ≡ test (conceptAt (tableIn b) k))
       → Picked (tableIn b) test (maskOf w (maskPlace i))
   picks test i h same = record {
     rows = λ k.
@@ -241,7 +245,8 @@ module _ (w : List ℕ) (enough : room ≤ length w) (n : ℕ) where
   used-there = getD-set-same (set w countAt n) usedAt (wordsFor n) 0 (omega (arith, length-set w countAt n))
 
 -- a list of rows, written as the words in use of an empty mask
-list-there : {at n : ℕ} {list w v : List ℕ} → n ≤ setWords → ((i : ℕ) → at ≤ i → i < at + setWords → getD w i 0 ≡ 0) → PutsList at n list w v
+list-there : {at n : ℕ} {list w v : List ℕ} → n ≤ setWords → ((i : ℕ) → at ≤ i → i < at + setWords → getD w i 0 ≡ 0)
+    → PutsList at n list w v
     → maskOf v at ≡ fromList list
 list-there {at} {n} {list} {w} {v} few none L =
     mask-in-use v at n setWords few (λ j l h. L .beside .others (at + j) (inr (omega arith)) ∙ none (at + j) (omega arith) (omega arith)) ∙ L .rows
@@ -250,10 +255,12 @@ list-there {at} {n} {list} {w} {v} few none L =
 
 -- the parts of a word are the bytes that it was made of
 part-packed : (p q r s : ℕ) → p < 256 → q < 256 → r < 256 → s < 256
-    → (pack p q r s / 256 ^ 0 % 256 ≡ p) × (pack p q r s / 256 ^ 1 % 256 ≡ q) × (pack p q r s / 256 ^ 2 % 256 ≡ r) × (pack p q r s / 256 ^ 3 % 256 ≡ s)
+    → (pack p q r s / 256 ^ 0 % 256 ≡ p) × (pack p q r s / 256 ^ 1 % 256 ≡ q) × (pack p q r s / 256 ^ 2 % 256 ≡ r)
+    × (pack p q r s / 256 ^ 3 % 256 ≡ s)
 part-packed p q r s hp hq hr hs = (omega arith, omega arith, omega arith, omega arith)
 
-module _ {b tbox wanted : List ℕ} (ok : Rows b) (bytes : (i : ℕ) → getD b i 0 < 256) (rules-listed : ListsRows b tbox) (wanted-listed : ListsRows b wanted)
+module _ {b tbox wanted : List ℕ} (ok : Rows b) (bytes : (i : ℕ) → getD b i 0 < 256) (rules-listed : ListsRows b tbox)
+    (wanted-listed : ListsRows b wanted)
     {w : List ℕ} (p : Partly b (rowCount b) w) {v u x : List ℕ} {used : ℕ} (C : v ≡ putCounts (rowCount b) w) (U : used ≡ wordsFor (rowCount b))
     (R : PutsList rulesAt used tbox v u) (W : PutsList wantedAt used wanted u x) where
   abbrev n : ℕ
@@ -278,7 +285,8 @@ module _ {b tbox wanted : List ℕ} (ok : Rows b) (bytes : (i : ℕ) → getD b 
       (beside-then (beside-wider (omega arith) (omega arith) rules-beside) (beside-wider (omega arith) (omega arith) wanted-beside))
 
   count-is : countOf x ≡ n
-  count-is = wanted-beside .others countAt (inl (omega arith)) ∙ rules-beside .others countAt (inl (omega arith)) ∙ ap countOf C ∙ count-there w (p .enough) n
+  count-is = wanted-beside .others countAt (inl (omega arith)) ∙ rules-beside .others countAt (inl (omega arith)) ∙ ap countOf C
+      ∙ count-there w (p .enough) n
 
   used-is : usedOf x ≡ wordsFor n
   used-is = wanted-beside .others usedAt (inl (omega arith)) ∙ rules-beside .others usedAt (inl (omega arith)) ∙ ap usedOf C ∙ used-there w (p .enough) n

@@ -8,15 +8,15 @@ ghost use Rattle.words.specs.Sizes.{setWords, width};
 ghost use Rattle.problem.specs.Layout.{room};
 ghost use Rattle.problem.specs.Decoded.{countOf, RowsDecoded};
 ghost use Rattle.decoder.specs.Chaining.{Sames, JoinsWord, JoinsUniversals, JoinsNarrows, InUse, Chains, RolesAt, IncludesRow, Included};
+use crate::word_if;
+use decoding::kinds::INCLUSION;
+use problem::inverse;
 use problem::layout::COUNT;
 use problem::layout::NARROWS;
 use problem::layout::ROLES;
 use problem::layout::ROWS;
 use problem::layout::UNIVERSALS;
 use problem::layout::USED;
-use problem::inverse;
-use crate::word_if;
-use decoding::kinds::INCLUSION;
 use words::sizes::SET_WORDS;
 
 // Each role is narrower than itself.

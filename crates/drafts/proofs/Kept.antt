@@ -1,7 +1,6 @@
 -- The converter's promise is kept by whoever answers what the definition answers and leaves the area as the definition leaves it.
 --
 -- In order: what comes of a draft, by its reading; the numbers of refusals; the promise.
--- Assumes nothing.
 use mathlib.Core.Path.{_≡_, refl, sym, ap, _∙_, subst}
 use mathlib.Core.Bool.{Bool, true, false}
 use mathlib.Core.Logic.{_⊎_, inl, inr}
@@ -77,8 +76,12 @@ module _ (d : RuleFile) (draft before : Bytes) (e : draftReading draft ≡ accep
       record {
         tooLarge = (λ x. absurd (omega (arith, x)), λ x. absurd (rw q at x));
         noOther = λ n. refl;
-        result = λ x.
-            (f, ap reading (take-at bytes (drop (length bytes) before) (length bytes) refl) ∙ written-back f (normalized-writable d A one (length before) q), normalized-keeps d A);
+        result = λ x. (
+          f,
+          ap reading (take-at bytes (drop (length bytes) before) (length bytes) refl)
+              ∙ written-back f (normalized-writable d A one (length before) q),
+          normalized-keeps d A,
+        );
       }
 
   right-kept : ConversionRight d before (numbers (conversion draft (length before))) (areaAfter (conversion draft (length before)) before)
@@ -86,7 +89,8 @@ module _ (d : RuleFile) (draft before : Bytes) (e : draftReading draft ≡ accep
       subst (λ (c : Conversion). ConversionRight d before (numbers c) (areaAfter c before)) (sym (conversion-accepted draft (length before) d e))
       (by-size (tooLarge (length before) (normalized d)) refl)
 
-pub promise-kept : (draft before : Bytes) → ConversionPromise draft before (numbers (conversion draft (length before))) (areaAfter (conversion draft (length before)) before)
+pub promise-kept : (draft before : Bytes) → ConversionPromise draft before (numbers (conversion draft (length before)))
+    (areaAfter (conversion draft (length before)) before)
 promise-kept draft before = record {
   numbersAre = refl;
   areaIs = refl;

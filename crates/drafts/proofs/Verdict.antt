@@ -1,8 +1,8 @@
 -- Verdicts carry over: what the engine says of a converted draft is true of the draft as its writer meant it.
 --
--- In order: what is said of the draft (`SpeaksOf`); rows of a list that hold at an element; models of the draft and of the file; the theorem (`verdict-of-draft`),
+-- In order: what is said of the draft (`SpeaksOf`); rows of a list that hold at an element; models of the draft and of the file; the theorem
+-- (`verdict-of-draft`),
 -- which joins the converter's promise with the engine's.
--- Assumes nothing.
 use mathlib.Core.Path.{_≡_, subst}
 use mathlib.Core.List.{List, List·Memᴰ}
 use Prim.Native.Nat.{ℕ, _<_}
@@ -43,7 +43,8 @@ pub record SpeaksOf (d f : RuleFile) (r : Run.Numbers) (after : Run.Areas) : Typ
 -- ---- the rows of a list
 
 -- rows of two lists that hold of the same elements, place by place
-module _ (W : World) (t u : Table) (ks js : List ℕ) (same : (i : ℕ) → i < length ks → Same W t (getD ks i 0) u (getD js i 0)) (count : length js ≡ length ks)
+module _ (W : World) (t u : Table) (ks js : List ℕ) (same : (i : ℕ) → i < length ks → Same W t (getD ks i 0) u (getD js i 0))
+    (count : length js ≡ length ks)
     (e : ℕ) (h : e < W .size) where
   list-there : ((k : ℕ) → List·Memᴰ k ks → Holds (finite W) t k e) → (j : ℕ) → List·Memᴰ j js → Holds (finite W) u j e
   list-there all j m =

@@ -1,5 +1,4 @@
 -- A rule file written in bytes (01, The rule file): "text, rows, rule list, trailer". Read back it is the same file: EncodingLaws.
--- Assumes nothing.
 use mathlib.Core.List.{[], _∷_, _++_}
 use Prim.Native.Nat.{_/_, _%_}
 use lib.ListN.{length, getD}

@@ -68,7 +68,8 @@ length-fileBytes f = simp (length-append, length-tableBytes) (omega arith)
 -- ---- where the parts stand
 
 -- byte i of row k, whatever comes after the rows
-getD-tableBytes : (t : Table) (rest : Bytes) (k i : ℕ) → k < length t → i < 4 → getD (tableBytes t ++ rest) (4 * k + i) 0 ≡ getD (rowBytes (conceptAt t k)) i 0
+getD-tableBytes : (t : Table) (rest : Bytes) (k i : ℕ) → k < length t → i < 4
+    → getD (tableBytes t ++ rest) (4 * k + i) 0 ≡ getD (rowBytes (conceptAt t k)) i 0
 unfolding tableBytes
 getD-tableBytes [] rest k i h l = absurd (not-suc-le-zero h)
 getD-tableBytes (c ∷ cs) rest zero i h l = rw zero-add (List·getD-append (rowBytes c) (tableBytes cs ++ rest) 0 i l)
@@ -111,7 +112,8 @@ module _ (f : RuleFile) where
 
   -- the four bytes of row k
   rowBytes-fileBytes : (k : ℕ) → k < length (f .table)
-      → rowByte (fileBytes f) k 0 ∷ rowByte (fileBytes f) k 1 ∷ rowByte (fileBytes f) k 2 ∷ rowByte (fileBytes f) k 3 ∷ [] ≡ rowBytes (conceptAt (f .table) k)
+      → rowByte (fileBytes f) k 0 ∷ rowByte (fileBytes f) k 1 ∷ rowByte (fileBytes f) k 2 ∷ rowByte (fileBytes f) k 3 ∷ [] ≡ rowBytes
+      (conceptAt (f .table) k)
   rowBytes-fileBytes k h =
       cc (
         rowByte-fileBytes k 0 h (omega arith),

@@ -1,5 +1,5 @@
--- What becomes of some small drafts, from the definitions by computation: one table, one theorem. Document 02 names none; these are for whoever reads Normalize.
--- Assumes nothing.
+-- What becomes of some small drafts, from the definitions by computation: one table, one theorem. Document 02 names none; these are for whoever reads
+-- Normalize.
 use mathlib.Core.Path.{_≡_, refl}
 use mathlib.Core.List.{List, [], _∷_, map, flatten}
 use Prim.Native.Nat.{ℕ}
@@ -8,7 +8,8 @@ use Rattle.concepts.specs.Concept.{roleOf}
 use Rattle.concepts.specs.RowSet.{mem}
 use Rattle.decoding.specs.Decoding.{ofKind, decode}
 use Rattle.decoding.specs.RowParts.{kindOf, leftOf, rightOf}
-use Rattle.rulefile.specs.Format.{badLength, badMark, badCounts, badPlace, badRow, badArgument, repeated, badRule, inclusionAt, inclusionNamed, inclusionServes, checks, refusalFor, readingFor}
+use Rattle.rulefile.specs.Format.{badLength, badMark, badCounts, badPlace, badRow, badArgument, repeated, badRule, inclusionAt, inclusionNamed}
+use Rattle.rulefile.specs.Format.{inclusionServes, checks, refusalFor, readingFor}
 use Rattle.rulefile.specs.Format as Format
 use Rattle.run.specs.KnownRuns.{written}
 use Rattle.drafts.specs.Normalize.{shape, sameRow, placeOf, share, putShape, putBelow, put, putList, inclusionRows, normalized}
@@ -59,8 +60,9 @@ knownConversions =
     ∷ record { draft = written (row 1 0 7 0 ∷ row 8 0 0 1 ∷ []) [] 1; room = 4096; expected = refusedWith 5 }
     ∷ []
 
-pub known-conversions : map (λ (k : KnownConversion). conversion (k .draft) (k .room)) knownConversions ≡ map (λ (k : KnownConversion). k .expected) knownConversions
-unfolding knownConversions written flatten conversion conversionOf readingFor refusalFor checks range select any first badLength badMark badCounts badPlace badRow badArgument Format.sameRow
-    repeated badRule inclusionServes inclusionNamed inclusionAt decode ofKind mem normalized inclusionRows putList put putBelow putShape shape share placeOf sameRow kindOf roleOf
-    leftOf rightOf fileBytes tableBytes trailer tooLarge writtenOr
+pub known-conversions : map (λ (k : KnownConversion). conversion (k .draft) (k .room)) knownConversions ≡ map
+    (λ (k : KnownConversion). k .expected) knownConversions
+unfolding knownConversions written flatten conversion conversionOf readingFor refusalFor checks range select any first badLength badMark badCounts
+    badPlace badRow badArgument Format.sameRow repeated badRule inclusionServes inclusionNamed inclusionAt decode ofKind mem normalized inclusionRows
+    putList put putBelow putShape shape share placeOf sameRow kindOf roleOf leftOf rightOf fileBytes tableBytes trailer tooLarge writtenOr
 known-conversions = refl

@@ -1,7 +1,6 @@
 -- Nothing is written that is not needed: each new row is reached from the row that was put.
 --
 -- In order: rows reached from a row; as the table grows; a row that is shared; a row with all that it needs (`put-reaches`).
--- Assumes nothing.
 use mathlib.Core.Path.{_≡_, refl, sym, ap, subst}
 use mathlib.Core.List.{[], _∷_, List·Memᴰ, List·Memᴰ·head, List·Memᴰ·tail, List·Memᴰ·not-nil}
 use mathlib.Core.Logic.{inl, inr}
@@ -30,7 +29,8 @@ reaches-on r (through s m) = through (reaches-on r s) m
 names-inside : (u : Table) (k l : ℕ) → List·Memᴰ l (arguments (conceptAt u k)) → k < length u
 names-inside u k l m = elim (decLt k (length u)) [
   | yes h ↦ h
-  | no g ↦ absurd (List·Memᴰ·not-nil (subst (λ (c : Concept). List·Memᴰ l (arguments c)) (List·getD-eq-default u (atomic 0) {n = k} (omega arith)) m))
+  | no g ↦ absurd (List·Memᴰ·not-nil (subst (λ (c : Concept). List·Memᴰ l (arguments c))
+      (List·getD-eq-default u (atomic 0) {n = k} (omega arith)) m))
 ]
 
 pub reaches-grown : {u v : Table} {j k : ℕ} → Begins u v → Reaches u j k → Reaches v j k

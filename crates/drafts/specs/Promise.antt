@@ -2,7 +2,6 @@
 --
 -- In order: when a row is needed; rows that hold of the same elements; what a rule file keeps of a draft; an accepted draft; the whole promise.
 -- It is kept: proofs/Kept. What the engine then says of the file is true of the draft: proofs/Verdict.
--- Assumes nothing.
 use mathlib.Core.Path.{_≡_}
 use mathlib.Core.List.{List·Memᴰ}
 use mathlib.Core.Logic.{_↔_}

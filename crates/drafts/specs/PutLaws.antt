@@ -3,7 +3,6 @@
 -- In order: the clause (`put-clause`); induction (`put-induction`); growth and settlement
 -- (`RowsGrown`, `put-grown`): what is put once is found again, with all that it needs, as the table grows; induction where growth is known
 -- (`put-grown-induction`), and over rows that are no inclusions (`put-idle-induction`).
--- Assumes nothing.
 use mathlib.Core.Path.{_≡_, refl, sym, ap, _∙_, subst}
 use mathlib.Core.List.{List·Memᴰ, List·Memᴰ·head, List·Memᴰ·tail}
 use Prim.Native.Nat.{ℕ, zero, suc, _<_}
@@ -19,7 +18,8 @@ use Rattle.drafts.specs.ShareLaws.{share-gives, shared-settled}
 
 -- ---- the clause
 
-putShape-same : (f g : Sign → ℕ → Table → Put) (σ : Shape) → ((s : Sign) (k : ℕ) (out : Table) → List·Memᴰ k (shapeRows σ) → f s k out ≡ g s k out)
+putShape-same : (f g : Sign → ℕ → Table → Put) (σ : Shape) →
+    ((s : Sign) (k : ℕ) (out : Table) → List·Memᴰ k (shapeRows σ) → f s k out ≡ g s k out)
     → (out : Table) → putShape f σ out ≡ putShape g σ out
 unfolding putShape
 putShape-same f g (literal c) h out = refl
@@ -30,7 +30,8 @@ putShape-same f g (binary make s k z l) h out =
     ∙ ap (λ (q : Put). share (make (g s k out .at) (q .at)) (q .rows)) (h z l (g s k out .rows) (List·Memᴰ·tail (List·Memᴰ·head refl)))
 
 -- the rows of what becomes of row k are those that it names
-pub rows-named : (t : Table) (s : Sign) (k l : ℕ) {σ : Shape} → shape (conceptAt t k) s ≡ σ → List·Memᴰ l (shapeRows σ) → List·Memᴰ l (arguments (conceptAt t k))
+pub rows-named : (t : Table) (s : Sign) (k l : ℕ) {σ : Shape} → shape (conceptAt t k) s ≡ σ → List·Memᴰ l (shapeRows σ)
+    → List·Memᴰ l (arguments (conceptAt t k))
 rows-named t s k l e m = subst (List·Memᴰ l) (ap shapeRows (sym e) ∙ shape-rows (conceptAt t k) s) m
 
 module _ (t : Table) (ordered : Ordered t) where
@@ -65,7 +66,8 @@ module _ (t : Table) (ordered : Ordered t) where
 
     module _ (step : (s : Sign) (k : ℕ) (σ : Shape) → shape (conceptAt t k) s ≡ σ → Step s k σ) where
       by-shape : (s : Sign) (k : ℕ) (σ : Shape) → shape (conceptAt t k) s ≡ σ
-          → ((z : Sign) (l : ℕ) → List·Memᴰ l (shapeRows σ) → (out : Table) → P z l out (put t z l out)) → (out : Table) → P s k out (putShape (put t) σ out)
+          → ((z : Sign) (l : ℕ) → List·Memᴰ l (shapeRows σ) → (out : Table) → P z l out (put t z l out)) → (out : Table)
+          → P s k out (putShape (put t) σ out)
       unfolding putShape
       by-shape s k (literal c) e ih out = step s k (literal c) e out
       by-shape s k (other z l) e ih out = step s k (other z l) e out (put t z l out) (ih z l (List·Memᴰ·head refl) out)
@@ -160,7 +162,8 @@ module _ (t : Table) (ordered : Ordered t) where
     idle-step s k (other z l) e = λ out p H n. step s k (other z l) n e out p (H (rows-idle s k l e (List·Memᴰ·head refl)))
     idle-step s k (unary make z l) e = λ out p G H n. step s k (unary make z l) n e out p G (H (rows-idle s k l e (List·Memᴰ·head refl)))
     idle-step s k (binary make z l y r) e = λ out p q G H F K n.
-        step s k (binary make z l y r) n e out p q G (H (rows-idle s k l e (List·Memᴰ·head refl))) F (K (rows-idle s k r e (List·Memᴰ·tail (List·Memᴰ·head refl))))
+        step s k (binary make z l y r) n e out p q G (H (rows-idle s k l e (List·Memᴰ·head refl))) F
+        (K (rows-idle s k r e (List·Memᴰ·tail (List·Memᴰ·head refl))))
 
     pub put-idle-induction : (s : Sign) (k : ℕ) (out : Table) → NoInclusion t k → P s k out (put t s k out)
     put-idle-induction = put-grown-induction IfIdle idle-step

@@ -1,8 +1,8 @@
 -- Laws of what becomes of a row, one line for each kind and sign.
 --
--- In order: the rows of a shape are the arguments of the concept (`shape-rows`); the row that is written is one of a rule file over what was put for them (`shape-written`).
+-- In order: the rows of a shape are the arguments of the concept (`shape-rows`); the row that is written is one of a rule file over what was put for
+-- them (`shape-written`).
 -- That it means the same is in ShapeMeaning.
--- Assumes nothing.
 use mathlib.Core.Path.{_≡_, refl}
 use mathlib.Core.Bool.{true, false}
 use mathlib.Core.List.{List, [], _∷_}

@@ -2,7 +2,6 @@
 --
 -- In order: rows with the same four bytes are equal; the first equal row (`placeOf-at`, `placeOf-nowhere`); what sharing a row gives (`Shared`, `share-gives`);
 -- a row that is shared once is found again as the table grows (`share-settled`).
--- Assumes nothing.
 use mathlib.Core.Path.{_≡_, refl, sym, ap, _∙_, subst}
 use mathlib.Core.Bool.{Bool, true, _&&_, cond}
 use mathlib.Core.List.{[], _∷_, _++_}
@@ -28,7 +27,8 @@ use Rattle.drafts.specs.Normalize.{sameRow, placeOf, Put, stands, share}
 pub sameRow-path : (c d : Concept) → sameRow c d ≡ true → c ≡ d
 unfolding sameRow
 sameRow-path c d e =
-    let (k, more) = and-both (eqb (kindOf c) (kindOf d)) (eqb (roleOf c) (roleOf d) && (eqb (leftOf c) (leftOf d) && eqb (rightOf c) (rightOf d))) (from-true _ e) in
+    let (k, more) = and-both (eqb (kindOf c) (kindOf d)) (eqb (roleOf c) (roleOf d) && (eqb (leftOf c) (leftOf d) && eqb (rightOf c) (rightOf d)))
+    (from-true _ e) in
     let (r, rest) = and-both (eqb (roleOf c) (roleOf d)) (eqb (leftOf c) (leftOf d) && eqb (rightOf c) (rightOf d)) more in
     let (l, i) = and-both (eqb (leftOf c) (leftOf d)) (eqb (rightOf c) (rightOf d)) rest in
     same-parts c d (eqb→eq _ _ k) (eqb→eq _ _ r) (eqb→eq _ _ l) (eqb→eq _ _ i)
@@ -90,7 +90,8 @@ conceptAt-last c out =
     let z : length out + 0 ≡ length out = omega arith in
     rw (← z) (getD-append-add out (c ∷ []) 0 (atomic 0))
 
-found-shared : (c : Concept) (out : Table) (k : ℕ) → k < length out → NoneBelow (equalAt c out) k → equalAt c out k ≡ true → Shared c out (stands out k)
+found-shared : (c : Concept) (out : Table) (k : ℕ) → k < length out → NoneBelow (equalAt c out) k → equalAt c out k ≡ true
+    → Shared c out (stands out k)
 found-shared c out k h n e = record { more = begins-refl out; inside = h; here = sym (sameRow-path c (conceptAt out k) e); least = n; which = inl refl }
 
 new-shared : (c : Concept) (out : Table) → NoneBelow (equalAt c out) (length out) → Shared c out (stands (out ++ c ∷ []) (length out))

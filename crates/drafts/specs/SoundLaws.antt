@@ -1,7 +1,7 @@
 -- What is written stays sound: arguments are lower rows and no inclusions, kinds are those of a rule file, names and roles in range, no two rows equal.
 --
--- In order: rows that others can name; one row more (`snoc-cases`, `share-sound`); a row with all that it needs (`put-sound`), whose place is no inclusion either.
--- Assumes nothing.
+-- In order: rows that others can name; one row more (`snoc-cases`, `share-sound`); a row with all that it needs (`put-sound`), whose place is no
+-- inclusion either.
 use mathlib.Core.Path.{_≡_, refl, sym, _∙_, subst}
 use mathlib.Core.Bool.{false, not}
 use mathlib.Core.List.{List, [], _∷_, _++_, List·Memᴰ, List·Memᴰ·not-nil, List·Memᴰ·cases-cons, List·Memᴰ·eq-of-singleton}
@@ -38,7 +38,8 @@ module _ (c : Concept) (out : Table) where
     | no g ↦ elim (ℕ-discrete k (length out)) [
       | yes e ↦ rw e (subst P (sym (conceptAt-last c out)) (new e))
       | no d ↦
-          let past : conceptAt (out ++ c ∷ []) k ≡ atomic 0 = List·getD-eq-default (out ++ c ∷ []) (atomic 0) (omega (arith, length-append out (c ∷ []))) in
+          let past : conceptAt (out ++ c ∷ []) k ≡ atomic 0 = List·getD-eq-default (out ++ c ∷ []) (atomic 0)
+          (omega (arith, length-append out (c ∷ []))) in
           let none : conceptAt out k ≡ atomic 0 = List·getD-eq-default out (atomic 0) (omega arith) in
           subst P (none ∙ sym past) old
     ]
@@ -70,7 +71,8 @@ module _ (c : Concept) (out : Table) where
     snoc-sound : NoneBelow (equalAt c out) (length out) → Sound (out ++ c ∷ [])
     snoc-sound fresh = record {
       ordered = λ k l.
-          snoc-cases (λ d. List·Memᴰ l (arguments d) → l < k) k (S .ordered k l) (λ e m. omega (arith, lower l (subst (List·Memᴰ l) (R .names) m) .0));
+          snoc-cases (λ d. List·Memᴰ l (arguments d) → l < k) k (S .ordered k l)
+          (λ e m. omega (arith, lower l (subst (List·Memᴰ l) (R .names) m) .0));
       idle = λ k l.
           let still : NoInclusion out l → NoInclusion (out ++ c ∷ []) l = λ n. snoc-cases (λ d. T (not (isInclusion d))) l n (λ e. row-plain R plain) in
           snoc-cases (λ d. List·Memᴰ l (arguments d) → NoInclusion (out ++ c ∷ []) l) k (λ m. still (S .idle k l m))
@@ -116,5 +118,6 @@ module _ (t : Table) (ordered : Ordered t) (idle : Idle t) (ranged : (k : ℕ) �
             | inr v ↦ one (q .rows) (F .inside, j) v
           ])
 
-  pub put-sound : (s : Sign) (k : ℕ) (out : Table) → NoInclusion t k → Sound out → Sound (put t s k out .rows) × NoInclusion (put t s k out .rows) (put t s k out .at)
+  pub put-sound : (s : Sign) (k : ℕ) (out : Table) → NoInclusion t k → Sound out → Sound (put t s k out .rows)
+      × NoInclusion (put t s k out .rows) (put t s k out .at)
   put-sound = put-idle-induction t ordered idle Keeps sound-step

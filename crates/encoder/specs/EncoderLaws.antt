@@ -2,7 +2,6 @@
 --
 -- In order: the bytes of words (`length-wordsBytes`), and of words that are the rows of a table (`wordsBytes-table`);
 -- pieces stored one after another; a loop over pieces, of bytes and of words; the parts of a file (`sets-partsBytes`).
--- Assumes nothing.
 use mathlib.Core.Path.{_≡_, refl, sym, ap, ap₂, _∙_}
 use mathlib.Core.List.{List, [], _∷_, _++_, append-assoc}
 use Prim.Native.Nat.{ℕ, zero, suc, _+_, _*_, _≤_, _<_}
@@ -46,7 +45,8 @@ wordsBytes-take ws (suc n) t h same =
     ap₂ (λ (b c : Bytes). b ++ c) (wordsBytes-take ws n t (omega arith) (λ i l. same i (omega arith))) (same n (omega arith))
     ∙ sym (ap tableBytes (take-suc t n (atomic 0) (omega arith)) ∙ tableBytes-snoc (take n t) (conceptAt t n))
 
-pub wordsBytes-table : (ws : List ℕ) (n : ℕ) (t : Table) → length t ≡ n → ((i : ℕ) → i < n → wordBytes (getD ws i 0) ≡ rowBytes (conceptAt t i))
+pub wordsBytes-table : (ws : List ℕ) (n : ℕ) (t : Table) → length t ≡ n
+    → ((i : ℕ) → i < n → wordBytes (getD ws i 0) ≡ rowBytes (conceptAt t i))
     → wordsBytes ws n ≡ tableBytes t
 wordsBytes-table ws n t e same = wordsBytes-take ws n t (omega arith) same ∙ ap tableBytes (take-all n t (omega arith))
 
@@ -57,7 +57,8 @@ sets-append area at [] ys = ap (λ (k : ℕ). sets area k ys) (omega arith)
 sets-append area at (x ∷ xs) ys = sets-append (set area at x) (suc at) xs ys ∙ ap (λ (k : ℕ). sets (sets (set area at x) (suc at) xs) k ys) (omega arith)
 
 -- one piece right behind another
-sets-behind : (area : Bytes) (at : ℕ) (xs ys : Bytes) {area′ area″ : Bytes} {place : ℕ} → area′ ≡ sets area at xs → place ≡ at + length xs → area″ ≡ sets area′ place ys
+sets-behind : (area : Bytes) (at : ℕ) (xs ys : Bytes) {area′ area″ : Bytes} {place : ℕ} → area′ ≡ sets area at xs → place ≡ at + length xs
+    → area″ ≡ sets area′ place ys
     → area″ ≡ sets area at (xs ++ ys)
 sets-behind area at xs ys first e next = next ∙ ap₂ (λ (b : Bytes) (k : ℕ). sets b k ys) first e ∙ sym (sets-append area at xs ys)
 
@@ -73,13 +74,18 @@ module _ {upTo : ℕ → Bytes} {count : ℕ} {area : Bytes} {at : ℕ} where
 
     stored-more : (piece : Bytes) {area″ : Bytes} {place : ℕ} → i < count → upTo (i + 1) ≡ upTo i ++ piece → place ≡ at + length (upTo i)
         → area″ ≡ sets area′ place piece → Stored upTo count area at area″ (i + 1)
-    stored-more piece h more e next = record { within = omega arith; here = sets-behind area at (upTo i) piece (s .here) e next ∙ ap (sets area at) (sym more) }
+    stored-more piece h more e next = record {
+      within = omega arith;
+      here = sets-behind area at (upTo i) piece (s .here) e next
+          ∙ ap (sets area at) (sym more);
+    }
 
     pub stored-all : count ≤ i → area′ ≡ sets area at (upTo count)
     stored-all h = s .here ∙ ap (λ (k : ℕ). sets area at (upTo k)) (omega (arith, s .within))
 
 -- a byte more is copied
-pub stored-byte : (bytes : Bytes) {area area′ area″ : Bytes} {at i : ℕ} → Stored (λ k. take k bytes) (length bytes) area at area′ i → i < length bytes
+pub stored-byte : (bytes : Bytes) {area area′ area″ : Bytes} {at i : ℕ} → Stored (λ k. take k bytes) (length bytes) area at area′ i
+    → i < length bytes
     → area″ ≡ set area′ (at + i) (getD bytes i 0) → Stored (λ k. take k bytes) (length bytes) area at area″ (i + 1)
 stored-byte bytes {i = i} s h next =
     stored-more s (getD bytes i 0 ∷ []) h (rw add-one (take-suc bytes i 0 h)) (omega (arith, length-take-le i bytes (omega arith))) next
@@ -97,7 +103,8 @@ stored-word ws {i = i} s h next = stored-more s (wordBytes (getD ws i 0)) h (wor
 
 -- stored from the start on, bytes write an area over
 sets-overwrite : (bytes area : Bytes) → length bytes ≤ length area → sets area 0 bytes ≡ overwrite bytes area
-sets-overwrite bytes area h = let z : 0 + length bytes ≡ length bytes = omega arith in sets-eq bytes area 0 (omega arith) ∙ ap (λ (k : ℕ). bytes ++ drop k area) z
+sets-overwrite bytes area h = let z : 0 + length bytes ≡ length bytes = omega arith in sets-eq bytes area 0 (omega arith)
+    ∙ ap (λ (k : ℕ). bytes ++ drop k area) z
 
 -- the text, the rows, the rule list and the trailer, each stored right behind what comes before it
 pub sets-partsBytes : (area text : Bytes) (ws : List ℕ) (count : ℕ) (rules : Bytes) (wanted : ℕ) {area₁ area₂ area₃ area₄ : Bytes}

@@ -1,7 +1,7 @@
 -- From a decision to the answer and the areas afterwards, on plain values; then the promise.
 --
--- In order: the numbers of a decision; the work areas after one; an accepted file; a refused file; the promise, with wanted rows that are given and with the file's own.
--- Assumes nothing.
+-- In order: the numbers of a decision; the work areas after one; an accepted file; a refused file; the promise, with wanted rows that are given and
+-- with the file's own.
 use mathlib.Core.Path.{_≡_, refl, sym, ap, _∙_, subst, subst₂}
 use mathlib.Core.List.{List}
 use Prim.Native.Nat.{ℕ, _≤_}
@@ -65,11 +65,13 @@ module _ {v b : Bytes} {l : Layout} (L : LaidFor ruleKinds v b l) {ws : List ℕ
   file-settled {d} {elements} {links} D = record { given = subst (λ (k : Answer). Decided k before d elements links) answer-is D }
 
 -- and then the work areas are cleared
-module _ {v b : Bytes} {l : Layout} {L : LaidFor ruleKinds v b l} {ws : List ℕ} {F : FileDecoded v b ws} {before : Areas} {d : Decision} {elements links : Bytes}
-    (S : Settled L F before d elements links) where
+module _ {v b : Bytes} {l : Layout} {L : LaidFor ruleKinds v b l} {ws : List ℕ} {F : FileDecoded v b ws} {before : Areas} {d : Decision}
+    {elements links : Bytes} (S : Settled L F before d elements links) where
   -- each kept its length until then
-  pub file-answered : {k : Numbers} → k ≡ decidedNumbers d → {n e a : Bytes} {n₁ e₁ a₁ : ℕ} → n ≡ replicate n₁ 0 → n₁ ≡ length (before .nodes)
-      → e ≡ replicate e₁ 0 → e₁ ≡ length (before .edges) → a ≡ replicate a₁ 0 → a₁ ≡ length (before .alternatives) → Answered v b before k (areasOf n e a elements links)
+  pub file-answered : {k : Numbers} → k ≡ decidedNumbers d → {n e a : Bytes} {n₁ e₁ a₁ : ℕ} → n ≡ replicate n₁ 0
+      → n₁ ≡ length (before .nodes)
+      → e ≡ replicate e₁ 0 → e₁ ≡ length (before .edges) → a ≡ replicate a₁ 0 → a₁ ≡ length (before .alternatives)
+      → Answered v b before k (areasOf n e a elements links)
   file-answered hk zn hn ze he za ha =
       let C = cleared d (answerFor v b (lengths before)) before (S .given .decides) in
       let pn = zn ∙ ap (λ (m : ℕ). replicate m 0) hn ∙ sym (C .nodes) in
@@ -93,10 +95,12 @@ module _ (v b : Bytes) (before : Areas) where
       promised k before (record { numbersAre = hk ∙ sym (ap numbers q); areasAre = sym (ap (λ (x : Answer). areasAfter x before) q) })
 
 -- document 01's call is the one with the file's own wanted row, which a file that is too short does not have
-pub own-promised : {v b : Bytes} {before : Areas} {k : Numbers} {after : Areas} → (8 ≤ length b → v ≡ wantedRows b) → PromiseFor v b before k after → Promise b before k after
+pub own-promised : {v b : Bytes} {before : Areas} {k : Numbers} {after : Areas} → (8 ≤ length b → v ≡ wantedRows b) → PromiseFor v b before k after
+    → Promise b before k after
 unfolding answerFor
 own-promised {v} {b} {before} own P =
-    let same : answerFor v b (lengths before) ≡ answerFor (wantedRows b) b (lengths before) = ap (answerReading (lengths before)) (reading-own ruleKinds b own) in
+    let same : answerFor v b (lengths before) ≡ answerFor (wantedRows b) b (lengths before) = ap (answerReading (lengths before))
+    (reading-own ruleKinds b own) in
     promised (wantedRows b) b before _ _ (record {
       numbersAre = P .numbersAre ∙ ap numbers same;
       areasAre = P .areasAre ∙ ap (λ (a : Answer). areasAfter a before) same;

@@ -1,7 +1,6 @@
 -- What the functions of the engine's call ask and give; what the call itself promises is in run's Promise.
 --
 -- In order: the numbers of a decision; the answer to an accepted file and the rows that are wanted of it.
--- Assumes nothing.
 use mathlib.Core.Path.{_≡_}
 use mathlib.Core.List.{List}
 use Prim.Native.Nat.{ℕ}

@@ -1,4 +1,5 @@
-// The engine (00, demands 1 to 3; 02, [4] and [7]): a rule file, wanted rows and five lent areas in, the answer out. Through the C convention it is called in `gumbyra` and `gumbyra_more`.
+// The engine (00, demands 1 to 3; 02, [4] and [7]): a rule file, wanted rows and five lent areas in, the answer out. Through the C convention it is
+// called in `gumbyra` and `gumbyra_more`.
 //
 // In order: the answer's numbers; an accepted file; every file, with wanted rows that are given and with its own; the text of a file, likewise.
 // Runs with no example, for whoever asks often of one file, are in asking.rt.
@@ -24,19 +25,19 @@ use answers::NO_NODE;
 use answers::TOO_LONG;
 use conclusion::Decision;
 use conclusion::decide;
+use decoder::decode_file;
 use decoding::RULE_KINDS;
 use graph::Area;
 use graph::Counts;
 use marks::Sizes;
 use problem::layout::WORDS;
-use decoder::decode_file;
-use records::clear;
 use reader::Layout;
 use reader::Outcome;
 use reader::read_for;
 use reader::text;
 use reader::text_for;
 use reader::wanted_of;
+use records::clear;
 
 pub mod asking;
 
@@ -164,7 +165,8 @@ fn fit_accepted(
     answer_of(d)
 }
 
-// Whether a member of all the wanted rows can exist, in place of the file's own wanted row. What is promised of the answer and of all five areas is `PromiseFor`, for every file.
+// Whether a member of all the wanted rows can exist, in place of the file's own wanted row. What is promised of the answer and of all five areas is
+// `PromiseFor`, for every file.
 pub fn fit_wanted(
     file: &[u8],
     wanted: &[u8],

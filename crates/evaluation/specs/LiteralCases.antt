@@ -33,7 +33,8 @@ use Rattle.evaluation.specs.Contracts.{isNamed, NamedAsks, Named}
 
 -- ---- names from 64 on have no say
 
-literal-low : (names low : RowSet) → ((a : ℕ) → a < 64 → mem a names ≡ mem a low) → (c : Concept) → T (inRange c) → literal names c ≡ literal low c
+literal-low : (names low : RowSet) → ((a : ℕ) → a < 64 → mem a names ≡ mem a low) → (c : Concept) → T (inRange c)
+    → literal names c ≡ literal low c
 unfolding inRange
 literal-low names low same (atomic a) r = same a (omega (arith, leb→le a 63 r))
 literal-low names low same (negated a) r = ap not (same a (omega (arith, leb→le a 63 r)))
@@ -135,7 +136,8 @@ module _ {t : Table} {j names rows : ℕ} where
     asking-in hx hv e = record {
       inside = still-inside;
       is = λ i.
-          ap (mem i) e ∙ mem-insert i k passed ∙ ap (λ (y : Bool). y || mem i passed) (sym (and-all (eqb i k)) ∙ ap (λ (z : Bool). eqb i k && z) (sym hv))
+          ap (mem i) e ∙ mem-insert i k passed ∙ ap (λ (y : Bool). y || mem i passed)
+          (sym (and-all (eqb i k)) ∙ ap (λ (z : Bool). eqb i k && z) (sym hv))
           ∙ asked-now hx i (eqb i k) refl;
     }
 
@@ -167,7 +169,8 @@ literal-parts names (inclusion ρ σ) = refl
 literal-parts names (neg l) = refl
 literal-parts names (impl l r) = refl
 
-pub literals-word : {ws : List ℕ} {a n : ℕ} → Mask ws (ofKind 1) a → Mask ws (ofKind 2) n → Words ws → {j : ℕ} → j < setWords → {names passed failed : ℕ}
+pub literals-word : {ws : List ℕ} {a n : ℕ} → Mask ws (ofKind 1) a → Mask ws (ofKind 2) n → Words ws → {j : ℕ} → j < setWords
+    → {names passed failed : ℕ}
     → Named (tableOf ws) j names (getD ws (a + j) 0) passed → Named (tableOf ws) j names (getD ws (n + j) 0) failed
     → union passed (minus (getD ws (n + j) 0) failed) ≡ wordOf (literalRows (tableOf ws) names) j
 literals-word {ws} {a} {n} MA MN words {j} h {names} {passed} {failed} PA PN =

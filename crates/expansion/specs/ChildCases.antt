@@ -31,7 +31,8 @@ use Rattle.graph.specs.declared.Step.{Step}
 use Rattle.graph.specs.declared.Step.the-variants.{Done, Full}
 use Rattle.tableau.specs.Contracts.{PutAsks, PutGives}
 use Rattle.expansion.specs.Contracts.{ExpandAsks, DisjAsks, StateAsks, KitGives, SuccessorsGives, StateGives, DisjGives, ConjGives}
-use Rattle.expansion.specs.PutCases.{P, cap, g, row-fits, Now, now-start, growing-start, MayPut, expand-loaded, expand-set, now-asks, now-gives, now-put}
+use Rattle.expansion.specs.PutCases.{P, cap, g, row-fits, Now, now-start, growing-start, MayPut, expand-loaded, expand-set, now-asks, now-gives}
+use Rattle.expansion.specs.PutCases.{now-put}
 
 -- ---- the put of a set that f makes of the node's own; the node was loaded as v
 
@@ -47,7 +48,8 @@ module _ {ws : List ℕ} {w : Work} {c : Counts} {x : ℕ} {A : ExpandAsks ws w 
       subst (λ (s : RowSet). PutAsks ws w′ d x (v .pst) (v .prl) s) (sym eσ)
       (subst (λ (u : Node). PutAsks ws w′ d x (u .pst) (u .prl) (f (u .rows))) loaded (now-asks N M))
 
-  set-given : {r : Step} {w″ : Work} → PutGives ws w′ d x (v .pst) (v .prl) σ r w″ → PutGives ws w′ d x (own .pst) (own .prl) (f (own .rows)) r w″
+  set-given : {r : Step} {w″ : Work} → PutGives ws w′ d x (v .pst) (v .prl) σ r w″
+      → PutGives ws w′ d x (own .pst) (own .prl) (f (own .rows)) r w″
   set-given {r} {w″} G =
       subst (λ (u : Node). PutGives ws w′ d x (u .pst) (u .prl) (f (u .rows)) r w″) (sym loaded)
       (subst (λ (s : RowSet). PutGives ws w′ d x (v .pst) (v .prl) s r w″) eσ G)
@@ -98,7 +100,8 @@ module _ {ws : List ℕ} {n e a : Bytes} {c : Counts} {x : ℕ} {A : ExpandAsks 
         refines-as (now-gives (now-start A) may (set-given v (B .loaded) (now-start A) (λ s. insert l (insert r s)) may eσ G) refl)
         (expand-conj (P A) (cap A) x (g A) (l, r) (B .found))
 
-pub conj-gives : {ws : List ℕ} {w : Work} {c : Counts} {x : ℕ} → DisjAsks ws w c x → {r : Step} {w′ : Work} → DisjGives ws w c x r w′ → ConjGives ws w c x r w′
+pub conj-gives : {ws : List ℕ} {w : Work} {c : Counts} {x : ℕ} → DisjAsks ws w c x → {r : Step} {w′ : Work} → DisjGives ws w c x r w′
+    → ConjGives ws w c x r w′
 unfolding expandConj
 conj-gives {ws} {w} {c} {x} A G = refines-as G (ap (λ (o : Option (ℕ × ℕ)). expandConj (problemOf ws) (capacityOf w) x o (graphOf w c)) (A .noConj))
 
@@ -113,7 +116,8 @@ module _ {ws : List ℕ} {n e a : Bytes} {c : Counts} {x : ℕ} (A : DisjAsks ws
   module _ (hv : IsNode n x v) {q : ℕ} (hq : q ≡ nodeSize * x) {o : Found} (ho : foundOf o ≡ lowestDisj (tableOf ws) (setOf n q)) where
     disj-lowest : {b : Found} → o ≡ b → lowestDisj (tableOf ws) (nodeAt (graphOf (work n e a) c) x .rows) ≡ foundOf b
     disj-lowest e =
-        ap (λ (r : RowSet). lowestDisj (tableOf ws) r) (sym (expand-set (A .node))) ∙ ap (λ (p : ℕ). lowestDisj (tableOf ws) (setOf n p)) (sym hq) ∙ sym ho
+        ap (λ (r : RowSet). lowestDisj (tableOf ws) r) (sym (expand-set (A .node))) ∙ ap (λ (p : ℕ). lowestDisj (tableOf ws) (setOf n p)) (sym hq)
+        ∙ sym ho
         ∙ ap foundOf e
 
     pub either-found : {l r : ℕ} → o ≡ Found.Rows l r → Either l r

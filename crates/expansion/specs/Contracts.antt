@@ -1,7 +1,6 @@
 -- What the expansion of a node relies on, and what it gives. Words, areas and counts as in the tableau's contracts.
 --
 -- In order: the node that is expanded; one with no unfinished conjunction; a state; the children, by the definition's functions; the whole expansion.
--- Assumes nothing.
 use mathlib.Core.Path.{_≡_}
 use mathlib.Core.List.{List}
 use mathlib.Core.Option.{none}

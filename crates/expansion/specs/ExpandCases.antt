@@ -1,5 +1,5 @@
--- The cases of a whole expansion, on plain values: the children (`WithChildren`), the judgement (`WithStatus`), and then a node that is merely open, or the updates.
--- Assumes nothing.
+-- The cases of a whole expansion, on plain values: the children (`WithChildren`), the judgement (`WithStatus`), and then a node that is merely open,
+-- or the updates.
 use mathlib.Core.Path.{_≡_, refl, sym, ap, _∙_, subst}
 use mathlib.Core.Bool.{true}
 use mathlib.Core.List.{List}
@@ -59,7 +59,8 @@ module _ {ws : List ℕ} {w : Work} {c : Counts} {x : ℕ} (A : ExpandAsks ws w 
   module _ {w₁ : Work} {r : Step} (K : ConjGives ws w c x r w₁) where
     pub children-short : {p : Area} → r ≡ Full p → ExpandGives ws w c x (Full p) w₁
     children-short er =
-        refines-as (refines-short (refines-short (refines-answer K er) (λ u. judging) sized-refl) (λ u. updating) sized-refl) (expand-is (P A) (cap A) x (g A))
+        refines-as (refines-short (refines-short (refines-answer K er) (λ u. judging) sized-refl) (λ u. updating) sized-refl)
+        (expand-is (P A) (cap A) x (g A))
 
     pub children-done : {d : Counts} → r ≡ Done d → WithChildren w₁ d
     children-done er = record { gives = refines-answer K er }
@@ -104,7 +105,8 @@ module _ {ws : List ℕ} {w : Work} {c : Counts} {x : ℕ} {A : ExpandAsks ws w 
 
 -- ---- after the judgement
 
-module _ {ws : List ℕ} {w : Work} {c : Counts} {x : ℕ} {A : ExpandAsks ws w c x} {n₂ e₂ a₂ : Bytes} {b : Counts} (J : WithStatus A (work n₂ e₂ a₂) b) where
+module _ {ws : List ℕ} {w : Work} {c : Counts} {x : ℕ} {A : ExpandAsks ws w c x} {n₂ e₂ a₂ : Bytes} {b : Counts}
+    (J : WithStatus A (work n₂ e₂ a₂) b) where
   abbrev w₂ : Work
   w₂ = work n₂ e₂ a₂
 
@@ -133,7 +135,13 @@ module _ {ws : List ℕ} {w : Work} {c : Counts} {x : ℕ} {A : ExpandAsks ws w 
 
   -- the updates
   pub parents-asks : UpdateAsks ws (work n₂ e₂ a₂) b x
-  parents-asks = record { decoded = A .decoded; held = held; fit = subst (λ (q : Capacity). Fit (P A) q (graphOf w₂ b)) (sym places₂) (J .fit); there = J .there }
+  parents-asks = record {
+    decoded = A .decoded;
+    held = held;
+    fit = subst (λ (q : Capacity). Fit (P A) q (graphOf w₂ b)) (sym places₂) (J .fit);
+    there =
+        J .there;
+  }
 
   pub parents-gives : {w₃ : Work} {r : Step} → ParentsGives ws (work n₂ e₂ a₂) b x r w₃ → ExpandGives ws w c x r w₃
   unfolding update

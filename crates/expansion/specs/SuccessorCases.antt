@@ -141,7 +141,10 @@ module _ {ws : List ℕ} {w : Work} {c : Counts} {x : ℕ} {w′ : Work} {d : Co
 
   -- of the set where it stands
   pub turn-successor : (q : ℕ) {σ : RowSet} → σ ≡ successor (problemOf ws) (setOf (w′ .nodes) q) (role, argument) → q ≡ nodeSize * x → Made σ
-  turn-successor q eσ eq = record { is = eσ ∙ ap (λ (r : RowSet). successor (problemOf ws) r (role, argument)) (ap (setOf (w′ .nodes)) eq ∙ turn-set T) }
+  turn-successor q eσ eq = record {
+    is = eσ ∙ ap (λ (r : RowSet). successor (problemOf ws) r (role, argument))
+        (ap (setOf (w′ .nodes)) eq ∙ turn-set T);
+  }
 
   module _ {σ : RowSet} (made : Made σ) where
     pub turn-asks : PutAsks ws w′ d x x role σ

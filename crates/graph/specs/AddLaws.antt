@@ -212,7 +212,11 @@ module _ {n a : Bytes} (c : Counts) (x : ℕ) (s : RowSet) where
   pub add-alternative-full : ((e : Bytes) → G.hasAlternative x s (graphOf (work n e a) c) ≡ false) → roomOf alternativeSize a ≤ c .alternatives
       → AddsAlternative n n a a c (Full Alternatives) (λ k g. G.addAlternative k x s g)
   add-alternative-full had l e h = record {
-    meets = (graphOf (work n e a) c, alternative-none (capacityOf (work n e a)) x s (graphOf (work n e a) c) (had e) (omega (arith, count-alternatives (work n e a) c)));
+    meets = (
+      graphOf (work n e a) c,
+      alternative-none (capacityOf (work n e a)) x s (graphOf (work n e a) c) (had e)
+          (omega (arith, count-alternatives (work n e a) c)),
+    );
     held = tt;
     sized = sized-refl;
   }

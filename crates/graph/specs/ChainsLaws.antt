@@ -57,7 +57,8 @@ module _ {n e a : Bytes} {c : Counts} (C : Chained n e a c) where
   -- ---- a node more: its record, then that it has no children, no parents, no alternatives
 
   pub chained-node : {n₁ n₂ n₃ n₄ : Bytes} → Within nodeSize (c .nodes) 0 nodeExtent n n₁
-      → Begun childPlaces n₁ n₂ (c .nodes) → Begun parentPlaces n₂ n₃ (c .nodes) → Begun alternativePlaces n₃ n₄ (c .nodes) → Chained n₄ e a (moreNodes c)
+      → Begun childPlaces n₁ n₂ (c .nodes) → Begun parentPlaces n₂ n₃ (c .nodes) → Begun alternativePlaces n₃ n₄ (c .nodes)
+      → Chained n₄ e a (moreNodes c)
   chained-node {n₁} {n₂} {n₃} {n₄} W X Y Z =
       let all : Within nodeSize (c .nodes) 0 nodeFree n n₄ =
       within-then (within-wider 0 nodeFree (omega arith) (omega arith) W) (within-then (within-wider 0 nodeFree (omega arith) (omega arith) (X .within))

@@ -58,7 +58,8 @@ module _ {w : Work} {c : Counts} (h : Held w c) where
   held-room = (h .nodes, h .edges, h .alternatives)
 
   -- what is written beside the chains keeps all: in nodes, and in edges
-  pub held-nodes : {n′ : Bytes} {lo hi : ℕ} → Beside nodeSize lo hi (w .nodes) n′ → hi ≤ nodeChains → Held (work n′ (w .edges) (w .alternatives)) c
+  pub held-nodes : {n′ : Bytes} {lo hi : ℕ} → Beside nodeSize lo hi (w .nodes) n′ → hi ≤ nodeChains
+      → Held (work n′ (w .edges) (w .alternatives)) c
   held-nodes B s = record { nodes = omega (arith, h .nodes, B .long); edges = h .edges; alternatives = h .alternatives; chains = chained-nodes (h .chains) B s }
 
   pub held-edges : {e′ : Bytes} {lo hi : ℕ} → Beside edgeSize lo hi (w .edges) e′ → edgeExtent ≤ lo → hi ≤ edgeChains

@@ -74,7 +74,8 @@ module _ {w : Work} {c : Counts} {w₁ : Work} {f : G.Graph → G.Graph} (C : Ch
   changes-both {h = h} D = record { meets = D .meets ∙ ap h (C .meets); held = D .held; sized = sized-trans (C .sized) (D .sized) }
 
 -- a change after a step
-pub refines-changes : {w : Work} {c d : Counts} {w₁ w₂ : Work} {f : Operation} {h : G.Graph → G.Graph} → Refines w c (Done d) w₁ f → Changes w₁ d w₂ h
+pub refines-changes : {w : Work} {c d : Counts} {w₁ w₂ : Work} {f : Operation} {h : G.Graph → G.Graph} → Refines w c (Done d) w₁ f
+    → Changes w₁ d w₂ h
     → Refines w c (Done d) w₂ (λ k g. G._>>=_ (f k g) (λ u. G.reached (h u)))
 refines-changes {h = h} R C = refines-then R (λ g k u. G.reached (h u)) (changes-refines C)
 

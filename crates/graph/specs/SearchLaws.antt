@@ -77,7 +77,8 @@ module _ (f test : ℕ → Bool) (g : G.Graph) (agree : (x : ℕ) → x < G.node
   unfolding G.lowest
   lowest-nowhere all =
       first-nowhere (answer f) (range 0 (G.nodeCount g)) 0
-      (λ j l. let h : j < G.nodeCount g = omega (arith, length-range 0 (G.nodeCount g)) in ap (answer f) (number j h) ∙ answer-none f j (agree j h ∙ all j h))
+      (λ j l. let h : j < G.nodeCount g = omega (arith, length-range 0 (G.nodeCount g)) in ap (answer f) (number j h)
+      ∙ answer-none f j (agree j h ∙ all j h))
 
 module _ (w : Work) (c : Counts) where
   module _ (s : RowSet) where
@@ -86,7 +87,8 @@ module _ (w : Work) (c : Counts) where
     unfolding isStateWith
     states-agree x h = ap (λ (v : G.Node). ltb 0 x && (v .isState && eqb (v .rows) s)) (graph-node w c x (omega (arith, count-nodes w c)))
 
-    pub state-found : (x : ℕ) → x < c .nodes → NoneBelow (isStateWith (w .nodes) s) x → isStateWith (w .nodes) s x ≡ true → G.findState s (graphOf w c) ≡ some x
+    pub state-found : (x : ℕ) → x < c .nodes → NoneBelow (isStateWith (w .nodes) s) x → isStateWith (w .nodes) s x ≡ true
+        → G.findState s (graphOf w c) ≡ some x
     unfolding G.findState
     state-found x h all t = lowest-found _ (isStateWith (w .nodes) s) (graphOf w c) states-agree x (omega (arith, count-nodes w c)) all t
 
@@ -98,7 +100,8 @@ module _ (w : Work) (c : Counts) where
   unfolding isUnsetAt
   unset-agree x h = ap (λ (v : G.Node). isUnset (v .status)) (graph-node w c x (omega (arith, count-nodes w c)))
 
-  pub unset-found : (x : ℕ) → x < c .nodes → NoneBelow (isUnsetAt (w .nodes)) x → isUnsetAt (w .nodes) x ≡ true → G.lowestUnset (graphOf w c) ≡ some x
+  pub unset-found : (x : ℕ) → x < c .nodes → NoneBelow (isUnsetAt (w .nodes)) x → isUnsetAt (w .nodes) x ≡ true
+      → G.lowestUnset (graphOf w c) ≡ some x
   unfolding G.lowestUnset
   unset-found x h all t = lowest-found _ (isUnsetAt (w .nodes)) (graphOf w c) unset-agree x (omega (arith, count-nodes w c)) all t
 
@@ -209,7 +212,8 @@ module _ {A B : Type 0} (p : Places) (read : Bytes → ℕ → A) (keyOf : A →
 
     along-end : count ≤ i → restFrom b count x from ≡ []
     along-end q =
-        chosen-end (λ d. eqb (keyOf d) x) worth read b count from count (λ j. eqb (keyIn p b j) x) tests (first-end along (C .few) count few l q) (omega arith)
+        chosen-end (λ d. eqb (keyOf d) x) worth read b count from count (λ j. eqb (keyIn p b j) x) tests (first-end along (C .few) count few l q)
+        (omega arith)
 
 module _ {n e a : Bytes} {c d : Counts} (H : Held (work n e a) d) (grown : CountsGrown c d) where
   -- the graph with counts c

@@ -86,7 +86,11 @@ module _ {n b : Bytes} {y : ℕ} (C : NumbersCleared n b y) where
 
   pub cleared-more : {c : Bytes} → NumberStored b c y 0 → NumbersCleared n c (y + 1)
   cleared-more {c} S = record {
-    none-has = λ z h. elim (ℕ-discrete z y) [ yes p ↦ ap (numberIn c) p ∙ S .stored .here | no d ↦ S .stored .others z d ∙ C .none-has z (omega arith) ];
+    none-has = λ z h. elim (ℕ-discrete z y) [
+      | yes p ↦ ap (numberIn c) p ∙ S .stored .here
+      | no d ↦ S .stored .others z d
+          ∙ C .none-has z (omega arith)
+    ];
     states = λ d. S .states d ∙ C .states d;
     beside = beside-then (C .beside) (S .beside);
   }

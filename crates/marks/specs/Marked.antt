@@ -1,5 +1,4 @@
 -- What writing a mark changes: that mark alone. Laws are in MarkLaws.
--- Assumes nothing.
 use mathlib.Core.Path.{_≡_}
 use Prim.Native.Nat.{ℕ, _<_}
 use Rattle.concepts.specs.Lists.{Bytes}

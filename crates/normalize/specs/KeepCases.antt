@@ -1,7 +1,6 @@
 -- The ways through the functions that write the inclusions of a draft, on plain values.
 --
 -- In order: no row yet; a draft without an inclusion; a row that is an inclusion; a row that is none; all rows.
--- Assumes nothing.
 use mathlib.Core.Path.{_≡_, refl, sym, ap, _∙_, subst}
 use mathlib.Core.Bool.{Bool, false, not}
 use mathlib.Core.List.{List, [], _∷_, _++_, append-nil, List·Memᴰ, List·Memᴰ·head, List·Memᴰ·tail}
@@ -79,7 +78,8 @@ module _ {b : Bytes} {k : ℕ} {ws : List ℕ} {n : ℕ} (K : Kept b k ws n) whe
     pub kept-room : n < length ws
     kept-room = omega (arith, K .few, K .held .size, draft-parted (K .draft) .fewRows)
 
-    pub kept-row : {kind role left w : ℕ} → kind ≡ rowByte b k 0 → kind ≡ 7 → role ≡ rowByte b k 1 → left ≡ rowByte b k 2 → role < 256 → left < 256
+    pub kept-row : {kind role left w : ℕ} → kind ≡ rowByte b k 0 → kind ≡ 7 → role ≡ rowByte b k 1 → left ≡ rowByte b k 2 → role < 256
+        → left < 256
         → w ≡ 7 + 256 * role + 65536 * left + 16777216 * 0 → Kept b (k + 1) (set ws n w) (n + 1)
     unfolding ofParts
     kept-row {kind} {role} {left} {w} q e r l a c word =
@@ -106,7 +106,8 @@ module _ {b : Bytes} {k : ℕ} {ws : List ℕ} {n : ℕ} (K : Kept b k ws n) whe
           within = omega arith;
           few = omega (arith, K .few);
           held = K .held;
-          rows = K .rows ∙ sym (next-rows ∙ rw (select-fail isInclusion (conceptAt t k) (from-false _ (by-kind ∙ other))) (append-nil (inclusionRows (take k t))));
+          rows = K .rows ∙ sym (next-rows ∙ rw (select-fail isInclusion (conceptAt t k) (from-false _ (by-kind ∙ other)))
+              (append-nil (inclusionRows (take k t))));
         }
 
   -- ---- all rows

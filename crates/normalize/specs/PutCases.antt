@@ -35,7 +35,8 @@ use Rattle.normalize.specs.Contracts.{Settled, Remembers, ShareAsks, Giv
 pub shape-as : {b : Bytes} {k : ℕ} {s : Sign} {σ τ : Shape} → ShapeAt b k s σ → σ ≡ τ → ShapeAt b k s τ
 shape-as {b} {k} {s} S e = subst (ShapeAt b k s) e S
 
-pub gives-as : {b : Bytes} {ws : List ℕ} {n k : ℕ} {s : Sign} {memo′ ws′ : List ℕ} {r q : Placement} → PutGives b ws n k s memo′ ws′ r → r ≡ q
+pub gives-as : {b : Bytes} {ws : List ℕ} {n k : ℕ} {s : Sign} {memo′ ws′ : List ℕ} {r q : Placement} → PutGives b ws n k s memo′ ws′ r
+    → r ≡ q
     → PutGives b ws n k s memo′ ws′ q
 gives-as {b} {ws} {n} {k} {s} {memo′} {ws′} G e = subst (PutGives b ws n k s memo′ ws′) e G
 
@@ -191,7 +192,8 @@ module _ {b : Bytes} {memo ws : List ℕ} {n k : ℕ} (A : PutAsks b memo ws n k
         (record { draft = A .draft; row = omega (arith, A .row); idle = draft-idle (A .draft) k l (named l m); held = A .held; remembered = A .remembered }, h)
 
     -- and after it another one
-    pub next-asks : {memo′ ws′ : List ℕ} {l i n′ : ℕ} {z : Sign} → PutGives b ws n l z memo′ ws′ (At i n′) → (j : ℕ) → List·Memᴰ j (shapeRows (shapeOf σ))
+    pub next-asks : {memo′ ws′ : List ℕ} {l i n′ : ℕ} {z : Sign} → PutGives b ws n l z memo′ ws′ (At i n′) → (j : ℕ)
+        → List·Memᴰ j (shapeRows (shapeOf σ))
         → PutAsks b memo′ ws′ n′ j × (j < k)
     next-asks G j m =
         let h = lower j m in (
@@ -212,7 +214,8 @@ module _ {b : Bytes} {memo ws : List ℕ} {n k : ℕ} (A : PutAsks b memo ws n k
     literal-ends = share-ends (A .held) (A .remembered) (put-becomes S ∙ ap (λ (c : Concept). share c (rowsIn ws n)) (sym (R .row)))
 
   -- what becomes of another row
-  pub other-ends : {s : Sign} {l : ℕ} {z : Sign} → ShapeAt b k s (Other z l) → {memo′ ws′ : List ℕ} {r : Placement} → PutGives b ws n l z memo′ ws′ r
+  pub other-ends : {s : Sign} {l : ℕ} {z : Sign} → ShapeAt b k s (Other z l) → {memo′ ws′ : List ℕ} {r : Placement}
+      → PutGives b ws n l z memo′ ws′ r
       → PutGives b ws n k s memo′ ws′ r
   unfolding putShape
   other-ends {s} S {memo′} {ws′} {r} G = record {
@@ -224,7 +227,8 @@ module _ {b : Bytes} {memo ws : List ℕ} {n k : ℕ} (A : PutAsks b memo ws n k
 
   -- a row over one
   module _ {s : Sign} {kind role l : ℕ} {z : Sign} (S : ShapeAt b k s (Unary kind role z l)) {memo′ ws′ : List ℕ} where
-    pub unary-ends : {i n′ w : ℕ} → PutGives b ws n l z memo′ ws′ (At i n′) → IsRow w (ofParts kind role i 0) → {ws″ : List ℕ} {r : Placement}
+    pub unary-ends : {i n′ w : ℕ} → PutGives b ws n l z memo′ ws′ (At i n′) → IsRow w (ofParts kind role i 0)
+        → {ws″ : List ℕ} {r : Placement}
         → SharesRow ws′ n′ w ws″ r → PutGives b ws n k s memo′ ws″ r
     unfolding putShape
     unary-ends {i} G R =

@@ -1,7 +1,7 @@
 -- Laws of Shapes: what becomes of a row by its four bytes is what becomes of its concept.
 --
--- In order: by the parts of a concept; row k of a draft: its parts are its bytes, and it becomes what they say (`shape-bytes`), case by case (`RowRead`, `literal-case`, ..).
--- Assumes nothing.
+-- In order: by the parts of a concept; row k of a draft: its parts are its bytes, and it becomes what they say (`shape-bytes`), case by case
+-- (`RowRead`, `literal-case`, ..).
 use mathlib.Core.Path.{_≡_, refl, sym, _∙_}
 use mathlib.Core.Bool.{true, false, not, _||_}
 use mathlib.Core.Logic.{inl, inr}
@@ -13,7 +13,8 @@ use borrow.Author.Tests.{le-leb, lt-leb, eq-eqb, ne-eqb}
 use Rattle.concepts.specs.Lists.{Bytes}
 use Rattle.concepts.specs.Tests.{impossible, or-cases, from-true}
 use Rattle.concepts.specs.ListLaws.{length-map-range}
-use Rattle.concepts.specs.Concept.{Concept, atomic, negated, conj, disj, univ, exist, inclusion, neg, impl, conceptAt, roleOf, Ordered, isInclusion, NoInclusion, asArgument}
+use Rattle.concepts.specs.Concept.{Concept, atomic, negated, conj, disj, univ, exist, inclusion, neg, impl, conceptAt, roleOf, Ordered, isInclusion}
+use Rattle.concepts.specs.Concept.{NoInclusion, asArgument}
 use Rattle.decoding.specs.Decoding.{draftKinds}
 use Rattle.decoding.specs.RowParts.{kindOf, leftOf, rightOf, ofParts}
 use Rattle.decoding.specs.RowPartLaws.{Parts}
@@ -68,7 +69,8 @@ module _ {b : Bytes} (D : Draft b) where
     pub parts-at : Parts (rowByte b k 0) (rowByte b k 1) (rowByte b k 2) (rowByte b k 3) (conceptAt (tableOf b) k)
     parts-at = contents-parts draftKinds (wantedRows b) b (D .passed) k h
 
-    pub shape-bytes : (s : Sign) → NoInclusion (tableOf b) k → formOf (rowByte b k 0) (rowByte b k 1) (rowByte b k 2) (rowByte b k 3) s ≡ shape (conceptAt (tableOf b) k) s
+    pub shape-bytes : (s : Sign) → NoInclusion (tableOf b) k → formOf (rowByte b k 0) (rowByte b k 1) (rowByte b k 2) (rowByte b k 3) s ≡ shape
+        (conceptAt (tableOf b) k) s
     shape-bytes s i =
         let P = parts-at in
         rw (← P .kind-is, ← P .role-is, ← P .left-is, ← P .right-is) (form-shape (conceptAt (tableOf b) k) s i)
@@ -126,7 +128,8 @@ kind-pos (inclusion ρ σ) = omega arith
 kind-pos (neg l) = omega arith
 kind-pos (impl l r) = omega arith
 
-kind-pair : (c : Concept) → T (not (isInclusion c)) → 2 < kindOf c → (eqb (kindOf c) 5 || eqb (kindOf c) 6) ≡ false → (kindOf c ≡ 8 → ⊥) → (kindOf c ≡ 9 → ⊥)
+kind-pair : (c : Concept) → T (not (isInclusion c)) → 2 < kindOf c → (eqb (kindOf c) 5 || eqb (kindOf c) 6) ≡ false → (kindOf c ≡ 8 → ⊥)
+    → (kindOf c ≡ 9 → ⊥)
     → IsPair (kindOf c)
 unfolding kindOf
 kind-pair (atomic a) i h m n o = absurd (omega arith)

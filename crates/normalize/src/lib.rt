@@ -11,6 +11,8 @@ ghost use Rattle.rulefile.specs.Format.{rowCount, mostRows};
 ghost use Rattle.normalize.specs.Words.{Finds};
 ghost use Rattle.normalize.specs.Shapes.{tableOf, writtenKind, ShapeAt, slots, slotOf};
 ghost use Rattle.normalize.specs.Contracts.{Draft, ShareAsks, SharesRow, PutAsks, PutGives, ListAsks, ListGives, KeepAsks, Kept, KeepGives};
+use checks::inclusions::some_inclusion;
+use checks::row_byte;
 use decoding::kinds::ATOMIC;
 use decoding::kinds::CONJ;
 use decoding::kinds::DISJ;
@@ -21,8 +23,6 @@ use decoding::kinds::NEG;
 use decoding::kinds::NEGATED;
 use decoding::kinds::UNIV;
 use rulefile::MOST_ROWS;
-use checks::inclusions::some_inclusion;
-use checks::row_byte;
 
 // What becomes of a row: a row without arguments (kind, name); what becomes of another row (sign, row); a row over one (kind, role, sign, row) or over two
 // (kind, sign, row, sign, row). The sign says whether the row is needed as it stands or its opposite is.

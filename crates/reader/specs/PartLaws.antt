@@ -10,7 +10,8 @@ use lib.Seq.{length-take-le}
 use Rattle.concepts.specs.Tests.{impossible}
 use Rattle.concepts.specs.Lists.{Bytes, range}
 use Rattle.concepts.specs.ListLaws.{map-getD-range, length-map-range}
-use Rattle.rulefile.specs.Format.{firstRow, rowCount, ruleCount, wantedRows, conceptIn, rule, rules, rowsPart, contentsFor, Reading, refused, accepted, readingFor, textFor}
+use Rattle.rulefile.specs.Format.{firstRow, rowCount, ruleCount, wantedRows, conceptIn, rule, rules, rowsPart, contentsFor, Reading, refused, accepted}
+use Rattle.rulefile.specs.Format.{readingFor, textFor}
 use Rattle.decoding.specs.Decoding.{Kinds}
 use Rattle.rulefile.specs.Checks.{Parted}
 use Rattle.rulefile.specs.CheckLaws.{accepted-contents, accepted-parted}
@@ -21,7 +22,8 @@ use Rattle.reader.specs.declared.Outcome.the-variants.{Refused, Accepted
 
 -- ---- what the reader answered
 
-pub reads-refused : (kinds : Kinds) (wanted : List ℕ) (b : Bytes) (n : ℕ) → Refused n ≡ readOf (readingFor kinds wanted b) → readingFor kinds wanted b ≡ refused n
+pub reads-refused : (kinds : Kinds) (wanted : List ℕ) (b : Bytes) (n : ℕ) → Refused n ≡ readOf (readingFor kinds wanted b)
+    → readingFor kinds wanted b ≡ refused n
 unfolding readOf
 reads-refused kinds wanted b n = of (readingFor kinds wanted b)
   where
@@ -29,7 +31,8 @@ reads-refused kinds wanted b n = of (readingFor kinds wanted b)
     of (refused m) q = cc
     of (accepted f) q = impossible cc
 
-pub reads-accepted : (kinds : Kinds) (wanted : List ℕ) (b : Bytes) (l : Layout) → Accepted l ≡ readOf (readingFor kinds wanted b) → LaidFor kinds wanted b l
+pub reads-accepted : (kinds : Kinds) (wanted : List ℕ) (b : Bytes) (l : Layout) → Accepted l ≡ readOf (readingFor kinds wanted b)
+    → LaidFor kinds wanted b l
 unfolding readOf
 reads-accepted kinds wanted b l q = of (readingFor kinds wanted b) refl q
   where

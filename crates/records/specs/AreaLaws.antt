@@ -2,7 +2,6 @@
 --
 -- In order: the room of an area; the list of an area's records; a record stored; fields; what is kept beside bytes that are written; a record written by its
 -- fields; the elements that pass, from a place on.
--- Assumes nothing.
 use mathlib.Core.Path.{_≡_, refl, sym, ap, _∙_, subst}
 use mathlib.Core.Bool.{Bool, true, false}
 use mathlib.Core.List.{List, [], _∷_, _++_, map}
@@ -45,8 +44,10 @@ module _ {A : Type 0} (read : Bytes → ℕ → A) where
   getD-records b n x d h = getD-map-range (read b) 0 n x d h ∙ ap (read b) (omega arith)
 
   -- an area whose records begin with xs: so many of them are xs
-  pub records-kept : (b : Bytes) (n m : ℕ) (xs more : List A) → length xs ≡ n → n ≤ m → recordsIn read b m ≡ xs ++ more → recordsIn read b n ≡ xs
-  records-kept b n m xs more l h q = sym (take-map-range (read b) 0 m n h) ∙ ap (take n) q ∙ take-append-le n xs more (omega arith) ∙ take-all n xs (omega arith)
+  pub records-kept : (b : Bytes) (n m : ℕ) (xs more : List A) → length xs ≡ n → n ≤ m → recordsIn read b m ≡ xs ++ more
+      → recordsIn read b n ≡ xs
+  records-kept b n m xs more l h q = sym (take-map-range (read b) 0 m n h) ∙ ap (take n) q ∙ take-append-le n xs more (omega arith)
+      ∙ take-all n xs (omega arith)
 
   -- records that all read as before
   pub records-same : {b b′ : Bytes} → ((z : ℕ) → read b′ z ≡ read b z) → (n : ℕ) → recordsIn read b′ n ≡ recordsIn read b n
@@ -57,10 +58,12 @@ module _ {A : Type 0} (read : Bytes → ℕ → A) where
 
   -- ---- a record stored
 
-  pub stored-then : {b b′ b″ : Bytes} {x : ℕ} {v : A} → Stored read b b′ x v → length b″ ≡ length b′ → ((z : ℕ) → read b″ z ≡ read b′ z) → Stored read b b″ x v
+  pub stored-then : {b b′ b″ : Bytes} {x : ℕ} {v : A} → Stored read b b′ x v → length b″ ≡ length b′
+      → ((z : ℕ) → read b″ z ≡ read b′ z) → Stored read b b″ x v
   stored-then {x = x} s l same = record { size = l ∙ s .size; here = same x ∙ s .here; others = λ y d. same y ∙ s .others y d }
 
-  pub records-set : {b b′ : Bytes} {x : ℕ} {v : A} → Stored read b b′ x v → (n : ℕ) → x < n → recordsIn read b′ n ≡ set (recordsIn read b n) x v
+  pub records-set : {b b′ : Bytes} {x : ℕ} {v : A} → Stored read b b′ x v → (n : ℕ) → x < n
+      → recordsIn read b′ n ≡ set (recordsIn read b n) x v
   records-set {b} {b′} {x} {v} s n h =
       ext-getD v (recordsIn read b′ n) (set (recordsIn read b n) x v)
       (length-records b′ n ∙ sym (length-set (recordsIn read b n) x v ∙ length-records b n))
@@ -69,7 +72,8 @@ module _ {A : Type 0} (read : Bytes → ℕ → A) where
       at : (i : ℕ) → i < n → Dec (i ≡ x) → getD (recordsIn read b′ n) i v ≡ getD (set (recordsIn read b n) x v) i v
       at i p (yes e) =
           getD-records b′ n i v p ∙ ap (read b′) e ∙ s .here
-          ∙ sym (ap (λ (k : ℕ). getD (set (recordsIn read b n) x v) k v) e ∙ getD-set-same (recordsIn read b n) x v v (omega (arith, length-records b n)))
+          ∙ sym (ap (λ (k : ℕ). getD (set (recordsIn read b n) x v) k v) e
+          ∙ getD-set-same (recordsIn read b n) x v v (omega (arith, length-records b n)))
       at i p (no d) =
           getD-records b′ n i v p ∙ s .others i d
           ∙ sym (getD-set-other (recordsIn read b n) x i v v d ∙ getD-records b n i v p)
@@ -98,7 +102,8 @@ pub field-same : (size : ℕ) (b c : Bytes) (x : ℕ) → Same size b c x → (o
 field-same size b c x same o n h = leAt-same b c (size * x + o) n (λ j p q. same j (omega arith) (omega arith))
 
 -- a field beside the one that was written
-pub field-other : (size : ℕ) (b : Bytes) (x o n p m v : ℕ) → (o + n ≤ p) ⊎ (p + m ≤ o) → field size (putLe b (size * x + p) m v) x o n ≡ field size b x o n
+pub field-other : (size : ℕ) (b : Bytes) (x o n p m v : ℕ) → (o + n ≤ p) ⊎ (p + m ≤ o)
+    → field size (putLe b (size * x + p) m v) x o n ≡ field size b x o n
 field-other size b x o n p m v (inl h) = leAt-same _ b (size * x + o) n (λ j l u. below-putLe b (size * x + p) m v j (omega arith))
 field-other size b x o n p m v (inr h) = leAt-same _ b (size * x + o) n (λ j l u. above-putLe b (size * x + p) m v j (omega arith))
 
@@ -113,7 +118,8 @@ within-bytes size x lo hi b b′ h l same = record {
   beside = λ o w d f. leAt-same b′ b (size * x + o) w (λ j p q. same j (elim d [ inl k ↦ inl (omega arith) | inr k ↦ inr (omega arith) ]));
 }
   where
-    side : (y o w : ℕ) → y ≢ x → o + w ≤ size → (j : ℕ) → size * y + o ≤ j → j < size * y + o + w → Dec (y < x) → (j < size * x + lo) ⊎ (size * x + hi ≤ j)
+    side : (y o w : ℕ) → y ≢ x → o + w ≤ size → (j : ℕ) → size * y + o ≤ j → j < size * y + o + w → Dec (y < x) → (j < size * x + lo)
+        ⊎ (size * x + hi ≤ j)
     side y o w d f j p q (yes k) = inl (omega (arith, mul-step size y x k))
     side y o w d f j p q (no k) = inr (omega (arith, mul-step size x y (omega arith)))
 
@@ -123,14 +129,17 @@ within-put size b x p u v h = within-bytes size x p (p + u) b (putLe b (size * x
   | inr k ↦ above-putLe b (size * x + p) u v j (omega arith)
 ])
 
-pub within-fields : (size : ℕ) (b c : Bytes) (x : ℕ) {lo hi : ℕ} (fs : List Field) → hi ≤ size → c ≡ putFields b (size * x) fs → Apart lo hi fs → Within size x lo hi b c
-within-fields size b c x {lo} {hi} fs h e s = rw e (within-bytes size x lo hi b (putFields b (size * x) fs) h (length-putFields b (size * x) fs) (λ j t. elim t [
-  | inl k ↦ below-putFields b (size * x) lo hi fs j s k
-  | inr k ↦ above-putFields b (size * x) lo hi fs j s k
-]))
+pub within-fields : (size : ℕ) (b c : Bytes) (x : ℕ) {lo hi : ℕ} (fs : List Field) → hi ≤ size → c ≡ putFields b (size * x) fs → Apart lo hi fs
+    → Within size x lo hi b c
+within-fields size b c x {lo} {hi} fs h e s = rw e (within-bytes size x lo hi b (putFields b (size * x) fs) h (length-putFields b (size * x) fs)
+    (λ j t. elim t [
+      | inl k ↦ below-putFields b (size * x) lo hi fs j s k
+      | inr k ↦ above-putFields b (size * x) lo hi fs j s k
+    ]))
 
 -- what was written stands there
-pub field-put : (size : ℕ) (b : Bytes) (x p u v : ℕ) → size * x + size ≤ length b → p + u ≤ size → v < 256 ^ u → field size (putLe b (size * x + p) u v) x p u ≡ v
+pub field-put : (size : ℕ) (b : Bytes) (x p u v : ℕ) → size * x + size ≤ length b → p + u ≤ size → v < 256 ^ u
+    → field size (putLe b (size * x + p) u v) x p u ≡ v
 field-put size b x p u v h f small = leAt-putLe b (size * x + p) u v (omega arith) small
 
 module _ {size x lo hi : ℕ} {b b′ : Bytes} where
@@ -162,7 +171,11 @@ beside-refl = record { long = refl; kept = λ _ _ _ _ _. refl }
 
 module _ {size lo hi : ℕ} {b b′ : Bytes} where
   pub beside-wider : (lo′ hi′ : ℕ) → lo′ ≤ lo → hi ≤ hi′ → Beside size lo hi b b′ → Beside size lo′ hi′ b b′
-  beside-wider lo′ hi′ p q B = record { long = B .long; kept = λ y o w s f. B .kept y o w (elim s [ inl k ↦ inl (omega arith) | inr k ↦ inr (omega arith) ]) f }
+  beside-wider lo′ hi′ p q B = record {
+    long = B .long;
+    kept = λ y o w s f. B .kept y o w
+        (elim s [ inl k ↦ inl (omega arith) | inr k ↦ inr (omega arith) ]) f;
+  }
 
   pub beside-then : {b″ : Bytes} → Beside size lo hi b b′ → Beside size lo hi b′ b″ → Beside size lo hi b b″
   beside-then A B = record { long = B .long ∙ A .long; kept = λ y o w s f. B .kept y o w s f ∙ A .kept y o w s f }
@@ -171,7 +184,8 @@ module _ {size lo hi : ℕ} {b b′ : Bytes} where
 
 -- where a kind's records are made of their own bytes alone, writing fields into record x stores what is then read there
 module _ {A : Type 0} (size : ℕ) (read : Bytes → ℕ → A) (local : (b c : Bytes) (x : ℕ) → Same size b c x → read b x ≡ read c x) where
-  pub stored-put : (b c : Bytes) (x lo hi : ℕ) (fs : List Field) (v : A) → hi ≤ size → c ≡ putFields b (size * x) fs → Apart lo hi fs → read c x ≡ v → Stored read b c x v
+  pub stored-put : (b c : Bytes) (x lo hi : ℕ) (fs : List Field) (v : A) → hi ≤ size → c ≡ putFields b (size * x) fs → Apart lo hi fs
+      → read c x ≡ v → Stored read b c x v
   stored-put b c x lo hi fs v m e s here =
       record {
         size = ap length e ∙ length-putFields b (size * x) fs;
@@ -179,16 +193,19 @@ module _ {A : Type 0} (size : ℕ) (read : Bytes → ℕ → A) (local : (b c : 
         others = λ y d. local c b y (λ j l u. ap (λ (k : Bytes). getD k j 0) e ∙ side y d j l u (decLt y x));
       }
     where
-      side : (y : ℕ) → y ≢ x → (j : ℕ) → size * y ≤ j → j < size * y + size → Dec (y < x) → getD (putFields b (size * x) fs) j 0 ≡ getD b j 0
+      side : (y : ℕ) → y ≢ x → (j : ℕ) → size * y ≤ j → j < size * y + size → Dec (y < x)
+          → getD (putFields b (size * x) fs) j 0 ≡ getD b j 0
       side y d j l u (yes h) = below-putFields b (size * x) lo hi fs j s (omega (arith, mul-step size y x h))
       side y d j l u (no h) = above-putFields b (size * x) lo hi fs j s (omega (arith, mul-step size x y (omega arith)))
 
-  pub written-put : (b c : Bytes) (x extent : ℕ) (fs : List Field) (v : A) → extent ≤ size → c ≡ putFields b (size * x) fs → Apart 0 extent fs → read c x ≡ v
+  pub written-put : (b c : Bytes) (x extent : ℕ) (fs : List Field) (v : A) → extent ≤ size → c ≡ putFields b (size * x) fs → Apart 0 extent fs
+      → read c x ≡ v
       → Written read size extent b c x v
   written-put b c x extent fs v m e s here = record { stored = stored-put b c x 0 extent fs v m e s here; within = within-fields size b c x fs m e s }
 
 -- what is written in the fields of a record stands there
-pub holds-put : (size : ℕ) (b c : Bytes) (x lo hi : ℕ) (fs : List Field) → hi ≤ size → c ≡ putFields b (size * x) fs → Apart lo hi fs → size * x + size ≤ length b
+pub holds-put : (size : ℕ) (b c : Bytes) (x lo hi : ℕ) (fs : List Field) → hi ≤ size → c ≡ putFields b (size * x) fs → Apart lo hi fs
+    → size * x + size ≤ length b
     → HoldsFields c (size * x) fs
 holds-put size b c x lo hi fs m e s h = subst (λ (k : Bytes). HoldsFields k (size * x) fs) (sym e) (holds-putFields b (size * x) lo hi fs s (omega arith))
 
@@ -210,13 +227,15 @@ module _ {A B : Type 0} (pass : A → Bool) (worth : A → B) where
   unfolding select
   select-over x xs e = rw (e, select)
 
-  chosen-here : (xs : List A) (d : A) (i : ℕ) → i < length xs → pass (getD xs i d) ≡ true → chosenFrom pass worth xs i ≡ worth (getD xs i d) ∷ chosenFrom pass worth xs (i + 1)
+  chosen-here : (xs : List A) (d : A) (i : ℕ) → i < length xs → pass (getD xs i d) ≡ true
+      → chosenFrom pass worth xs i ≡ worth (getD xs i d) ∷ chosenFrom pass worth xs (i + 1)
   unfolding chosenFrom
   chosen-here xs d i h e =
       let s : i + 1 ≡ suc i = omega arith in
       rw s (ap (λ l. map worth (select pass l)) (drop-cons xs i d h) ∙ ap (map worth) (select-head (getD xs i d) (drop (suc i) xs) e))
 
-  chosen-over : (xs : List A) (d : A) (i : ℕ) → i < length xs → pass (getD xs i d) ≡ false → chosenFrom pass worth xs i ≡ chosenFrom pass worth xs (suc i)
+  chosen-over : (xs : List A) (d : A) (i : ℕ) → i < length xs → pass (getD xs i d) ≡ false
+      → chosenFrom pass worth xs i ≡ chosenFrom pass worth xs (suc i)
   unfolding chosenFrom
   chosen-over xs d i h e = ap (λ l. map worth (select pass l)) (drop-cons xs i d h) ∙ ap (map worth) (select-over (getD xs i d) (drop (suc i) xs) e)
 
@@ -229,7 +248,8 @@ module _ {A B : Type 0} (pass : A → Bool) (worth : A → B) where
       ∙ ap (chosenFrom pass worth xs) (omega arith)
 
   -- over the records of an area, where a test on record numbers says which pass
-  module _ (read : Bytes → ℕ → A) (b : Bytes) (n from i : ℕ) (test : ℕ → Bool) (same : (k : ℕ) → test k ≡ pass (read b k)) (f : FirstAt test from n i) where
+  module _ (read : Bytes → ℕ → A) (b : Bytes) (n from i : ℕ) (test : ℕ → Bool) (same : (k : ℕ) → test k ≡ pass (read b k))
+      (f : FirstAt test from n i) where
     skipped : (d : A) → i ≤ n → chosenFrom pass worth (recordsIn read b n) from ≡ chosenFrom pass worth (recordsIn read b n) i
     skipped d h =
         let p : from + (i - from) ≡ i = omega (arith, f .start) in

@@ -1,7 +1,6 @@
 -- An area of bytes as a list of records, whatever the kind of record. Laws are in AreaLaws.
 --
 -- In order: the room of an area; a number in a record; the list of records; one record written, and what is kept beside it; a search; the records that pass.
--- Assumes nothing.
 use mathlib.Core.Path.{_≡_}
 use mathlib.Core.Bool.{Bool, true, false}
 use mathlib.Core.List.{List, map}

@@ -81,7 +81,8 @@ node-beside {b = b} {c = c} l B x = node-made c b x (λ o n h. B .kept x o n (in
 pub edge-beside : {lo hi : ℕ} {b c : Bytes} → edgeExtent ≤ lo → Beside edgeSize lo hi b c → (i : ℕ) → edgeIn c i ≡ edgeIn b i
 edge-beside {b = b} {c = c} l B i = edge-made c b i (λ o n h. B .kept i o n (inl (omega arith)) (omega arith))
 
-pub alternative-beside : {lo hi : ℕ} {b c : Bytes} → alternativeExtent ≤ lo → Beside alternativeSize lo hi b c → (i : ℕ) → alternativeIn c i ≡ alternativeIn b i
+pub alternative-beside : {lo hi : ℕ} {b c : Bytes} → alternativeExtent ≤ lo → Beside alternativeSize lo hi b c → (i : ℕ)
+    → alternativeIn c i ≡ alternativeIn b i
 alternative-beside {b = b} {c = c} l B i = alternative-made c b i (λ o n h. B .kept i o n (inl (omega arith)) (omega arith))
 
 -- ---- its fields stored
@@ -161,14 +162,16 @@ link-stored b c x l h small e =
       kept prlAt 1 (omega arith),
     ))
 
-pub edge-stored : (b c : Bytes) (i : ℕ) (d : Edge) → Fits edgeSize b i → Apart 0 edgeExtent (edgeFields d) → c ≡ putFields b (edgeSize * i) (edgeFields d)
+pub edge-stored : (b c : Bytes) (i : ℕ) (d : Edge) → Fits edgeSize b i → Apart 0 edgeExtent (edgeFields d)
+    → c ≡ putFields b (edgeSize * i) (edgeFields d)
     → EdgeWritten b c i (edgeOf d)
 unfolding edgeIn
 edge-stored b c i d h s e =
     let w = holds-put edgeSize b c i 0 edgeExtent (edgeFields d) (omega arith) e s (h .1) in
     written-put edgeSize edgeIn edge-local b c i edgeExtent (edgeFields d) (edgeOf d) (omega arith) e s (cc (w .0, w .1 .0))
 
-pub alternative-stored : (b c : Bytes) (i : ℕ) (s : RowSet) (owner : ℕ) → Fits alternativeSize b i → Apart 0 alternativeExtent (alternativeFields s owner)
+pub alternative-stored : (b c : Bytes) (i : ℕ) (s : RowSet) (owner : ℕ) → Fits alternativeSize b i
+    → Apart 0 alternativeExtent (alternativeFields s owner)
     → c ≡ putFields b (alternativeSize * i) (alternativeFields s owner)
     → AlternativeWritten b c i (alternativeOf s owner)
 unfolding alternativeIn

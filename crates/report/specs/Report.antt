@@ -1,5 +1,4 @@
 -- What a report gives. The text itself is run's `programText`; laws are in ReportLaws.
--- Assumes nothing.
 use mathlib.Core.Path.{_≡_}
 use Prim.Native.Nat.{ℕ, _≤_}
 use lib.ListN.{length, take, drop}

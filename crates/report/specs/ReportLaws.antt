@@ -29,7 +29,8 @@ module _ {file : Bytes} {k : Numbers} {after : Areas} (P : Promise file programA
 
   verdict-room : k .verdict ≡ 1 → Room (lengths programAreas) k
   verdict-room =
-      subst (λ (n : Numbers). n .verdict ≡ 1 → Room (lengths programAreas) n) (sym (P .numbersAre)) (answer-room (wantedRows file) file (lengths programAreas))
+      subst (λ (n : Numbers). n .verdict ≡ 1 → Room (lengths programAreas) n) (sym (P .numbersAre))
+      (answer-room (wantedRows file) file (lengths programAreas))
 
   -- ---- the report
 

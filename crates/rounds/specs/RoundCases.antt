@@ -132,11 +132,17 @@ module _ {ws : List ℕ} {w : Work} {c : Counts} {n′ e′ a′ : Bytes} {d : C
 
     pub turn-fresh : {x : ℕ} → v ≡ Found.At x → NextToExpand x
     turn-fresh ev =
-        record { live = live L; found = sym (W .0 e′ a′ (T .held)) ∙ ap foundOf ev; passed = subst (λ (v : FoundNode). PassedOver v (isUnsetAt n′)) ev (W .1) }
+        record {
+          live = live L;
+          found = sym (W .0 e′ a′ (T .held)) ∙ ap foundOf ev;
+          passed = subst (λ (v : FoundNode). PassedOver v (isUnsetAt n′)) ev
+              (W .1);
+        }
 
 -- ---- an expansion
 
-module _ {ws : List ℕ} {w : Work} {c : Counts} {n′ e′ a′ : Bytes} {d : Counts} {from : ℕ} {T : RoundsDone ws w c (work n′ e′ a′) d from} {x : ℕ}
+module _ {ws : List ℕ} {w : Work} {c : Counts} {n′ e′ a′ : Bytes} {d : Counts} {from : ℕ} {T : RoundsDone ws w c
+    (work n′ e′ a′) d from} {x : ℕ}
     (F : NextToExpand T x) where
   there : x < nodeCount (h T)
   there = lowestUnset-some (h T) x (F .found) .0

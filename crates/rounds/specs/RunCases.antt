@@ -1,5 +1,4 @@
 -- The start of a run: the root, "a state with the empty set", and the rounds after it, on plain values.
--- Assumes nothing.
 use mathlib.Core.Path.{_≡_, refl, sym, ap, _∙_, subst}
 use mathlib.Core.List.{List, []}
 use Prim.Native.Nat.{ℕ, _<_}
@@ -35,11 +34,13 @@ unfolding graphOf range
 nothing-held w = refl
 
 -- the run is the root, and the rounds from there
-run-is : (ws : List ℕ) (w : Work) → run (problemOf ws) (capacityOf w) ≡ (addNode (capacityOf w) (state empty) (graphOf w noRecords) >>= allRounds ws (capacityOf w))
+run-is : (ws : List ℕ) (w : Work) → run (problemOf ws) (capacityOf w) ≡
+    (addNode (capacityOf w) (state empty) (graphOf w noRecords) >>= allRounds ws (capacityOf w))
 unfolding run
 run-is ws w = ap (λ (g : Graph). addNode (capacityOf w) (state empty) g >>= allRounds ws (capacityOf w)) (sym (nothing-held w))
 
-module _ {ws : List ℕ} (D : Decoded ws) (e a : Bytes) {n n₁ : Bytes} {r : Step} {s : RowSet} (none-in : s ≡ empty) (R : AddsNode n n₁ noRecords r (λ k g. addNode k (state s) g)) where
+module _ {ws : List ℕ} (D : Decoded ws) (e a : Bytes) {n n₁ : Bytes} {r : Step} {s : RowSet} (none-in : s ≡ empty)
+    (R : AddsNode n n₁ noRecords r (λ k g. addNode k (state s) g)) where
   rooted : {z : Step} → r ≡ z → Refines (work n e a) noRecords z (work n₁ e a) (λ k g. addNode k (state empty) g)
   rooted er =
       refines-answer (subst (λ (u : RowSet). AddsNode n n₁ noRecords r (λ k g. addNode k (state u) g)) none-in R e a (held-none (work n e a))) er
@@ -71,7 +72,8 @@ module _ {ws : List ℕ} (D : Decoded ws) (e a : Bytes) {n n₁ : Bytes} {r : St
     rounds-asks = record {
       decoded = D;
       held = refines-held (rooted er);
-      still = subst (λ (q : Capacity). Still (problemOf ws) q (graphOf (work n₁ e a) d)) (sym places) (subst (Still (problemOf ws) (capacityOf (work n e a))) (sym root-graph) first-still);
+      still = subst (λ (q : Capacity). Still (problemOf ws) q (graphOf (work n₁ e a) d)) (sym places)
+          (subst (Still (problemOf ws) (capacityOf (work n e a))) (sym root-graph) first-still);
     }
 
     pub rounds-give : {w₂ : Work} {z : Step} → RoundsGives ws (work n₁ e a) d z w₂ → RunGives ws (work n e a) z w₂

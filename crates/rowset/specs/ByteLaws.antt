@@ -82,7 +82,8 @@ set-mem b h at k n l =
 
 -- ---- tests that go from word to word
 
-pub sets-same : (b c : List ℕ) (at there n : ℕ) → ((j : ℕ) → j < n → wordAt b at j ≡ wordAt c there j) → eqb (setAt b at n) (setAt c there n) ≡ true
+pub sets-same : (b c : List ℕ) (at there n : ℕ) → ((j : ℕ) → j < n → wordAt b at j ≡ wordAt c there j)
+    → eqb (setAt b at n) (setAt c there n) ≡ true
 sets-same b c at there n e =
     eq-eqb (setAt b at n) (setAt c there n) (set-words b n at ∙ joined-same 64 (wordAt b at) (wordAt c there) n e ∙ sym (set-words c n there))
 

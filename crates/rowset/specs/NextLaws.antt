@@ -31,7 +31,8 @@ words-set ws h i v room fits j = elim (ℕ-discrete j i) [
 
 -- ---- a row of a mask
 
-pub mask-insert : (ws : List ℕ) → Words ws → (at k n v : ℕ) → k < 64 * n → at + k / 64 < length ws → v ≡ insert (k % 64) (getD ws (at + k / 64) 0)
+pub mask-insert : (ws : List ℕ) → Words ws → (at k n v : ℕ) → k < 64 * n → at + k / 64 < length ws
+    → v ≡ insert (k % 64) (getD ws (at + k / 64) 0)
     → maskAt (set ws (at + k / 64) v) at n ≡ insert k (maskAt ws at n)
 unfolding maskAt
 mask-insert ws h at k n v l room e =
@@ -64,7 +65,8 @@ pub picked-all : (b : List ℕ) (at : ℕ) (ws : List ℕ) (mask n : ℕ) → Ar
     → joined 64 (picked b at ws mask) n ≡ common (setAt b at n) (maskAt ws mask n)
 unfolding maskAt common
 picked-all b at ws mask n h w =
-    joined-common 64 (wordAt b at) (λ (j : ℕ). getD ws (mask + j) 0) (picked b at ws mask) (word-fits b h at) (λ j. w (mask + j)) (picked-fits b at ws mask h)
+    joined-common 64 (wordAt b at) (λ (j : ℕ). getD ws (mask + j) 0) (picked b at ws mask) (word-fits b h at) (λ j. w (mask + j))
+    (picked-fits b at ws mask h)
     (λ j. refl) n
     ∙ ap (λ (x : ℕ). common x (maskAt ws mask n)) (sym (set-words b n at))
 

@@ -37,7 +37,11 @@ module _ (kinds : Kinds) (wanted : List ℕ) (b : Bytes) where
   take-textFor = of (refusalFor kinds wanted b)
     where
       text : Option ℕ → Bytes
-      text o = elim (elim o as (λ x. Reading) [ some n ↦ refused n | none ↦ accepted (contentsFor kinds wanted b) ]) [ refused n ↦ [] | accepted f ↦ f .text ]
+      text o = elim (elim o as (λ x. Reading) [
+        | some n ↦ refused n
+        | none ↦ accepted
+            (contentsFor kinds wanted b)
+      ]) [ refused n ↦ [] | accepted f ↦ f .text ]
 
       of : (o : Option ℕ) → take (length (text o)) b ≡ text o
       of (some n) = refl
@@ -53,7 +57,8 @@ reading-short kinds wanted b h =
     (ap (λ (x : Bool). x || ltb 4096 (length b)) (lt-ltb (length b) 8 h))
 
 -- the rows that are lent to `read_for` are the file's own, or the file has none
-pub reading-own : (kinds : Kinds) {wanted : List ℕ} (b : Bytes) → (8 ≤ length b → wanted ≡ wantedRows b) → readingFor kinds wanted b ≡ readingOf kinds b
+pub reading-own : (kinds : Kinds) {wanted : List ℕ} (b : Bytes) → (8 ≤ length b → wanted ≡ wantedRows b)
+    → readingFor kinds wanted b ≡ readingOf kinds b
 reading-own kinds {wanted} b own = elim (decLt (length b) 8) [
   | yes h ↦ reading-short kinds wanted b h ∙ sym (reading-short kinds (wantedRows b) b h)
   | no n ↦ ap (λ (v : List ℕ). readingFor kinds v b) (own (omega arith))

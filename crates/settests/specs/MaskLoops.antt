@@ -82,5 +82,6 @@ module _ {w : List ℕ} {p : Concept → Bool} {mask : ℕ} {b : List ℕ} {at :
           record { lowest = lowest; below = below; inside = omega (arith, length-tableOf w, below); passes = passes }
 
       -- what holds of the rows without it holds of those that are left then
-      pub loop-after : NextRow → {Q : RowSet → Type 0} → Q (minus (leftOver w mask b at j m) (single (rowAt j m))) → Loop w p mask b at Q j (bitAnd m (m - 1))
+      pub loop-after : NextRow → {Q : RowSet → Type 0} → Q (minus (leftOver w mask b at j m) (single (rowAt j m)))
+          → Loop w p mask b at Q j (bitAnd m (m - 1))
       loop-after row h = record { reading = l .reading; midway = midway-after (row .lowest) h }

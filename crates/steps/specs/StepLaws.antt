@@ -14,7 +14,8 @@ use Rattle.procedure.specs.GraphLaws.{find-state}
 use Rattle.procedure.specs.Tableau.{below, state, joinAlternatives, linkTo, linkFound, linkSpecial}
 use Rattle.records.specs.Codes.{statusOf}
 use Rattle.records.specs.Records.{nodeIn, IsStatus}
-use Rattle.graph.specs.Graphs.{Work, work, graphOf, capacityOf, Held, Operation, Refines, WithNodes, AddsNode, AddsEdge, AddsAlternative, ChangesNodes, foundOf}
+use Rattle.graph.specs.Graphs.{Work, work, graphOf, capacityOf, Held, Operation, Refines, WithNodes, AddsNode, AddsEdge, AddsAlternative, ChangesNodes}
+use Rattle.graph.specs.Graphs.{foundOf}
 use Rattle.graph.specs.GraphLaws.{sized-refl, count-nodes, graph-node}
 use Rattle.graph.specs.AddLaws.{added-count}
 use Rattle.graph.specs.RefineLaws.{refines-answer, refines-as, refines-held, refines-then, refines-short, refines-none, changes-then}
@@ -119,7 +120,8 @@ module _ {n : Bytes} (c : Counts) (p : ℕ) (lacked : RowSet) (v : Status) (read
   status-read : (w : Work) → w .nodes ≡ n → isLive (statusOf v) ≡ isLive (G.nodeAt (graphOf w c) p .status)
   status-read w q = ap isLive (read ∙ ap (λ (x : G.Node). x .status) (ap (λ (b : Bytes). nodeIn b p) (sym q) ∙ sym (graph-node w c p l)))
 
-  pub join-done : {n′ a a′ : Bytes} {s : Step} → isLive (statusOf v) ≡ true → AddsAlternative n n′ a a′ c s (λ k g. G.addAlternative k p lacked g)
+  pub join-done : {n′ a a′ : Bytes} {s : Step} → isLive (statusOf v) ≡ true
+      → AddsAlternative n n′ a a′ c s (λ k g. G.addAlternative k p lacked g)
       → AddsAlternative n n′ a a′ c s (λ k g. joinAlternatives k p lacked g)
   unfolding joinAlternatives
   join-done {a = a} live adds e h = refines-as (adds e h) (rw (sym (status-read (work n e a) refl) ∙ live, joinAlternatives))
@@ -139,7 +141,8 @@ module _ {n n₁ e a : Bytes} {c : Counts} {first : Step} (x p ρ : ℕ) (rows l
 
   module _ {n₂ a′ : Bytes} {d : Counts} {second : Step} (w : first ≡ Done d)
       (joins : AddsAlternative n₁ n₂ a a′ d second (λ k g. joinAlternatives k p lacked g)) where
-    joined : Refines (work n e a) c second (work n₂ e a′) (λ k g. G._>>=_ (G.addNode k (below p ρ rows toosmall G.lapsed) g) (joinAlternatives k p lacked))
+    joined : Refines (work n e a) c second (work n₂ e a′)
+        (λ k g. G._>>=_ (G.addNode k (below p ρ rows toosmall G.lapsed) g) (joinAlternatives k p lacked))
     joined = node-then (below p ρ rows toosmall G.lapsed) adds w joining h (λ held. joins e held)
 
     -- the areas hold the node, and there are as many nodes as then

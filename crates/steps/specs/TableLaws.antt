@@ -1,7 +1,6 @@
 -- Laws of Tables.
 --
 -- In order: an entry of a table; a fold over the children; the graph's children.
--- Assumes nothing.
 use mathlib.Core.Path.{_≡_, refl, sym, ap, subst, _∙_}
 use mathlib.Core.List.{List, [], _∷_, map, List·Memᴰ, List·Memᴰ·head, List·Memᴰ·tail}
 use Prim.Native.Nat.{ℕ, zero, suc, _+_, _≤_, _<_}
@@ -32,12 +31,14 @@ getD-worth f d (x ∷ xs) zero = refl
 getD-worth f d (x ∷ xs) (suc i) = getD-worth f d xs i
 
 -- rows that mean the table have the table's entries
-pub entry-at : (rows : List (List Status)) (table : P.StatusTable) → map (map statusOf) rows ≡ table → (a b : P.Status) (i j : ℕ) → i ≡ P.rank a → j ≡ P.rank b
+pub entry-at : (rows : List (List Status)) (table : P.StatusTable) → map (map statusOf) rows ≡ table → (a b : P.Status) (i j : ℕ) → i ≡ P.rank a
+    → j ≡ P.rank b
     → statusOf (getD (getD rows i []) j Unset) ≡ P.entry table a b
 unfolding P.entry
 entry-at rows table e a b i j p q =
     getD-worth statusOf Unset (getD rows i []) j ∙ ap (λ (ws : List P.Status). getD ws j P.unset) (getD-worth (map statusOf) [] rows i)
-    ∙ ap (λ (t : P.StatusTable). getD (getD t i []) j P.unset) e ∙ ap (λ (k : ℕ). getD (getD table k []) j P.unset) p ∙ ap (λ (k : ℕ). getD (getD table (P.rank a) []) k P.unset) q
+    ∙ ap (λ (t : P.StatusTable). getD (getD t i []) j P.unset) e ∙ ap (λ (k : ℕ). getD (getD table k []) j P.unset) p
+    ∙ ap (λ (k : ℕ). getD (getD table (P.rank a) []) k P.unset) q
 
 -- ---- a fold over the children
 
@@ -130,13 +131,15 @@ module _ {n e : Bytes} {c : Counts} {x : ℕ} (j : Judges n e c x) where
       ∙ ap (λ (ys : List ℕ). map (λ y. G.nodeAt (graphOf (work n e a) c) y .status) ys) (ends-all n e a c x)
 
   -- a node that took what the fold gave is judged
-  pub judged : {n′ : Bytes} (table : P.StatusTable) (v u : P.Status) → u ≡ P.foldStatus table v (statusesFrom n e c x 0) → ChangesNodes n n′ c (G.setStatus x u)
+  pub judged : {n′ : Bytes} (table : P.StatusTable) (v u : P.Status) → u ≡ P.foldStatus table v (statusesFrom n e c x 0)
+      → ChangesNodes n n′ c (G.setStatus x u)
       → JudgesAs n n′ e c (foldChildren table v x)
   unfolding foldChildren
   judged {n′} table v u p changes a h =
       let C = changes e a h in
       record {
-        meets = C .meets ∙ ap (λ (w : P.Status). G.setStatus x w (graphOf (work n e a) c)) (p ∙ ap (λ (ws : List P.Status). P.foldStatus table v ws) (statuses-graph a));
+        meets = C .meets ∙ ap (λ (w : P.Status). G.setStatus x w (graphOf (work n e a) c))
+            (p ∙ ap (λ (ws : List P.Status). P.foldStatus table v ws) (statuses-graph a));
         held = C .held;
         sized = C .sized;
       }

@@ -1,5 +1,4 @@
 -- Judging a node by a table of statuses, on the graph in three areas. Laws are in TableLaws.
--- Assumes nothing.
 use mathlib.Core.List.{List, [], map, List·Memᴰ}
 use Prim.Native.Nat.{ℕ, _<_}
 use Rattle.concepts.specs.Lists.{Bytes}

@@ -1,7 +1,7 @@
 -- An entry is right of its two names: from the engine's answer to their two rows to the meaning of ALCI.
 --
--- In order: the rows of listed names may be wanted; a model of the two rows is a counterexample, and back; the entry of an answer (`answered-right`); of a file (`entry-right`).
--- Assumes nothing.
+-- In order: the rows of listed names may be wanted; a model of the two rows is a counterexample, and back; the entry of an answer (`answered-right`);
+-- of a file (`entry-right`).
 use mathlib.Core.Path.{_≡_, refl, ap, _∙_}
 use mathlib.Core.List.{List, [], _∷_, List·Memᴰ, List·Memᴰ·head, List·Memᴰ·tail, List·Memᴰ·not-nil}
 use mathlib.Core.Logic.{inl, inr}
@@ -57,7 +57,8 @@ module _ (f : RuleFile) (a b : ℕ) (ma : List·Memᴰ a (names (f .table))) (mb
           includes = m .includes;
           element = m .element;
           inside = m .member .0;
-          isA = rw (holds-as W (f .table) ordered (positive (f .table) a) (m .element) (atomic a) isRow) at (holds (positive (f .table) a) (List·Memᴰ·head refl));
+          isA = rw (holds-as W (f .table) ordered (positive (f .table) a) (m .element) (atomic a) isRow) at
+              (holds (positive (f .table) a) (List·Memᴰ·head refl));
           isNoB =
               rw (holds-as W (f .table) ordered (negative (f .table) b) (m .element) (negated b) noRow) at
               (holds (negative (f .table) b) (List·Memᴰ·tail (List·Memᴰ·head refl)));
@@ -135,7 +136,8 @@ module _ (f : RuleFile) (a b : ℕ) (ma : List·Memᴰ a (names (f .table))) (mb
 
 -- ---- the entry of a file
 
-module _ (file : Bytes) (f : RuleFile) (e : reading file ≡ accepted f) (l : Lengths) (a b : ℕ) (ma : List·Memᴰ a (names (f .table))) (mb : List·Memᴰ b (names (f .table))) where
+module _ (file : Bytes) (f : RuleFile) (e : reading file ≡ accepted f) (l : Lengths) (a b : ℕ) (ma : List·Memᴰ a (names (f .table)))
+    (mb : List·Memᴰ b (names (f .table))) where
   -- it is accepted with the two rows too
   pub reads-rows : readingFor ruleKinds (rowsFor f a b) file ≡ accepted (wanting (rowsFor f a b) f)
   reads-rows = reading-wanting ruleKinds (wantedRows file) file f e (rowsFor f a b) (rows-serve f a b ma mb)

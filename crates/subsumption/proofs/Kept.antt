@@ -1,7 +1,6 @@
 -- The catalogue's promise is kept by whoever answers as the definition.
 --
 -- In order: by the reading; which refusals there are; a refused file; an accepted file, by whether the area is shorter than the square; the promise.
--- Assumes nothing.
 use mathlib.Core.Path.{_≡_, refl, sym, ap, _∙_, subst}
 use mathlib.Core.Bool.{Bool, true, false}
 use mathlib.Core.List.{List, _++_}
@@ -36,7 +35,8 @@ catalogue-refused file l room n e = ap (catalogueReading file l room) e
 abbrev pub entriesOf : Bytes → Lengths → RuleFile → Bytes
 entriesOf file l f = rowAfterRow (entry file l (f .table)) (names (f .table)) (names (f .table))
 
-pub catalogue-accepted : (file : Bytes) (l : Lengths) (room : ℕ) (f : RuleFile) → reading file ≡ accepted f → catalogue file l room ≡ listedIn room (names (f .table)) (entriesOf file l f)
+pub catalogue-accepted : (file : Bytes) (l : Lengths) (room : ℕ) (f : RuleFile) → reading file ≡ accepted f
+    → catalogue file l room ≡ listedIn room (names (f .table)) (entriesOf file l f)
 unfolding catalogue catalogueReading
 catalogue-accepted file l room f e = ap (catalogueReading file l room) e
 
@@ -85,9 +85,11 @@ module _ (file : Bytes) (before : Areas) (f : RuleFile) (e : reading file ≡ ac
   inside : (i j : ℕ) → i < m → j < m → i * m + j < m * m
   inside i j hi hj = omega (arith, mul-le-mul-right {m = suc i} m hi, suc-mul i m)
 
-  entry-there : (i j : ℕ) → i < m → j < m → EntryRight f (lent before) (getD ns i 0) (getD ns j 0) (entryAt (bytes ++ drop (length bytes) (before .table)) m i j)
+  entry-there : (i j : ℕ) → i < m → j < m → EntryRight f (lent before) (getD ns i 0) (getD ns j 0)
+      (entryAt (bytes ++ drop (length bytes) (before .table)) m i j)
   entry-there i j hi hj =
-      let there = List·getD-append bytes (drop (length bytes) (before .table)) 0 (i * m + j) (omega (arith, inside i j hi hj, length-rowAfterRow (entry file (lent before) (f .table)) ns ns))
+      let there = List·getD-append bytes (drop (length bytes) (before .table)) 0 (i * m + j)
+      (omega (arith, inside i j hi hj, length-rowAfterRow (entry file (lent before) (f .table)) ns ns))
       ∙ getD-rowAfterRow (entry file (lent before) (f .table)) ns ns i j hi hj in
       rw there (entry-right file f e (lent before) (getD ns i 0) (getD ns j 0) (getD-mem ns i 0 hi) (getD-mem ns j 0 hj))
 
@@ -111,16 +113,19 @@ module _ (file : Bytes) (before : Areas) (f : RuleFile) (e : reading file ≡ ac
     entries = λ x. entry-there;
   }
 
-  right-kept : TableRight f before (numbers (catalogue file (lent before) (length (before .table)))) (areasAfter (catalogue file (lent before) (length (before .table))) before)
+  right-kept : TableRight f before (numbers (catalogue file (lent before) (length (before .table))))
+      (areasAfter (catalogue file (lent before) (length (before .table))) before)
   unfolding listedIn
   right-kept =
-      subst (λ (c : Catalogue). TableRight f before (numbers c) (areasAfter c before)) (sym (catalogue-accepted file (lent before) (length (before .table)) f e))
+      subst (λ (c : Catalogue). TableRight f before (numbers c) (areasAfter c before))
+      (sym (catalogue-accepted file (lent before) (length (before .table)) f e))
       (by-room (ltb (length (before .table)) (m * m)) refl)
 
 -- ---- the promise
 
 pub promise-kept : (file : Bytes) (before : Areas)
-    → CataloguePromise file before (numbers (catalogue file (lent before) (length (before .table)))) (areasAfter (catalogue file (lent before) (length (before .table))) before)
+    → CataloguePromise file before (numbers (catalogue file (lent before) (length (before .table))))
+    (areasAfter (catalogue file (lent before) (length (before .table))) before)
 promise-kept file before = record {
   numbersAre = refl;
   areasAre = refl;

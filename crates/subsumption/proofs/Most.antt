@@ -1,5 +1,4 @@
 -- How large a catalogue can be: at most 32 names, so an area of 1,024 bytes has room for every table.
--- Assumes nothing.
 use mathlib.Core.Path.{_≡_, refl}
 use mathlib.Core.Bool.{Bool, true, false}
 use Prim.Native.Nat.{_*_, _≤_}

@@ -1,7 +1,6 @@
 -- The table orders the names: reflexive outside entries 2, and transitive wherever the three entries are decided (02, [7]). Over the meaning of ALCI alone.
 --
 -- In order: of entries that are right; of the table that the call leaves.
--- Assumes nothing.
 use mathlib.Core.Path.{_≡_, refl}
 use mathlib.Core.Bool.{Bool, true, false, not}
 use Prim.Native.Nat.{ℕ, _<_}
@@ -50,12 +49,14 @@ module _ {f : RuleFile} {l : Lengths} where
   pub entries-reflexive : {a v : ℕ} → EntryRight f l a a v → Decided v → v ≡ 1
   entries-reflexive E d = E .underOnly d none-itself
 
-  pub entries-transitive : {a b c u v w : ℕ} → EntryRight f l a b u → EntryRight f l b c v → EntryRight f l a c w → u ≡ 1 → v ≡ 1 → Decided w → w ≡ 1
+  pub entries-transitive : {a b c u v w : ℕ} → EntryRight f l a b u → EntryRight f l b c v → EntryRight f l a c w → u ≡ 1 → v ≡ 1 → Decided w
+      → w ≡ 1
   entries-transitive A B C p q d = C .underOnly d (by-the-middle (A .under p) (B .under q))
 
 -- ---- of the table that the call leaves
 
-module _ {file : Bytes} {before : Areas} {r : CatalogueNumbers} {after : Areas} (P : CataloguePromise file before r after) {f : RuleFile} (e : reading file ≡ accepted f) (filled : r .refusal ≡ 0) where
+module _ {file : Bytes} {before : Areas} {r : CatalogueNumbers} {after : Areas} (P : CataloguePromise file before r after) {f : RuleFile}
+    (e : reading file ≡ accepted f) (filled : r .refusal ≡ 0) where
   -- the entry in row i, column j
   abbrev at : ℕ → ℕ → ℕ
   at i j = entryAt (after .table) (r .count) i j
@@ -65,7 +66,8 @@ module _ {file : Bytes} {before : Areas} {r : CatalogueNumbers} {after : Areas} 
   table-reflexive i h d = entries-reflexive (P .right f e .entries filled i i h h) d
 
   -- "and transitive wherever the three entries are decided"
-  pub table-transitive : (i j k : ℕ) → i < r .count → j < r .count → k < r .count → at i j ≡ 1 → at j k ≡ 1 → Decided (at i k) → at i k ≡ 1
+  pub table-transitive : (i j k : ℕ) → i < r .count → j < r .count → k < r .count → at i j ≡ 1 → at j k ≡ 1 → Decided (at i k)
+      → at i k ≡ 1
   table-transitive i j k hi hj hk p q d =
       let right = P .right f e .entries filled in
       entries-transitive (right i j hi hj) (right j k hj hk) (right i k hi hk) p q d

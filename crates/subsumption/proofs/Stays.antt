@@ -1,7 +1,6 @@
 -- Entries in different work areas: those that are decided agree, and what is decided stays so in larger ones. So only entries 2 are worth asking for again.
 --
 -- In order: two entries of the same names, by the meaning of ALCI; an entry in larger areas.
--- Assumes nothing.
 use mathlib.Core.Path.{_≡_, refl, sym, ap, _∙_}
 use mathlib.Core.List.{List·Memᴰ}
 use mathlib.Core.Logic.{inl, inr}

@@ -1,7 +1,6 @@
 -- The catalogue of names (02, [7]): from the bytes of the file and the four areas to the answer and the areas afterwards.
 --
 -- In order: what is lent; an entry of the table; the answer; its numbers; the areas afterwards. The names and their rows are in Names.
--- Assumes nothing.
 use mathlib.Core.Bool.{true, false}
 use mathlib.Core.List.{List, [], _∷_}
 use Prim.Native.Nat.{ℕ, _*_}

@@ -2,7 +2,6 @@
 --
 -- In order: an a that is no b, in a finite world; what an entry says of two names, by the meaning of ALCI; an accepted file; the whole promise.
 -- It is kept: proofs/Kept. The table is reflexive and transitive: proofs/Order.
--- Assumes nothing.
 use mathlib.Core.Path.{_≡_}
 use mathlib.Core.Bool.{not}
 use mathlib.Core.List.{[], _∷_}

@@ -75,7 +75,8 @@ module _ {ws : List ℕ} {n e a : Bytes} {c : Counts} {x : ℕ} (A : JudgeAsks w
     pub judge-links : {y : ℕ} → v .link ≡ Link.State y → LinkedAsks ws (work n e a) c x y
     judge-links q = record { judge = A; link = linked-as q }
 
-    pub judge-lapses : v .link ≡ Link.Lapsed → {n′ : Bytes} → JudgesAs n n′ e c (judgeBranch x) → JudgeGives ws (work n e a) c x (Done c) (work n′ e a)
+    pub judge-lapses : v .link ≡ Link.Lapsed → {n′ : Bytes} → JudgesAs n n′ e c (judgeBranch x)
+        → JudgeGives ws (work n e a) c x (Done c) (work n′ e a)
     judge-lapses q J = nodes-only (judgeBranch x) (λ put. judge-lapsed put x g (linked-as q)) (J a (A .held))
 
     pub judge-states : v .link ≡ Link.None → v .«is_state» ≡ true → {n′ : Bytes} → JudgesAs n n′ e c (judgeState x)

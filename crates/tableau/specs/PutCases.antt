@@ -86,7 +86,8 @@ module _ {ws : List ℕ} {n e a : Bytes} {c : Counts} {m p ρ : ℕ} {s : RowSet
     pub gives : Refines w c (Done c₁) w₁ (λ k h. linkSpecial k p ρ s h)
 
   -- what holds one unit of fuel up holds with any that suffices
-  fueled : {r : Step} {w′ : Work} → ((f : ℕ) → lacks ws s ≤ f → Refines w c r w′ (λ k h. puts ws (suc f) k m p ρ s h)) → PutGives ws w c m p ρ s r w′
+  fueled : {r : Step} {w′ : Work} → ((f : ℕ) → lacks ws s ≤ f → Refines w c r w′ (λ k h. puts ws (suc f) k m p ρ s h))
+      → PutGives ws w c m p ρ s r w′
   fueled h zero few = absurd (not-suc-le-zero few)
   fueled h (suc f) few = h f (omega arith)
 
@@ -105,17 +106,20 @@ module _ {ws : List ℕ} {n e a : Bytes} {c : Counts} {m p ρ : ℕ} {s : RowSet
 
   -- ---- a node that needs no more
 
-  child : {n′ e′ : Bytes} {r : Step} {v u : Node} → v ≡ u → AddsBelow n n′ e e′ c r (addChild m v) → Refines w c r (work n′ e′ a) (addChild m u)
+  child : {n′ e′ : Bytes} {r : Step} {v u : Node} → v ≡ u → AddsBelow n n′ e e′ c r (addChild m v)
+      → Refines w c r (work n′ e′ a) (addChild m u)
   child {n′} {e′} {r} q B = subst (λ (u : Node). Refines w c r (work n′ e′ a) (addChild m u)) q (B a (A .held))
 
   module _ {b : Bool} (hb : b ≡ clash P s) where
     pub put-clashes : b ≡ true → (v : D.Node) → Below v p ρ unsat
-        → {n′ e′ : Bytes} {r : Step} → AddsBelow n n′ e e′ c r (addChild m (nodeOf s v)) → PutGives ws (work n e a) c m p ρ s r (work n′ e′ a)
+        → {n′ e′ : Bytes} {r : Step} → AddsBelow n n′ e e′ c r (addChild m (nodeOf s v))
+        → PutGives ws (work n e a) c m p ρ s r (work n′ e′ a)
     put-clashes q v hv B = fueled (λ f few. refines-as (child (hv s) B) (put-clash P cap f m p ρ s g (sym hb ∙ q)))
 
     module _ (q : b ≡ false) {d : Bool} (hd : d ≡ unfinished (P .table) s) where
       pub put-waits : d ≡ true → (v : D.Node) → Below v p ρ unset
-          → {n′ e′ : Bytes} {r : Step} → AddsBelow n n′ e e′ c r (addChild m (nodeOf s v)) → PutGives ws (work n e a) c m p ρ s r (work n′ e′ a)
+          → {n′ e′ : Bytes} {r : Step} → AddsBelow n n′ e e′ c r (addChild m (nodeOf s v))
+          → PutGives ws (work n e a) c m p ρ s r (work n′ e′ a)
       put-waits u v hv B = fueled (λ f few. refines-as (child (hv s) B) (put-unfinished P cap f m p ρ s g (sym hb ∙ q) (sym hd ∙ u)))
 
       pub put-finished : d ≡ false → Finished
@@ -221,7 +225,8 @@ module _ {ws : List ℕ} {n e a : Bytes} {c : Counts} {m p ρ : ℕ} {s : RowSet
   put-judge-falls = rw new-rows (omega arith)
 
   module _ {n₂ e₂ a₂ : Bytes} {r₂ : Step} (J : JudgeGives ws w₁ c₁ (c .nodes) r₂ (work n₂ e₂ a₂)) where
-    judged : {r : Step} → r₂ ≡ r → (f : ℕ) → lacks ws s ≤ f → Refines (w A) c r (work n₂ e₂ a₂) (λ k h. linkSpecial k p ρ s h >>= judging (L .complete) f h k)
+    judged : {r : Step} → r₂ ≡ r → (f : ℕ) → lacks ws s ≤ f → Refines (w A) c r (work n₂ e₂ a₂)
+        (λ k h. linkSpecial k p ρ s h >>= judging (L .complete) f h k)
     judged {r} er f few = refines-then (L .gives) (judging (L .complete) f)
         (subst (λ (i : ℕ). Refines w₁ c₁ r (work n₂ e₂ a₂) (λ k h. judge (puts ws f k) i h)) (sym (count-nodes (w A) c))
         (refines-answer (J f (subst (λ (x : RowSet). lacks ws x ≤ f) (sym new-rows) few)) er))
@@ -236,7 +241,8 @@ module _ {ws : List ℕ} {n e a : Bytes} {c : Counts} {m p ρ : ℕ} {s : RowSet
         let more : c .nodes < c₁ .nodes = omega (arith, started .made .fresh .there, count-nodes (w A) c, count-nodes w₁ c₁) in
         (omega (arith, here A, more, B .held .1 .nodes), omega (arith, more, B .held .1 .nodes), B .held .0 .nodes)
 
-    pub put-judged : {c₂ : Counts} → r₂ ≡ Done c₂ → {n₃ e₃ : Bytes} {r₃ : Step} → AddsEdge n₂ n₃ e₂ e₃ c₂ r₃ (λ k h. addEdge k m (c .nodes) h)
+    pub put-judged : {c₂ : Counts} → r₂ ≡ Done c₂ → {n₃ e₃ : Bytes} {r₃ : Step}
+        → AddsEdge n₂ n₃ e₂ e₃ c₂ r₃ (λ k h. addEdge k m (c .nodes) h)
         → PutGives ws (work n e a) c m p ρ s r₃ (work n₃ e₃ a₂)
     put-judged {c₂} er {n₃} {e₃} {r₃} E = fueled A (λ f few.
         let B = judged er f few in

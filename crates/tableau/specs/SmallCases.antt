@@ -128,7 +128,8 @@ turn-start {w = w} {c = c} {y = y} A = record {
 
 -- ---- a turn
 
-module _ {ws : List ℕ} {w : Work} {c : Counts} {z y : ℕ} {n′ e′ a′ : Bytes} {d : Counts} {i : ℕ} (t : AlternativesPut ws w c z y (work n′ e′ a′) d i) where
+module _ {ws : List ℕ} {w : Work} {c : Counts} {z y : ℕ} {n′ e′ a′ : Bytes} {d : Counts} {i : ℕ}
+    (t : AlternativesPut ws w c z y (work n′ e′ a′) d i) where
   abbrev A : SmallAsks ws w c z y
   A = t .asks
 
@@ -169,7 +170,8 @@ module _ {ws : List ℕ} {w : Work} {c : Counts} {z y : ℕ} {n′ e′ a′ : B
 
   -- what the step says of the next alternative
   abbrev Tells : NextAlternative → Type 0
-  Tells v = WithAlternatives n′ a′ c (λ u. AmongAlternatives u y i → IsNextAlternative a′ v i (c .alternatives) (alternativesFrom u y) (AmongAlternatives u y))
+  Tells v = WithAlternatives n′ a′ c (λ u. AmongAlternatives u y i → IsNextAlternative a′ v i (c .alternatives) (alternativesFrom u y)
+      (AmongAlternatives u y))
 
   module _ {v : NextAlternative} (W : Tells v) where
     -- the alternatives of the start stand where they stood
@@ -197,7 +199,8 @@ module _ {ws : List ℕ} {w : Work} {c : Counts} {z y : ℕ} {n′ e′ a′ : B
     turn-judges =
         let q : children (graphOf (work n₁ e′ a′) d) z ≡ children h z =
         children-edges (graphOf (work n₁ e′ a′) d) h (ap (λ (u : Graph). u .edges) (C .meets)) z in
-        let inside : (v : ℕ) → Child h z v → v < d .nodes = λ v m. omega (arith, t .alternates .inv .ends z v m .1, count-nodes (work n′ e′ a′) d) in
+        let inside : (v : ℕ) → Child h z v → v < d .nodes = λ v m. omega
+        (arith, t .alternates .inv .ends z v m .1, count-nodes (work n′ e′ a′) d) in
         record { alternatives = a′; held = C .held; node = there; inside = λ v m. inside v (subst (λ (l : List ℕ). List·Memᴰ v l) q m) }
 
     pub turn-end : {v : NextAlternative} → Tells v → v ≡ Next.End
@@ -244,7 +247,8 @@ module _ {ws : List ℕ} {n e a : Bytes} {c : Counts} {z y : ℕ} {n′ e′ a�
 
 -- ---- its put
 
-module _ {ws : List ℕ} {w : Work} {c : Counts} {z y : ℕ} {n′ e′ a′ : Bytes} {d : Counts} {i : ℕ} {t : AlternativesPut ws w c z y (work n′ e′ a′) d i}
+module _ {ws : List ℕ} {w : Work} {c : Counts} {z y : ℕ} {n′ e′ a′ : Bytes} {d : Counts} {i : ℕ} {t : AlternativesPut ws w c z y
+    (work n′ e′ a′) d i}
     {j : ℕ} {v : D.Node} {σ : RowSet} (q : AlternativeJoined t j v σ) where
   abbrev b : RowSet
   b = q .set
@@ -300,6 +304,7 @@ module _ {ws : List ℕ} {w : Work} {c : Counts} {z y : ℕ} {n′ e′ a′ : B
           among = q .chosen .among;
           sized = sized-trans (t .sized) (B .sized);
           alternates =
-              one-less (A t) b todo (h t) at-here (graphOf w″ d₂) (B .meets ∙ ap (λ (q : Capacity). step (A t) (k (A t)) q b (h t)) (sized-places (t .sized)));
+              one-less (A t) b todo (h t) at-here (graphOf w″ d₂)
+              (B .meets ∙ ap (λ (q : Capacity). step (A t) (k (A t)) q b (h t)) (sized-places (t .sized)));
           course = λ f few. course-next (course-here f few) (did er f few);
         }

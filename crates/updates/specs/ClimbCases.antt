@@ -1,7 +1,6 @@
 -- The loop of `update_parents`, which goes from a node's last parent on to that one's parents: a turn, on plain values.
 --
 -- In order: the loop's invariant (`Climb`) and its measure; its start; the next parent, or the end; what judging it came to; the last parent; any other.
--- Assumes nothing.
 use mathlib.Core.Path.{_≡_, subst}
 use mathlib.Core.Bool.{Bool, true}
 use mathlib.Core.List.{List}
@@ -21,7 +20,8 @@ use Rattle.updates.specs.declared.Rejudged.{Rejudged}
 use Rattle.updates.specs.declared.Rejudged.the-variants as Rejudged
 use Rattle.updates.specs.Contracts.{UpdateAsks, unsettled, UpdateGives, ParentsGives, Later, Settles, RejudgedTo, RejudgeGives}
 use Rattle.updates.specs.LaterLaws.{later-refl, later-trans, later-unsettled, update-later}
-use Rattle.updates.specs.ParentCases.{Tells, TellsNone, ParentsTurn, ParentFound, turn-start, turn-end, turn-asks, turn-less, turn-short, turn-updated, turn-jump}
+use Rattle.updates.specs.ParentCases.{Tells, TellsNone, ParentsTurn, ParentFound, turn-start, turn-end, turn-asks, turn-less, turn-short, turn-updated}
+use Rattle.updates.specs.ParentCases.{turn-jump}
 
 -- ---- the loop's invariant, and its measure
 
@@ -43,7 +43,8 @@ climb-start {w = w} A = record { areas = w; turn = turn-start A; whole = λ r w�
 
 -- ---- a turn
 
-module _ {ws : List ℕ} {w : Work} {c : Counts} {x : ℕ} {n′ e′ a′ : Bytes} {child : ℕ} {start d : Counts} {i : ℕ} (I : Climb ws w c x (work n′ e′ a′) child start d i) where
+module _ {ws : List ℕ} {w : Work} {c : Counts} {x : ℕ} {n′ e′ a′ : Bytes} {child : ℕ} {start d : Counts} {i : ℕ}
+    (I : Climb ws w c x (work n′ e′ a′) child start d i) where
   pub climb-end : {v : Next} → Tells n′ e′ start child i v → v ≡ Next.End → ParentsGives ws w c x (Done d) (work n′ e′ a′)
   climb-end W ev = I .whole (Done d) (work n′ e′ a′) (turn-end (I .turn) W ev)
 

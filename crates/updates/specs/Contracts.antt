@@ -1,7 +1,6 @@
 -- What an update relies on, and what it gives. Words, areas and counts as in the tableau's contracts.
 --
 -- In order: what is asked; the update and the parents of a node; one node judged again, before its parents; whether a parent is left.
--- Assumes nothing.
 use mathlib.Core.Bool.{Bool, true, false}
 use mathlib.Core.List.{List, [], _∷_}
 use Prim.Native.Nat.{ℕ, _+_, _-_, _<_}

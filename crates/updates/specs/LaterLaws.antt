@@ -24,7 +24,13 @@ later-refl {w} {c} h = record { held = h; grown = grown-refl; sized = sized-refl
 
 module _ {w : Work} {c : Counts} {w′ : Work} {d : Counts} (l : Later w c w′ d) where
   pub later-trans : {w″ : Work} {b : Counts} → Later w′ d w″ b → Later w c w″ b
-  later-trans m = record { held = m .held; grown = grown-trans (l .grown) (m .grown); sized = sized-trans (l .sized) (m .sized); grows = grows-trans (l .grows) (m .grows) }
+  later-trans m = record {
+    held = m .held;
+    grown = grown-trans (l .grown) (m .grown);
+    sized = sized-trans (l .sized) (m .sized);
+    grows = grows-trans (l .grows)
+        (m .grows);
+  }
 
   -- ---- what stays as it was
 
@@ -37,7 +43,13 @@ module _ {w : Work} {c : Counts} {w′ : Work} {d : Counts} (l : Later w c w′ 
 
   -- a step along the chain of a node that was there
   pub later-walks : {x i : ℕ} → x < c .nodes → i ≤ c .edges → Walks edgeSize (w′ .nodes) (w′ .edges) (c .nodes) (c .edges) x i
-  later-walks h p = record { node = h; nodes = omega (arith, l .held .nodes, l .grown .nodes); place = p; records = omega (arith, l .held .edges, l .grown .edges) }
+  later-walks h p = record {
+    node = h;
+    nodes = omega (arith, l .held .nodes, l .grown .nodes);
+    place = p;
+    records = omega
+        (arith, l .held .edges, l .grown .edges);
+  }
 
   -- settled nodes stay settled
   pub later-settled : settled (graphOf w c) ≤ settled (graphOf w′ d)

@@ -1,7 +1,7 @@
 -- The parents of one node, updated one after the other: a turn, on plain values.
 --
--- In order: what a step along the chain says; what is left of the parents (`ParentsTurn`); its start; the next parent (`ParentFound`), or the end; its update; the last parent, whose own parents are left.
--- Assumes nothing.
+-- In order: what a step along the chain says; what is left of the parents (`ParentsTurn`); its start; the next parent (`ParentFound`), or the end;
+-- its update; the last parent, whose own parents are left.
 use mathlib.Core.Path.{_≡_, refl, sym, ap, _∙_, subst}
 use mathlib.Core.Bool.{Bool, true, false, true≢false}
 use mathlib.Core.List.{List, [], _∷_, List·Memᴰ, List·Memᴰ·head, List·Memᴰ·tail}
@@ -79,7 +79,8 @@ turn-start {ws} {w} {c} {x} A =
 
 -- ---- a turn
 
-module _ {ws : List ℕ} {w : Work} {c : Counts} {x : ℕ} {n′ e′ a′ : Bytes} {d : Counts} {i : ℕ} (t : ParentsTurn ws w c x (work n′ e′ a′) d i) where
+module _ {ws : List ℕ} {w : Work} {c : Counts} {x : ℕ} {n′ e′ a′ : Bytes} {d : Counts} {i : ℕ}
+    (t : ParentsTurn ws w c x (work n′ e′ a′) d i) where
   -- the graph of the start, and the areas as they are now
   abbrev g : Graph
   g = graphOf w c
@@ -119,7 +120,8 @@ module _ {ws : List ℕ} {w : Work} {c : Counts} {x : ℕ} {n′ e′ a′ : Byt
 
 -- ---- the next parent
 
-module _ {ws : List ℕ} {w : Work} {c : Counts} {x : ℕ} {n′ e′ a′ : Bytes} {d : Counts} {i : ℕ} {t : ParentsTurn ws w c x (work n′ e′ a′) d i} {j y : ℕ} (p : ParentFound t j y) where
+module _ {ws : List ℕ} {w : Work} {c : Counts} {x : ℕ} {n′ e′ a′ : Bytes} {d : Counts} {i : ℕ} {t : ParentsTurn ws w c x
+    (work n′ e′ a′) d i} {j y : ℕ} (p : ParentFound t j y) where
   abbrev todo : List ℕ
   todo = parentsFrom (g t) x (j + 1)
 
@@ -173,5 +175,6 @@ module _ {ws : List ℕ} {w : Work} {c : Counts} {x : ℕ} {n′ e′ a′ : Byt
     turn-jump B eb r G =
         let same = later-edges now-later in
         let h = graphOf (work n₁ e₁ a₁) c in
-        let none = none-in (parentsFrom h x (j + 1)) (sym (B a₁ d₁ (now-later .held) (now-later .grown) (among-parents-same h (g t) x (j + 1) (sym same) (p .among))) ∙ eb) in
+        let none = none-in (parentsFrom h x (j + 1))
+        (sym (B a₁ d₁ (now-later .held) (now-later .grown) (among-parents-same h (g t) x (j + 1) (sym same) (p .among))) ∙ eb) in
         turn-last (sym (parents-same (g t) h x (j + 1) same) ∙ none) r (S .whole G)

@@ -74,7 +74,8 @@ module _ {ws : List ℕ} {n e a : Bytes} {c : Counts} {x : ℕ} (A : UpdateAsks 
   update-fits = held-node (A .held) there
 
   -- with no fuel there would be more settled nodes than places
-  fueled : {r : Step} {w′ : Work} → ((f : ℕ) → Enough w c (suc f) → Refines w c r w′ (λ k h. updates ws (suc f) k x h)) → UpdateGives ws w c x r w′
+  fueled : {r : Step} {w′ : Work} → ((f : ℕ) → Enough w c (suc f) → Refines w c r w′ (λ k h. updates ws (suc f) k x h))
+      → UpdateGives ws w c x r w′
   fueled h zero few = absurd (omega (arith, few, settled-fits P (capacityOf w) g (A .fit)))
   fueled h (suc f) few = h f few
 
@@ -129,7 +130,8 @@ module _ {ws : List ℕ} {n e a : Bytes} {c : Counts} {x : ℕ} {A : UpdateAsks 
   update-refits = held-node (refines-held (j .gives)) still
 
   -- the update is the judgement, and then what is done with a changed status
-  changed : {r : Step} {w₂ : Work} → ((f : ℕ) → Enough (w A) c (suc f) → Refines w₁ d r w₂ (changing (j .opened) f (g A))) → UpdateGives ws (w A) c x r w₂
+  changed : {r : Step} {w₂ : Work} → ((f : ℕ) → Enough (w A) c (suc f) → Refines w₁ d r w₂ (changing (j .opened) f (g A)))
+      → UpdateGives ws (w A) c x r w₂
   changed next =
       fueled A (λ f few. refines-as (refines-then (j .gives) (changing (j .opened) f) (next f few))
       (update-open (P A) (capacityOf (w A)) f x (g A) (j .opened .is)))

@@ -1,7 +1,8 @@
 // Updates over lent areas (01, The procedure): an open node is judged again, and if its status changes, so are its parents.
 //
 // In order: one node judged again; whether a parent is left; the parents of a node, and theirs.
-// A parent's own parents are updated by a call only while other parents are left; those of the last one are updated in the loop. Both come after one node more is settled.
+// A parent's own parents are updated by a call only while other parents are left; those of the last one are updated in the loop. Both come after one
+// node more is settled.
 // So a nested call needs a node with two parents, and only states have more than one.
 ghost use mathlib.Core.Path.{_≡_};
 ghost use Rattle.words.specs.Sizes.{edgeSize};
@@ -34,7 +35,8 @@ fn rejudge(
 ) -> Rejudged
     requires { ⌜ UpdateAsks (now problem) (work (now nodes) (now edges) (now alternatives)) c x ⌝ }
     ensures { λ r. ⌜ RejudgeGives (now (problem .entry))
-        (work (now (nodes .entry)) (now (edges .entry)) (now (alternatives .entry))) c x r (work (now (nodes .exit)) (now (edges .exit)) (now (alternatives .exit))) ⌝ }
+        (work (now (nodes .entry)) (now (edges .entry)) (now (alternatives .entry))) c x r
+        (work (now (nodes .exit)) (now (edges .exit)) (now (alternatives .exit))) ⌝ }
 {
     let was = status_of(nodes, x as usize);
     if !is_open(was) {
@@ -74,7 +76,8 @@ pub fn update_parents(
 ) -> Step
     requires { ⌜ UpdateAsks (now problem) (work (now nodes) (now edges) (now alternatives)) c x ⌝ }
     ensures { λ r. ⌜ ParentsGives (now (problem .entry))
-        (work (now (nodes .entry)) (now (edges .entry)) (now (alternatives .entry))) c x r (work (now (nodes .exit)) (now (edges .exit)) (now (alternatives .exit))) ⌝ }
+        (work (now (nodes .entry)) (now (edges .entry)) (now (alternatives .entry))) c x r
+        (work (now (nodes .exit)) (now (edges .exit)) (now (alternatives .exit))) ⌝ }
 {
     // whose parents are updated, and the counts when the first of them was looked for
     let mut child = x;

@@ -67,12 +67,14 @@ module _ (d ρ y : ℕ) (w : Walk) where
   meet-known : position y (w .states) < length (w .states) → meet d ρ y w ≡ record { states = w .states; links = linked }
   unfolding meet
   meet-known h =
-      ap (λ (b : Bool). record { states = cond b (w .states) (w .states ++ y ∷ []); links = linked }) (lt-ltb (position y (w .states)) (length (w .states)) h)
+      ap (λ (b : Bool). record { states = cond b (w .states) (w .states ++ y ∷ []); links = linked })
+      (lt-ltb (position y (w .states)) (length (w .states)) h)
 
   meet-last : length (w .states) ≤ position y (w .states) → meet d ρ y w ≡ record { states = w .states ++ y ∷ []; links = linked }
   unfolding meet
   meet-last h =
-      ap (λ (b : Bool). record { states = cond b (w .states) (w .states ++ y ∷ []); links = linked }) (le-ltb (position y (w .states)) (length (w .states)) h)
+      ap (λ (b : Bool). record { states = cond b (w .states) (w .states ++ y ∷ []); links = linked })
+      (le-ltb (position y (w .states)) (length (w .states)) h)
 
 abbrev pub sizes : ℕ → ℕ → Sizes
 sizes m k = record { elements = m; links = k }
@@ -113,7 +115,8 @@ module _ {n n₁ n₂ : Bytes} {c : Counts} {m y : ℕ} (N : Numbered n c m) (ne
   }
 
   states-more : recordsIn stateIn n₂ (m + 1) ≡ recordsIn stateIn n m ++ y ∷ []
-  states-more = records-append stateIn (S .stored) ∙ ap (λ (xs : List ℕ). xs ++ y ∷ []) (map-same (stateIn n₁) (stateIn n) (range 0 m) (λ d _. P .states d))
+  states-more = records-append stateIn (S .stored) ∙ ap (λ (xs : List ℕ). xs ++ y ∷ [])
+      (map-same (stateIn n₁) (stateIn n) (range 0 m) (λ d _. P .states d))
 
   nodes-kept : (e a : Bytes) → Kept (work n e a) (work n₂ e a)
   nodes-kept e a = record { nodes = beside-then (P .beside) (S .beside); edges = beside-refl; alternatives = refl }
@@ -133,7 +136,8 @@ module _ {w : Work} {c : Counts} {s : Sizes} {d ρ y : ℕ} (A : MeetAsks w c s 
   edges-kept L = record { nodes = beside-refl; edges = L .beside; alternatives = refl }
 
   -- a state that has a number
-  pub met-before : {k : ℕ} {e′ : Bytes} → k ≡ numberIn (w .nodes) y → 0 < k → LinkStored (w .edges) e′ (s .links) (record { from = d; role = ρ; to = k - 1 })
+  pub met-before : {k : ℕ} {e′ : Bytes} → k ≡ numberIn (w .nodes) y → 0 < k
+      → LinkStored (w .edges) e′ (s .links) (record { from = d; role = ρ; to = k - 1 })
       → MeetGives w c s d ρ y (sizes (s .elements) (s .links + 1)) (work (w .nodes) e′ (w .alternatives))
   met-before p h L =
       let (l, q) = position-number (A .numbered) y (A .inside) (λ o. omega arith) in
@@ -177,7 +181,8 @@ module _ {w : Work} {c : Counts} {s : Sizes} {d ρ y : ℕ} {A : MeetAsks w c s 
     pub meet-fits : Fits nodeSize n₁ (s .elements)
     meet-fits = (omega (arith, room, A .holds .held .nodes), omega (arith, room, A .holds .held .nodes, P .stored .size))
 
-    pub met-first : {n₂ e′ : Bytes} → StateStored n₁ n₂ (s .elements) y → LinkStored (w .edges) e′ (s .links) (record { from = d; role = ρ; to = s .elements })
+    pub met-first : {n₂ e′ : Bytes} → StateStored n₁ n₂ (s .elements) y
+        → LinkStored (w .edges) e′ (s .links) (record { from = d; role = ρ; to = s .elements })
         → MeetGives w c s d ρ y (sizes (s .elements + 1) (s .links + 1)) (work n₂ e′ (w .alternatives))
     met-first {e′ = e′} S L = record {
       kept = kept-trans (edges-kept A L) (nodes-kept (A .numbered) (new .is) (A .inside) P S e′ (w .alternatives));

@@ -51,7 +51,8 @@ left t g x k i = zip (map (λ (e : ℕ × ℕ). e .0) (existsAt t g x k)) (child
 module _ (t : Table) (g : Graph) (x : ℕ) where
   left-all : left t g x 0 0 ≡ rowsOf t g x
   unfolding rowsOf
-  left-all = ap₂ (λ (es : List (ℕ × ℕ)) (ys : List ℕ). zip (map (λ (e : ℕ × ℕ). e .0) es) ys) (existsFrom-all t (nodeAt g x .rows)) (children-all g x)
+  left-all = ap₂ (λ (es : List (ℕ × ℕ)) (ys : List ℕ). zip (map (λ (e : ℕ × ℕ). e .0) es) ys) (existsFrom-all t (nodeAt g x .rows))
+      (children-all g x)
 
   module _ (k i : ℕ) where
     left-rowless : existsAt t g x k ≡ [] → left t g x k i ≡ []
@@ -149,7 +150,8 @@ module _ {ws : List ℕ} {w : Work} {c : Counts} {s : Sizes} {d x : ℕ} {w′ :
   ended : left table h x k i ≡ [] → RowsGives ws w c s d s′ w′
   ended p =
       let A = T .asks in
-      let f : walkRows h d [] (walkIn w′ s′) ≡ some (A .end) = ap (λ (r : List (ℕ × ℕ)). walkRows h d r (walkIn w′ s′)) (sym p) ∙ T .rest (A .end) (A .walks) in
+      let f : walkRows h d [] (walkIn w′ s′) ≡ some (A .end) = ap (λ (r : List (ℕ × ℕ)). walkRows h d r (walkIn w′ s′)) (sym p)
+      ∙ T .rest (A .end) (A .walks) in
       record { kept = T .kept; numbered = T .numbered; walked = A .walks ∙ sym f ∙ walkRows-none h d (walkIn w′ s′) }
 
   -- the set at its place

@@ -113,7 +113,8 @@ module _ {ws : List ℕ} {w : Work} {c : Counts} {w′ : Work} {s : Sizes} {d : 
   elements-held : map (λ y. nodeAt h y .rows) (so-far .states) ≡ map (λ i. nodeIn (w′ .nodes) (stateIn (w′ .nodes) i) .rows) (range 0 (s .elements))
   elements-held =
       map-map (λ y. nodeAt h y .rows) (stateIn (w′ .nodes)) (range 0 (s .elements))
-      ∙ map-same (λ i. nodeAt h (stateIn (w′ .nodes) i) .rows) (λ i. nodeIn (w′ .nodes) (stateIn (w′ .nodes) i) .rows) (range 0 (s .elements)) (λ i m.
+      ∙ map-same (λ i. nodeAt h (stateIn (w′ .nodes) i) .rows) (λ i. nodeIn (w′ .nodes) (stateIn (w′ .nodes) i) .rows) (range 0 (s .elements))
+      (λ i m.
       let l : i < s .elements = omega (arith, range-mem 0 (s .elements) i m .1) in
       let y = stateIn (w′ .nodes) i in
       ap (λ (x : Node). x .rows) (graph-node w c y (T .numbered .inside i l) ∙ sym (kept-node (T .kept) y)))
@@ -156,7 +157,8 @@ module _ {ws : List ℕ} {w : Work} {c : Counts} {w′ : Work} {s : Sizes} {d : 
   state-here = getD-records stateIn (w′ .nodes) (s .elements) d 0 (E .is)
 
   -- the rows of this element, and what is left after them
-  here : (v : Walk) → walk (table T) (h T) ≡ some v → (u : Walk) × (walkRows (h T) d (rows (h T)) (so-far T) ≡ some u) × Ends (table T) (h T) (suc d) u v
+  here : (v : Walk) → walk (table T) (h T) ≡ some v → (u : Walk) × (walkRows (h T) d (rows (h T)) (so-far T) ≡ some u)
+      × Ends (table T) (h T) (suc d) u v
   here v ends =
       subst (λ (x : ℕ). (u : Walk) × (walkRows (h T) d (rowsOf (table T) (h T) x) (so-far T) ≡ some u) × Ends (table T) (h T) (suc d) u v) state-here
       (ends-next (table T) (h T) d (so-far T) v inside (T .rest v ends))

@@ -69,7 +69,8 @@ pub naming-none : {ws : List ℕ} {n : Bytes} {count : ℕ} {area : Bytes} → N
 naming-none {ws} {n} {area = area} = record { within = omega arith; size = refl; holds = hold-none area (namesIn (tableOf ws) n) }
 
 module _ {ws : List ℕ} {n : Bytes} {count : ℕ} {area : Bytes} {d : ℕ} {area′ : Bytes} (N : Naming ws n count area d area′) where
-  pub naming-more : {area″ : Bytes} {s r : RowSet} → Decoded ws → setSize * count ≤ length area → d < count → s ≡ setIn n d → r ≡ namesOf (tableOf ws) s
+  pub naming-more : {area″ : Bytes} {s r : RowSet} → Decoded ws → setSize * count ≤ length area → d < count → s ≡ setIn n d
+      → r ≡ namesOf (tableOf ws) s
       → area″ ≡ putLe area′ (setSize * d) setSize r → Naming ws n count area (d + 1) area″
   naming-more {r = r} D room h hs hr e = record {
     within = omega arith;
@@ -96,14 +97,16 @@ pub written-none : (e : Bytes) {count : ℕ} {area : Bytes} → CopiedUpTo e cou
 unfolding linkBytes range
 written-none e = record { within = omega arith; size = refl; here = refl }
 
-pub written-all : {e : Bytes} {count : ℕ} {area area′ : Bytes} {i : ℕ} → CopiedUpTo e count area area′ i → count ≤ i → area′ ≡ overwrite (linksTo e count) area
+pub written-all : {e : Bytes} {count : ℕ} {area area′ : Bytes} {i : ℕ} → CopiedUpTo e count area area′ i → count ≤ i
+    → area′ ≡ overwrite (linksTo e count) area
 written-all {e} {area = area} w h = w .here ∙ ap (λ (k : ℕ). overwrite (linksTo e k) area) (omega (arith, w .within))
 
 -- ---- a link
 
 -- its three numbers, written one after another
 pub link-put : (b : Bytes) (at : ℕ) {b₁ b₂ c : Bytes} {m : LinkMark} {l : RoleLink} → roleLinkOf m ≡ l
-    → b₁ ≡ putLe b at 2 (m .from) → b₂ ≡ putLe b₁ (at + 2) 2 (m .role) → c ≡ putLe b₂ (at + 4) 2 (m .to) → c ≡ putFields b at (linkFields l)
+    → b₁ ≡ putLe b at 2 (m .from) → b₂ ≡ putLe b₁ (at + 2) 2 (m .role) → c ≡ putLe b₂ (at + 4) 2 (m .to)
+    → c ≡ putFields b at (linkFields l)
 link-put b at {c = c} {m = m} r from role to =
     let first : at + 0 ≡ at = omega arith in
     let put : c ≡ putFields b at (linkFields (roleLinkOf m)) = cc (first, from, role, to) in
@@ -122,7 +125,8 @@ link-overwrite bs area at l e h =
     cc
 
 pub link-written : (e : Bytes) {count : ℕ} {area area′ area″ : Bytes} {k : ℕ} → CopiedUpTo e count area area′ k → k < count
-    → linkSize * count ≤ length area → area″ ≡ putFields area′ (linkSize * k) (linkFields (roleLinkIn e k)) → CopiedUpTo e count area area″ (k + 1)
+    → linkSize * count ≤ length area → area″ ≡ putFields area′ (linkSize * k) (linkFields (roleLinkIn e k))
+    → CopiedUpTo e count area area″ (k + 1)
 link-written e {count} {area} {area′} {area″} {k} w h room put =
     record {
       within = omega arith;
@@ -189,7 +193,8 @@ module _ {ws : List ℕ} {n e : Bytes} {s : Sizes} {elements links : Bytes} (A :
       ap₂ (given (narrower (tableOf ws))) named links-read ∙ sym (world-given (tableOf ws) x)
 
   pub all-written : {elements₂ : Bytes}
-      → elements₂ ≡ overwrite (elementBytes (evaluated (worldIn (narrower (tableOf ws)) elements₁ (s .elements) links₁ (s .links)) (tableOf ws))) elements₁
+      → elements₂ ≡ overwrite (elementBytes (evaluated (worldIn (narrower (tableOf ws)) elements₁ (s .elements) links₁ (s .links))
+      (tableOf ws))) elements₁
       → WriteGives ws n e s elements elements₂ links links₁
   unfolding listing worldOf
   all-written {elements₂} E =
@@ -202,7 +207,8 @@ module _ {ws : List ℕ} {n e : Bytes} {s : Sizes} {elements links : Bytes} (A :
       length-elementBytes sets ∙ ap (λ (k : ℕ). setSize * k) as-many ∙ sym (length-elementBytes named) in
       record {
         elementsWritten =
-            E ∙ ap (λ (W : World). overwrite (elementBytes (evaluated W (tableOf ws))) elements₁) world-read ∙ ap (overwrite (elementBytes sets)) (N .here)
+            E ∙ ap (λ (W : World). overwrite (elementBytes (evaluated W (tableOf ws))) elements₁) world-read
+            ∙ ap (overwrite (elementBytes sets)) (N .here)
             ∙ overwrite-again (elementBytes sets) (elementBytes named) elements as-long;
         linksWritten = L;
       }

@@ -1,5 +1,4 @@
 -- `catalogue::classify` meets its contract: the promise, for every file.
--- Assumes nothing.
 use mathlib.Core.Path.{refl, sym, _∙_}
 use borrow.Author.Needs.{needs}
 use Rattle.decoding.specs.Decoding.{ruleKinds}
@@ -22,8 +21,10 @@ classify-spec =
     -- the end: a refused file
     (λ c. let s : tie.Start = search in let r : tie.After-read = search in let n : tie.After-n = search in
     refused-answered (s .args .file .now) (areasOf (s .args .nodes .now) (s .args .edges .now) (s .args .alternatives .now) (s .args .table .now))
-    (n .n .given .0 .0) (reads-refused ruleKinds (wantedRows (s .args .file .now)) (s .args .file .now) (n .n .given .0 .0) (sym (n .n .given .1) ∙ r .read .ensures)) _ refl)
+    (n .n .given .0 .0) (reads-refused ruleKinds (wantedRows (s .args .file .now)) (s .args .file .now) (n .n .given .0 .0)
+    (sym (n .n .given .1) ∙ r .read .ensures)) _ refl)
     -- the end: what classify_accepted returned
     (λ c. search needs) (λ c. search needs) (λ c. search needs) (λ c. search needs)
     (λ c. let s : tie.Start = search in let f : tie.After-classify-accepted = search in
-    promised (s .args .file .now) (areasOf (s .args .nodes .now) (s .args .edges .now) (s .args .alternatives .now) (s .args .table .now)) _ _ (f .classify-accepted .ensures)))
+    promised (s .args .file .now) (areasOf (s .args .nodes .now) (s .args .edges .now) (s .args .alternatives .now) (s .args .table .now)) _ _
+    (f .classify-accepted .ensures)))

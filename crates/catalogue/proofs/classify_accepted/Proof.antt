@@ -1,5 +1,5 @@
--- `catalogue::classify_accepted` meets its contract: the file is decoded, its names are listed, the table is filled if it has room, and the work areas are cleared.
--- Assumes nothing.
+-- `catalogue::classify_accepted` meets its contract: the file is decoded, its names are listed, the table is filled if it has room, and the work
+-- areas are cleared.
 use mathlib.Core.Path.{_≡_, refl}
 use Prim.Native.Nat.{_-_}
 use native.Mathlib.Nat.{mul-le-mul}
@@ -64,6 +64,7 @@ classify-accepted-spec =
     (λ c κs. search needs) (λ c κs. search needs) (λ c κs. search needs)
     -- the end
     (λ c. search needs) (λ c. search needs) (λ c. search needs) (λ c. search needs) (λ c. search needs)
-    (λ c. let k : tie.After-clear3 = search in let e = the-edges k in let n = the-nodes e in let f = the-table n in let i = the-room f in let w = the-words (i .before) in
+    (λ c. let k : tie.After-clear3 = search in let e = the-edges k in let n = the-nodes e in let f = the-table n in let i = the-room f in let w = the-words
+    (i .before) in
     page-filled (begun w .pre) (the-file w) (i .before .listed .ensures) (the-areas w) refl (i .if1 .left) (rw (whole (i .before)) at (f .fill .ensures))
     (n .clear .ensures) (f .fill .kept .1 .1 .1 .0) (e .clear2 .ensures) (f .fill .kept .1 .1 .1 .1 .0) (k .clear3 .ensures) (f .fill .kept .1 .1 .1 .1 .1 .0)))

@@ -1,5 +1,4 @@
 -- `rulefile::bad_argument` meets its contract: the rows that row k names are the arguments of its concept.
--- Assumes nothing.
 use mathlib.Core.Path.{sym, ap, _∙_}
 use lib.Dec.{leb}
 use borrow.Author.Needs.{needs}
@@ -17,7 +16,8 @@ returns c =
     let b = a .file .now in
     c .names-from .ensures
     ∙ ap (any (λ l. leb (a .k) l))
-    (ap rowsOf (c .before .row-at .ensures) ∙ sym (arguments-named (a .kinds) (rowByte b (a .k) 0) (rowByte b (a .k) 1) (rowByte b (a .k) 2) (rowByte b (a .k) 3)))
+    (ap rowsOf (c .before .row-at .ensures) ∙ sym (arguments-named (a .kinds) (rowByte b (a .k) 0) (rowByte b (a .k) 1) (rowByte b (a .k) 2)
+    (rowByte b (a .k) 3)))
 
 pub bad-argument-spec : {M : Type 1} → statement M
 bad-argument-spec =

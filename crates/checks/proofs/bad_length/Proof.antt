@@ -1,5 +1,4 @@
 -- `rulefile::bad_length` meets its contract: the test is the definition.
--- Assumes nothing.
 use mathlib.Core.Path.{refl}
 use Rattle.rulefile.specs.Format.{badLength}
 use Rattle.checks.proofs.bad_length.Statement.{statement}

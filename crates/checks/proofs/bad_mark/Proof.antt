@@ -1,5 +1,4 @@
 -- `rulefile::bad_mark` meets its contract: the bytes that it reads are those of the definition.
--- Assumes nothing.
 use borrow.Author.Needs.{needs}
 use Rattle.rulefile.specs.Format.{badMark}
 use Rattle.checks.proofs.bad_mark.Statement.{statement}

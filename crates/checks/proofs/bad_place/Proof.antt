@@ -1,5 +1,4 @@
 -- `rulefile::bad_place` meets its contract: the numbers that it reads are those of the definition.
--- Assumes nothing.
 use borrow.Author.Needs.{needs}
 use Rattle.rulefile.specs.Format.{badPlace}
 use Rattle.checks.proofs.bad_place.Statement.{statement}

@@ -1,5 +1,4 @@
 -- `rulefile::bad_row` meets its contract: a row is malformed where it is not decoded.
--- Assumes nothing.
 use mathlib.Core.Path.{sym, ap, _∙_}
 use borrow.Author.Needs.{needs}
 use Rattle.rulefile.specs.Format.{rowByte, badRow}

@@ -1,5 +1,4 @@
 -- `rulefile::bad_rule` meets its contract: the two tests are those of the definition.
--- Assumes nothing.
 use borrow.Author.Needs.{needs}
 use Rattle.rulefile.specs.Format.{badRule}
 use Rattle.checks.specs.Findings.{extent, foundAt}

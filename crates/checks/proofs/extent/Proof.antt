@@ -1,5 +1,4 @@
 -- `rulefile::extent` meets its contract: each variant but `Rule` counts the rows.
--- Assumes nothing.
 use mathlib.Core.Path.{_≡_, refl, sym, _∙_}
 use mathlib.Core.List.{[], _∷_}
 use borrow.Author.Needs.{needs}

@@ -1,5 +1,4 @@
 -- `rulefile::found` meets its contract: the invariant is that no row or rule below `i` is a finding.
--- Assumes nothing.
 use mathlib.Core.Path.{_≡_, sym, _∙_}
 use Prim.Native.Nat.{_≤_, _-_}
 use native.Mathlib.Omega.{arith}

@@ -1,5 +1,4 @@
 -- `rulefile::found_at` meets its contract: each arm calls the function of its finding.
--- Assumes nothing.
 use mathlib.Core.Path.{_≡_}
 use Prim.Native.Nat.{ℕ, _<_}
 use borrow.Author.Needs.{needs}

@@ -1,5 +1,4 @@
 -- `rulefile::number` meets its contract: the constant has the numbers of the checks, place for place.
--- Assumes nothing.
 use mathlib.Core.List.{List, [], _∷_}
 use Prim.Native.Nat.{ℕ}
 use native.Mathlib.Omega.{arith}

@@ -1,5 +1,4 @@
 -- `rulefile::past_rows` meets its contract: the invariant is that each row of the list before place `i` is below the number of rows.
--- Assumes nothing.
 use mathlib.Core.Path.{_≡_, sym}
 use Prim.Native.Nat.{_≤_, _-_}
 use native.Mathlib.Omega.{arith}

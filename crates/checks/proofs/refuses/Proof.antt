@@ -1,5 +1,4 @@
 -- `rulefile::refuses` meets its contract: each arm calls the function of its check, whose `requires` follows from the checks before it.
--- Assumes nothing.
 use mathlib.Core.Path.{_≡_}
 use Prim.Native.Nat.{ℕ, _<_}
 use native.Mathlib.Omega.{arith}
@@ -13,10 +12,12 @@ use Rattle.checks.proofs.refuses.Tie as tie
 
 -- the last arm is that of the last check
 last-arm : (i : ℕ) → i < checkCount
-    → (((((((Unit {0} × (i ≡ 0 → ⊥)) × (i ≡ 1 → ⊥)) × (i ≡ 2 → ⊥)) × (i ≡ 3 → ⊥)) × (i ≡ 4 → ⊥)) × (i ≡ 5 → ⊥)) × (i ≡ 6 → ⊥)) × (i ≡ 7 → ⊥)
+    → (((((((Unit {0} × (i ≡ 0 → ⊥)) × (i ≡ 1 → ⊥)) × (i ≡ 2 → ⊥)) × (i ≡ 3 → ⊥)) × (i ≡ 4 → ⊥)) × (i ≡ 5 → ⊥))
+    × (i ≡ 6 → ⊥)) × (i ≡ 7 → ⊥)
     → i ≡ 8
 last-arm i l r =
-    last (past-three (r .0 .0 .0 .0 .0 .0 .0 .1) (r .0 .0 .0 .0 .0 .0 .1) (r .0 .0 .0 .0 .0 .1) (r .0 .0 .0 .0 .1)) (r .0 .0 .0 .1) (r .0 .0 .1) (r .0 .1) (r .1)
+    last (past-three (r .0 .0 .0 .0 .0 .0 .0 .1) (r .0 .0 .0 .0 .0 .0 .1) (r .0 .0 .0 .0 .0 .1) (r .0 .0 .0 .0 .1)) (r .0 .0 .0 .1) (r .0 .0 .1) (r .0 .1)
+    (r .1)
   where
     past-three : (i ≡ 0 → ⊥) → (i ≡ 1 → ⊥) → (i ≡ 2 → ⊥) → (i ≡ 3 → ⊥) → 3 < i
     past-three h₀ h₁ h₂ h₃ = omega arith
@@ -28,7 +29,8 @@ bad-mark-requires : tie.Need-bad-mark-requires
 bad-mark-requires c κs = let s : tie.Start = search in long (s .args .kinds) (s .args .wanted .now) (s .args .file .now) (s .pre .1) (omega (arith, c .match))
 
 bad-counts-requires : tie.Need-bad-counts-requires
-bad-counts-requires c κs = let s : tie.Start = search in long (s .args .kinds) (s .args .wanted .now) (s .args .file .now) (s .pre .1) (omega (arith, c .match))
+bad-counts-requires c κs = let s : tie.Start = search in long (s .args .kinds) (s .args .wanted .now) (s .args .file .now) (s .pre .1)
+    (omega (arith, c .match))
 
 bad-place-requires : tie.Need-bad-place-requires
 bad-place-requires c κs = let s : tie.Start = search in long (s .args .kinds) (s .args .wanted .now) (s .args .file .now) (s .pre .1) (omega (arith, c .match))
@@ -43,7 +45,8 @@ found-requires-3 : tie.Need-found-requires-3
 found-requires-3 c κs = let s : tie.Start = search in parted (s .args .kinds) (s .args .wanted .now) (s .args .file .now) (s .pre .1) (omega (arith, c .match))
 
 bad-rule-requires : tie.Need-bad-rule-requires
-bad-rule-requires c κs = let s : tie.Start = search in parted (s .args .kinds) (s .args .wanted .now) (s .args .file .now) (s .pre .1) (omega (arith, c .match))
+bad-rule-requires c κs = let s : tie.Start = search in parted (s .args .kinds) (s .args .wanted .now) (s .args .file .now) (s .pre .1)
+    (omega (arith, c .match))
 
 inclusion-serves-requires : tie.Need-inclusion-serves-requires
 inclusion-serves-requires c κs =

@@ -1,5 +1,4 @@
 -- `rulefile::repeated` meets its contract: the invariant is that no row below `j` has the bytes of row `k`.
--- Assumes nothing.
 use mathlib.Core.Path.{sym, _∙_}
 use Prim.Native.Nat.{_≤_, _-_}
 use native.Mathlib.Omega.{arith}

@@ -1,5 +1,4 @@
 -- `rulefile::row_at` meets its contract: the bytes that it reads are those of the definition.
--- Assumes nothing.
 use borrow.Author.Needs.{needs}
 use Rattle.checks.proofs.row_at.Statement.{statement}
 use Rattle.checks.proofs.row_at.Tie as tie

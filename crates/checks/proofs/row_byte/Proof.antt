@@ -1,5 +1,4 @@
 -- `rulefile::row_byte` meets its contract: the place that it reads is that of the definition.
--- Assumes nothing.
 use borrow.Author.Needs.{needs}
 use Rattle.checks.proofs.row_byte.Statement.{statement}
 use Rattle.checks.proofs.row_byte.Tie as tie

@@ -1,5 +1,4 @@
 -- `rulefile::rule` meets its contract: the place that it reads is that of the definition.
--- Assumes nothing.
 use borrow.Author.Needs.{needs}
 use Rattle.checks.proofs.rule.Statement.{statement}
 use Rattle.checks.proofs.rule.Tie as tie

@@ -1,5 +1,4 @@
 -- `rulefile::same_row` meets its contract: the bytes that it reads are those of the definition.
--- Assumes nothing.
 use borrow.Author.Needs.{needs}
 use Rattle.rulefile.specs.Format.{sameRow}
 use Rattle.checks.proofs.same_row.Statement.{statement}

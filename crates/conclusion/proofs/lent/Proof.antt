@@ -1,5 +1,4 @@
 -- `conclusion::lent` meets its contract: by the area.
--- Assumes nothing.
 use mathlib.Core.Path.{sym, ap, _∙_}
 use Prim.Native.Nat.{ℕ}
 use borrow.Author.Needs.{needs}

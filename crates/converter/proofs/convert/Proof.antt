@@ -1,5 +1,4 @@
 -- `converter::convert` meets its contract: what the definition gives keeps the promise.
--- Assumes nothing.
 use borrow.Author.Needs.{needs}
 use mathlib.Core.Path.{sym, _∙_}
 use Rattle.rulefile.specs.Format.{wantedRows}
@@ -21,7 +20,8 @@ returns c =
     let begun : tie.Start = search in
     let r : tie.After-read = search in
     let n : tie.After-n = search in
-    let refused = reads-refused draftKinds (wantedRows (begun .args .draft .now)) (begun .args .draft .now) (n .n .given .0 .0) (sym (n .n .given .1) ∙ r .read .ensures) in
+    let refused = reads-refused draftKinds (wantedRows (begun .args .draft .now)) (begun .args .draft .now) (n .n .given .0 .0)
+    (sym (n .n .given .1) ∙ r .read .ensures) in
     converts-promise (numbers-as (refused-converts (begun .args .draft .now) (n .n .given .0 .0) refused) (c .refused .ensures))
 
 returns-2 : tie.Need-returns-2

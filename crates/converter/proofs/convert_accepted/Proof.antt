@@ -1,5 +1,4 @@
 -- `converter::convert_accepted` meets its contract: the inclusions are kept, the rules and then the wanted row are put, and the file is written if it fits.
--- Assumes nothing.
 use mathlib.Core.Path.{_≡_, refl}
 use borrow.Author.Needs.{needs}
 use Rattle.rulefile.specs.Format.{wantedRows}
@@ -48,7 +47,8 @@ put-list-requires-2 c κs =
     let rules = first-list n in
     let kept = inclusions rules in
     let kit = lists kept in
-    kit-asks (start kit .pre) (kit .before .rules-of .ensures) (kept .keep-inclusions .ensures) _ refl (list-as (rules .put-list .ensures) (n .n .given .1)) (the-kit kit)
+    kit-asks (start kit .pre) (kit .before .rules-of .ensures) (kept .keep-inclusions .ensures) _ refl (list-as (rules .put-list .ensures) (n .n .given .1))
+    (the-kit kit)
 
 finish-requires : tie.Need-finish-requires
 finish-requires c κs =
@@ -58,7 +58,8 @@ finish-requires c κs =
     let rules = first-list n in
     let kept = inclusions rules in
     let kit = lists kept in
-    finish-asks (start kit .pre) (kit .before .rules-of .ensures) (kept .keep-inclusions .ensures) _ refl (list-as (rules .put-list .ensures) (n .n .given .1)) (the-kit kit)
+    finish-asks (start kit .pre) (kit .before .rules-of .ensures) (kept .keep-inclusions .ensures) _ refl (list-as (rules .put-list .ensures) (n .n .given .1))
+    (the-kit kit)
     (list-as (second .put-list2 .ensures) (m .m .given .1))
 
 returns-2 : tie.Need-returns-2
@@ -70,7 +71,8 @@ returns-2 c =
     let kept = inclusions rules in
     let kit = lists kept in
     numbers-as (too-many (start kit .pre)
-    (kit-full (start kit .pre) (kit .before .rules-of .ensures) (kept .keep-inclusions .ensures) _ refl (list-as (rules .put-list .ensures) (n .n .given .1)) (the-kit kit)
+    (kit-full (start kit .pre) (kit .before .rules-of .ensures) (kept .keep-inclusions .ensures) _ refl (list-as (rules .put-list .ensures) (n .n .given .1))
+    (the-kit kit)
     (list-as (second .put-list2 .ensures) (told .enum-told .given .1)))) (c .refused .ensures)
 
 returns-3 : tie.Need-returns-3
@@ -81,13 +83,16 @@ returns-3 c =
     let rules : tie.After-put-list = search in
     let told : tie.After-enum-told2 = search in
     numbers-as (too-many (begun .pre)
-    (rules-full (begun .pre) (tbox .rules-of .ensures) (kept .keep-inclusions .ensures) _ refl (list-as (rules .put-list .ensures) (told .enum-told2 .given .1))))
+    (rules-full (begun .pre) (tbox .rules-of .ensures) (kept .keep-inclusions .ensures) _ refl
+    (list-as (rules .put-list .ensures) (told .enum-told2 .given .1))))
     (c .refused2 .ensures)
 
 pub convert-accepted-spec : {M : Type 1} → statement M
 convert-accepted-spec =
     tie.close (tie.spec
-    rules-of-requires (λ c κs. search needs) (λ c. search needs) keep-inclusions-requires (λ c. search needs) (λ c. search needs) (λ c. search needs) put-list-requires
-    (λ c. search needs) (λ c. search needs) (λ c. search needs) (λ c. search needs) put-list-requires-2 (λ c. search needs) (λ c. search needs) (λ c. search needs)
+    rules-of-requires (λ c κs. search needs) (λ c. search needs) keep-inclusions-requires (λ c. search needs) (λ c. search needs)
+    (λ c. search needs) put-list-requires
+    (λ c. search needs) (λ c. search needs) (λ c. search needs) (λ c. search needs) put-list-requires-2 (λ c. search needs) (λ c. search needs)
+    (λ c. search needs)
     (λ c. search needs) finish-requires (λ c. search needs) (λ c κs. search needs) (λ c. search needs) (λ c κs. search needs) (λ c. search needs)
     (λ c. search needs) returns-2 returns-3)

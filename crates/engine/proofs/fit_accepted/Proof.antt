@@ -1,5 +1,4 @@
 -- `engine::fit_accepted` meets its contract: the file is decoded and decided, and the work areas are cleared.
--- Assumes nothing.
 use mathlib.Core.Path.{refl}
 use borrow.Author.Needs.{needs}
 use Rattle.decoder.specs.WritingLaws.{fresh-zeros}
@@ -27,7 +26,8 @@ the-edges c = c .before .before .before .before
 
 -- it was decided
 settled : (c : tie.After-decide) → let s = begun (the-words c) in
-    Settled (s .pre) (the-words c .decode-file .ensures) (areasOf (s .args .nodes .now) (s .args .edges .now) (s .args .alternatives .now) (s .args .elements .now) (s .args .links .now))
+    Settled (s .pre) (the-words c .decode-file .ensures)
+    (areasOf (s .args .nodes .now) (s .args .edges .now) (s .args .alternatives .now) (s .args .elements .now) (s .args .links .now))
     (c .decide .result) (c .decide .last .1 .1 .1 .1 .0) (c .decide .last .1 .1 .1 .1 .1 .0)
 settled c = file-settled _ _ _ (c .decide .ensures)
 

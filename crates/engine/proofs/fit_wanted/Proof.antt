@@ -1,5 +1,4 @@
 -- `engine::fit_wanted` meets its contract: the promise, for every file and all wanted rows.
--- Assumes nothing.
 use mathlib.Core.Path.{sym, _∙_}
 use borrow.Author.Needs.{needs}
 use Rattle.run.specs.Run.{areasOf}
@@ -22,10 +21,13 @@ fit-wanted-spec =
     reads-accepted ruleKinds (s .args .wanted .now) (s .args .file .now) (l .layout .given .0 .0) (sym (l .layout .given .1) ∙ r .read-for .ensures))
     -- the end: refused(n)
     (λ c. let s : tie.Start = search in let r : tie.After-read-for = search in let n : tie.After-n = search in
-    refused-answered (s .args .wanted .now) (s .args .file .now) (areasOf (s .args .nodes .now) (s .args .edges .now) (s .args .alternatives .now) (s .args .elements .now) (s .args .links .now))
-    (n .n .given .0 .0) (reads-refused ruleKinds (s .args .wanted .now) (s .args .file .now) (n .n .given .0 .0) (sym (n .n .given .1) ∙ r .read-for .ensures)) _ (c .refused .ensures))
+    refused-answered (s .args .wanted .now) (s .args .file .now)
+    (areasOf (s .args .nodes .now) (s .args .edges .now) (s .args .alternatives .now) (s .args .elements .now) (s .args .links .now))
+    (n .n .given .0 .0) (reads-refused ruleKinds (s .args .wanted .now) (s .args .file .now) (n .n .given .0 .0)
+    (sym (n .n .given .1) ∙ r .read-for .ensures)) _ (c .refused .ensures))
     -- the end: what fit_accepted returned
     (λ c. search needs) (λ c. search needs) (λ c. search needs) (λ c. search needs) (λ c. search needs)
     (λ c. let s : tie.Start = search in let f : tie.After-fit-accepted = search in
     promised (s .args .wanted .now) (s .args .file .now)
-    (areasOf (s .args .nodes .now) (s .args .edges .now) (s .args .alternatives .now) (s .args .elements .now) (s .args .links .now)) _ _ (f .fit-accepted .ensures)))
+    (areasOf (s .args .nodes .now) (s .args .edges .now) (s .args .alternatives .now) (s .args .elements .now) (s .args .links .now)) _ _
+    (f .fit-accepted .ensures)))

@@ -1,5 +1,4 @@
 -- `engine::text_length` meets its contract: the text is a leading part of the file.
--- Assumes nothing.
 use mathlib.Core.Path.{ap}
 use lib.ListN.{length}
 use borrow.Author.Needs.{needs}

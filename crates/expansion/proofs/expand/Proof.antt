@@ -49,7 +49,8 @@ expand-spec = tie.close (tie.spec
     (λ c κs. judged-fits (judged (search)))
     (λ c κs. search needs)
     -- return Done(b)
-    (λ c. omega (arith, judged (search) .gives .sized)) (λ c. omega (arith, judged (search) .gives .sized)) (λ c. omega (arith, judged (search) .gives .sized))
+    (λ c. omega (arith, judged (search) .gives .sized)) (λ c. omega (arith, judged (search) .gives .sized))
+    (λ c. omega (arith, judged (search) .gives .sized))
     (λ c. judged-open (judged (search)) (search (loaded, needs)))
     -- update_parents(.., b, x)
     (λ c κs. parents-asks (judged (search)))
@@ -60,5 +61,6 @@ expand-spec = tie.close (tie.spec
     (λ c. search needs) (λ c. search needs) (λ c. search needs)
     (λ c. let j : tie.After-judge = search in judge-short (with-children (search)) {w₂ = after-judge j} (j .judge .ensures) (search))
     -- the end: what update_parents returned
-    (λ c. omega (arith, judged (search) .gives .sized)) (λ c. omega (arith, judged (search) .gives .sized)) (λ c. omega (arith, judged (search) .gives .sized))
+    (λ c. omega (arith, judged (search) .gives .sized)) (λ c. omega (arith, judged (search) .gives .sized))
+    (λ c. omega (arith, judged (search) .gives .sized))
     (λ c. parents-gives (judged (search)) (search)))

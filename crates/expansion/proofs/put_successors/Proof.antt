@@ -11,7 +11,8 @@ use Rattle.rowset.specs.SetOf.{setOf}
 use Rattle.rowset.specs.ByteLaws.{zeros-empty}
 use Rattle.problem.specs.Decoded.{countOf}
 use Rattle.graph.specs.Graphs.{Work, work}
-use Rattle.expansion.specs.SuccessorCases.{SuccessorsPut, SuccessorFound, Made, turn-start, turn-inside, turn-end, turn-next, turn-row, turn-less, turn-argument}
+use Rattle.expansion.specs.SuccessorCases.{SuccessorsPut, SuccessorFound, Made, turn-start, turn-inside, turn-end, turn-next, turn-row, turn-less}
+use Rattle.expansion.specs.SuccessorCases.{turn-argument}
 use Rattle.expansion.specs.SuccessorCases.{turn-successor, turn-asks, turn-short, turn-put}
 use Rattle.expansion.proofs.put_successors.Statement.{statement}
 use Rattle.expansion.proofs.put_successors.Tie as tie
@@ -31,7 +32,8 @@ inside : (c : tie.At-loop Inv-loop μ-loop) → c .before .node-set .result + se
 inside c = rw (c .before .node-set .ensures) (turn-inside (c .loop .inv))
 
 -- an existential row was found
-chosen : (c : tie.After-row Inv-loop μ-loop) → SuccessorFound (the-loop c .loop .inv) (c .row .given .0 .0) (c .row .given .0 .1 .0) (c .row .given .0 .1 .1 .0)
+chosen : (c : tie.After-row Inv-loop μ-loop) → SuccessorFound (the-loop c .loop .inv) (c .row .given .0 .0) (c .row .given .0 .1 .0)
+    (c .row .given .0 .1 .1 .0)
 chosen c =
     let l = the-loop c in
     turn-next (l .loop .inv) (l .before .node-set .result) (c .before .before .next-exist .ensures) (l .before .node-set .ensures) (c .row .given .1)

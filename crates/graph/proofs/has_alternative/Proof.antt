@@ -38,7 +38,8 @@ told : (c : At tie.After-same) → let k = c .before .before .before .before in
 told c =
     let k : At tie.After-index = search in
     let place : At tie.After-alternative-set = search in
-    c .same .ensures ∙ ap (λ (at : ℕ). eqb (setOf (start k .args .alternatives .now) at) (setOf (start k .args .s .now) 0)) (place .alternative-set .ensures)
+    c .same .ensures ∙ ap (λ (at : ℕ). eqb (setOf (start k .args .alternatives .now) at) (setOf (start k .args .s .now) 0))
+    (place .alternative-set .ensures)
 
 -- the record is in the area
 inside : (k : At tie.After-index) → Fits alternativeSize (start k .args .alternatives .now) (k .index .given .0 .0)

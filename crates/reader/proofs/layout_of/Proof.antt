@@ -1,5 +1,4 @@
 -- `rulefile::layout_of` meets its contract: the numbers that it reads are those of the trailer.
--- Assumes nothing.
 use borrow.Author.Needs.{needs}
 use Rattle.reader.proofs.layout_of.Statement.{statement}
 use Rattle.reader.proofs.layout_of.Tie as tie

@@ -1,5 +1,4 @@
 -- `rulefile::part` meets its contract: the part that the code cuts out is that of the definition.
--- Assumes nothing.
 use mathlib.Core.Path.{_≡_, ap}
 use Prim.Native.Nat.{ℕ, _+_, _-_}
 use native.Mathlib.Omega.{arith}

@@ -1,5 +1,4 @@
 -- `rulefile::read` meets its contract: it is `read_for` with the file's own wanted row.
--- Assumes nothing.
 use mathlib.Core.Path.{ap, _∙_}
 use borrow.Author.Needs.{needs}
 use Rattle.reader.specs.Read.{readOf}

@@ -1,5 +1,4 @@
 -- `rulefile::read_for` meets its contract: the invariant is that the file passed the checks before place `i`.
--- Assumes nothing.
 use mathlib.Core.Path.{sym, ap, _∙_}
 use Prim.Native.Nat.{_≤_, _-_}
 use native.Mathlib.Omega.{arith}

@@ -1,5 +1,4 @@
 -- `rulefile::rules_of` meets its contract: the rules stand where the layout says.
--- Assumes nothing.
 use mathlib.Core.Path.{_∙_}
 use native.Mathlib.Omega.{arith}
 use Rattle.reader.specs.PartLaws.{whole, rules-part}

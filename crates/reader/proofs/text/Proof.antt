@@ -1,5 +1,4 @@
 -- `rulefile::text` meets its contract: it is `text_for` with the file's own wanted row.
--- Assumes nothing.
 use mathlib.Core.Path.{_∙_}
 use borrow.Author.Needs.{needs}
 use Rattle.rulefile.specs.ReadingLaws.{text-own}

@@ -1,5 +1,4 @@
 -- `rulefile::text_for` meets its contract: the part that is handed back starts where the file starts, and is as long as the text.
--- Assumes nothing.
 use mathlib.Core.Path.{sym, _∙_}
 use borrow.Author.Needs.{needs}
 use Rattle.rulefile.specs.ReadingLaws.{text-refused}
@@ -30,7 +29,8 @@ returns-2 : tie.Need-returns-2
 returns-2 c =
     let s : tie.Start = search in
     let r : tie.After-read-for = search in
-    let l = reads-accepted (s .args .kinds) (s .args .wanted .now) (s .args .file .now) _ (sym (c .before .before .layout .given .1) ∙ r .read-for .ensures) in
+    let l = reads-accepted (s .args .kinds) (s .args .wanted .now) (s .args .file .now) _
+    (sym (c .before .before .layout .given .1) ∙ r .read-for .ensures) in
     (c .part2 .ensures .0 ∙ laid-text l, c .part2 .ensures .1)
 
 pub text-for-spec : {M : Type 1} → statement M

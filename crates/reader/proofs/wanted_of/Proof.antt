@@ -1,5 +1,4 @@
 -- `rulefile::wanted_of` meets its contract: the wanted row stands four bytes before the end.
--- Assumes nothing.
 use mathlib.Core.Path.{_∙_}
 use native.Mathlib.Omega.{arith}
 use borrow.Author.Needs.{needs}

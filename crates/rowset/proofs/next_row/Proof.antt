@@ -26,7 +26,8 @@ abbrev μ-loop : tie.MeasureT-loop
 μ-loop b at ws mask n from start first j₀ m₀ j m = n - j
 
 -- what holds of the joined words holds of the common rows
-whole : (b : List ℕ) (at : ℕ) (ws : List ℕ) (mask n from : ℕ) → AreBytes b → Words ws → (r : Next) → IsNext (joined 64 (picked b at ws mask) n) from r
+whole : (b : List ℕ) (at : ℕ) (ws : List ℕ) (mask n from : ℕ) → AreBytes b → Words ws → (r : Next)
+    → IsNext (joined 64 (picked b at ws mask) n) from r
     → IsNext (common (setAt b at n) (maskAt ws mask n)) from r
 whole b at ws mask n from hb hw r h = subst (λ (s : RowSet). IsNext s from r) (picked-all b at ws mask n hb hw) h
 

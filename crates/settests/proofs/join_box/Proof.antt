@@ -24,7 +24,8 @@ Along problem mask s at role = Loop problem (universal (narrower (tableOf proble
 
 -- the set so far and the arguments of the rows x are the first set and what is to join it
 abbrev Gathered : List ℕ → List ℕ → ℕ → RowSet → List ℕ → RowSet → Type 0
-Gathered problem out₀ to joined out x = (length out ≡ length out₀) × (union (setOf out to) (leftParts (tableOf problem) x) ≡ union (setOf out₀ to) joined)
+Gathered problem out₀ to joined out x = (length out ≡ length out₀) ×
+    (union (setOf out to) (leftParts (tableOf problem) x) ≡ union (setOf out₀ to) joined)
 
 abbrev Inv-loop2 : tie.InvT-loop2
 Inv-loop2 problem s at role out₀ to mask n j m₀ out m =

@@ -29,7 +29,8 @@ abbrev μ-loop2 : tie.MeasureT-loop2
 μ-loop2 problem kind s at mask n names₀ j m₀ names m = m
 
 abbrev Inv-loop : tie.InvT-loop
-Inv-loop problem kind s at mask n names₀ j₀ names j = Loop problem (ofKind kind) mask s at (Gathered problem kind s at names) j (commonWord problem mask s at j)
+Inv-loop problem kind s at mask n names₀ j₀ names j = Loop problem (ofKind kind) mask s at (Gathered problem kind s at names) j
+    (commonWord problem mask s at j)
 
 abbrev μ-loop : tie.MeasureT-loop
 μ-loop problem kind s at mask n names₀ j₀ names j = n - j

@@ -23,10 +23,12 @@ use Rattle.rowset.specs.ByteLaws.{zeros-empty}
 use Rattle.tableau.specs.Contracts.{lacks}
 use Rattle.tableau.specs.JudgeCases.{judge-judges, judge-links, judge-lapses, judge-states, judge-branches, linked-fits, linked-sets}
 use Rattle.tableau.specs.JudgeCases.{takes-sat, takes-unsat, takes-unset, takes-open, linked-small, small-judges}
-use Rattle.tableau.specs.PutCases.{Finished, Weighed, Complete, Linked, put-adds, put-joins, put-clashes, put-waits, put-finished, put-weighed, put-above}
+use Rattle.tableau.specs.PutCases.{Finished, Weighed, Complete, Linked, put-adds, put-joins, put-clashes, put-waits, put-finished, put-weighed}
+use Rattle.tableau.specs.PutCases.{put-above}
 use Rattle.tableau.specs.PutCases.{put-lapses, put-complete, put-link-short, put-links, put-judge-asks, put-judge-falls}
 use Rattle.tableau.specs.PutCases.{put-judge-short, put-edge-asks, put-judged}
-use Rattle.tableau.specs.SmallCases.{AlternativesPut, AlternativeFound, AlternativeJoined, turn-start, turn-walks, turn-sets, turn-next, turn-judges, turn-end}
+use Rattle.tableau.specs.SmallCases.{AlternativesPut, AlternativeFound, AlternativeJoined, turn-start, turn-walks, turn-sets, turn-next, turn-judges}
+use Rattle.tableau.specs.SmallCases.{turn-end}
 use Rattle.tableau.specs.SmallCases.{turn-index, turn-less, turn-joined, turn-sets-inside, turn-asks, turn-falls, turn-short, turn-put}
 use Rattle.graph.proofs.add_edge.Reads as add-edge
 use Rattle.records.proofs.load_node.Reads as load-node

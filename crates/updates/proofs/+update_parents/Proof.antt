@@ -1,7 +1,6 @@
 -- The parents of a node, updated: a call of itself comes after a parent's status changed, so one place less is unsettled.
 --
 -- In order: what falls from call to call; the loop; the places that later needs speak of; the needs, in the code's order.
--- Assumes nothing.
 use Prim.Native.Nat.{ℕ, _<_}
 use native.Mathlib.Omega.{arith}
 use borrow.Author.Needs.{needs}
@@ -42,7 +41,8 @@ Inv-loop problem nodes₀ edges₀ alternatives₀ x child₀ start₀ cur₀ i�
     Climb problem (work nodes₀ edges₀ alternatives₀) start₀ x (work nodes edges alternatives) child start cur i
 
 abbrev μ-loop : lts.MeasureT-loop
-μ-loop problem nodes₀ edges₀ alternatives₀ x child₀ start₀ cur₀ i₀ nodes edges alternatives child start cur i = climbing (work nodes edges alternatives) start cur i
+μ-loop problem nodes₀ edges₀ alternatives₀ x child₀ start₀ cur₀ i₀ nodes edges alternatives child start cur i = climbing
+    (work nodes edges alternatives) start cur i
 
 -- ---- places
 
@@ -73,8 +73,10 @@ abbrev updated : {t : ℕ} → At t lts.After-update-parents → Work
 updated c = work (c .update-parents .last .1 .0) (c .update-parents .last .1 .1 .0) (c .update-parents .last .1 .1 .1 .0)
 
 -- its status changed
-changed : (t : ℕ) (c : At t lts.After-next2) → Changed (the-loop (found c) .loop .inv) (chosen t (found c)) (rejudged (the-rejudge c)) (c .next2 .given .0 .0)
-changed t c = climb-changed (the-loop (found c) .loop .inv) (chosen t (found c)) {w₁ = rejudged (the-rejudge c)} (the-rejudge c .rejudge .ensures) (c .next2 .given .1)
+changed : (t : ℕ) (c : At t lts.After-next2) → Changed (the-loop (found c) .loop .inv) (chosen t (found c)) (rejudged (the-rejudge c))
+    (c .next2 .given .0 .0)
+changed t c = climb-changed (the-loop (found c) .loop .inv) (chosen t (found c)) {w₁ = rejudged (the-rejudge c)} (the-rejudge c .rejudge .ensures)
+    (c .next2 .given .1)
 
 -- ---- the needs, in the code's order
 
@@ -116,7 +118,8 @@ pub +update-parents-spec : {M : Type 1} → statement M
     -- return Full(area)
     (λ c. let n : At t lts.After-next2 = search in search (the-loop (found n) .loop .inv .later .sized .nodes, changed t n .later .sized .nodes, needs))
     (λ c. let n : At t lts.After-next2 = search in search (the-loop (found n) .loop .inv .later .sized .edges, changed t n .later .sized .edges, needs))
-    (λ c. let n : At t lts.After-next2 = search in search (the-loop (found n) .loop .inv .later .sized .alternatives, changed t n .later .sized .alternatives, needs))
+    (λ c. let n : At t lts.After-next2 = search in search
+    (the-loop (found n) .loop .inv .later .sized .alternatives, changed t n .later .sized .alternatives, needs))
     (λ c. let n : At t lts.After-next2 = search in let u : At t lts.After-update-parents = search in
     climb-nested-short (the-loop (found n) .loop .inv) (chosen t (found n)) (changed t n) {w₂ = updated u} (u .update-parents .ensures) (search))
     -- cur = after, and the loop again

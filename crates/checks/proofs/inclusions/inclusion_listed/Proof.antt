@@ -1,5 +1,4 @@
 -- `rulefile::inclusions::inclusion_listed` meets its contract: the invariant is that no row of the list before place `i` is an inclusion.
--- Assumes nothing.
 use mathlib.Core.Path.{sym, _∙_}
 use Prim.Native.Nat.{_≤_, _-_}
 use native.Mathlib.Omega.{arith}

@@ -1,5 +1,4 @@
 -- `rulefile::inclusions::inclusion_named` meets its contract: the invariant is that no row below `k` names an inclusion.
--- Assumes nothing.
 use mathlib.Core.Path.{_≡_, sym, _∙_}
 use Prim.Native.Nat.{_≤_, _-_}
 use native.Mathlib.Omega.{arith}
@@ -25,7 +24,8 @@ returns c =
     let s : At tie.Start = search in
     let i : At tie.In-loop = search in
     let l = i .before .loop in
-    sym (any-range-found (inclusionNamed (s .args .kinds) (s .args .file .now)) (rowCount (s .args .file .now)) (l .k) (omega (arith, i .loop-test .taken, l .inv .0))
+    sym (any-range-found (inclusionNamed (s .args .kinds) (s .args .file .now)) (rowCount (s .args .file .now)) (l .k)
+    (omega (arith, i .loop-test .taken, l .inv .0))
     (sym (c .before .names-inclusion .ensures) ∙ c .if1 .taken))
 
 loop-again : tie.Need-loop-again Inv-loop μ-loop
@@ -38,11 +38,13 @@ returns-2 : tie.Need-returns-2 Inv-loop μ-loop
 returns-2 c =
     let s : At tie.Start = search in
     let l = c .before .loop in
-    sym (any-range-none (inclusionNamed (s .args .kinds) (s .args .file .now)) (rowCount (s .args .file .now)) (λ k h. l .inv .2 k (omega (arith, c .loop-test .left, l .inv .0))))
+    sym (any-range-none (inclusionNamed (s .args .kinds) (s .args .file .now)) (rowCount (s .args .file .now))
+    (λ k h. l .inv .2 k (omega (arith, c .loop-test .left, l .inv .0))))
 
 pub inclusion-named-spec : {M : Type 1} → statement M
 inclusion-named-spec =
     tie.close (tie.spec Inv-loop μ-loop
     (λ c κs. search needs) (λ c. search needs) (λ c. (c .row-count .ensures, omega arith, below-none _))
     (λ c κs. let s : At tie.Start = search in let l : At tie.At-loop = search in (s .pre, omega (arith, c .loop-test .taken, l .loop .inv .0))) returns
-    (λ c. let i : At tie.In-loop = search in omega (arith, i .loop-test .taken)) (λ c. let i : At tie.In-loop = search in omega (arith, i .loop-test .taken)) loop-again returns-2)
+    (λ c. let i : At tie.In-loop = search in omega (arith, i .loop-test .taken))
+    (λ c. let i : At tie.In-loop = search in omega (arith, i .loop-test .taken)) loop-again returns-2)

@@ -1,5 +1,4 @@
 -- `rulefile::inclusions::inclusion_ruled` meets its contract: the invariant is that no rule below `i` is an inclusion.
--- Assumes nothing.
 use mathlib.Core.Path.{_≡_, sym, ap, _∙_}
 use Prim.Native.Nat.{_≤_, _-_}
 use native.Mathlib.Omega.{arith}
@@ -55,4 +54,5 @@ inclusion-ruled-spec =
     (λ c κs. search needs) (λ c. search needs) (λ c. (c .rule-count .ensures, omega arith, below-none _))
     (λ c κs. let s : At tie.Start = search in let l : At tie.At-loop = search in (s .pre, omega (arith, c .loop-test .taken, l .loop .inv .0)))
     (λ c. search needs) (λ c κs. let s : At tie.Start = search in s .pre) returns
-    (λ c. let t : At tie.In-loop = search in omega (arith, t .loop-test .taken)) (λ c. let t : At tie.In-loop = search in omega (arith, t .loop-test .taken)) loop-again returns-2)
+    (λ c. let t : At tie.In-loop = search in omega (arith, t .loop-test .taken))
+    (λ c. let t : At tie.In-loop = search in omega (arith, t .loop-test .taken)) loop-again returns-2)

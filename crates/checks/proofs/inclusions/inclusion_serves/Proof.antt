@@ -1,5 +1,4 @@
 -- `rulefile::inclusions::inclusion_serves` meets its contract: without a row of kind 7 none serves; else the three tests are those of the definition.
--- Assumes nothing.
 use mathlib.Core.Path.{sym, _∙_}
 use borrow.Author.Needs.{needs}
 use borrow.Author.Tests.{not-true}

@@ -1,5 +1,4 @@
 -- `rulefile::inclusions::is_inclusion` meets its contract: a row that is there is an inclusion by its kind.
--- Assumes nothing.
 use mathlib.Core.Path.{sym, ap, _∙_}
 use Prim.Native.Nat.{ℕ}
 use native.Mathlib.Omega.{arith}
@@ -13,7 +12,8 @@ returns : tie.Need-returns
 returns c =
     let begun : tie.Start = search in
     let a = begun .args in
-    ap (λ (x : ℕ). eqb x 7) (c .row-byte .ensures) ∙ sym (inclusion-row (a .file .now) (a .k) (omega (arith, c .before .if1 .taken, c .before .before .row-count .ensures)))
+    ap (λ (x : ℕ). eqb x 7) (c .row-byte .ensures) ∙ sym
+    (inclusion-row (a .file .now) (a .k) (omega (arith, c .before .if1 .taken, c .before .before .row-count .ensures)))
 
 returns-2 : tie.Need-returns-2
 returns-2 c =

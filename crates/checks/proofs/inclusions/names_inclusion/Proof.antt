@@ -1,5 +1,4 @@
 -- `rulefile::inclusions::names_inclusion` meets its contract: at each variant the rows that are named are tested one by one.
--- Assumes nothing.
 use mathlib.Core.Path.{sym, ap, ap₂, _∙_}
 use mathlib.Core.Bool.{_||_}
 use borrow.Author.Needs.{needs}
@@ -28,7 +27,8 @@ returns-3 c =
     let begun : tie.Start = search in
     let a = begun .args in
     c .is-inclusion .ensures ∙ sym (or-nothing _)
-    ∙ sym (named-inclusion (a .file .now) (a .kinds) (a .k) (sym (c .before .before .before .before .row-at .ensures) ∙ ap namedBy (c .before .before .l .given .1)))
+    ∙ sym (named-inclusion (a .file .now) (a .kinds) (a .k)
+    (sym (c .before .before .before .before .row-at .ensures) ∙ ap namedBy (c .before .before .l .given .1)))
 
 returns-4 : tie.Need-returns-4
 unfolding any
@@ -36,7 +36,8 @@ returns-4 c =
     let begun : tie.Start = search in
     let a = begun .args in
     ap₂ _||_ (c .before .is-inclusion2 .ensures) (c .is-inclusion3 .ensures ∙ sym (or-nothing _))
-    ∙ sym (named-inclusion (a .file .now) (a .kinds) (a .k) (sym (c .before .before .before .before .before .row-at .ensures) ∙ ap namedBy (c .before .before .before .l2 .given .1)))
+    ∙ sym (named-inclusion (a .file .now) (a .kinds) (a .k)
+    (sym (c .before .before .before .before .before .row-at .ensures) ∙ ap namedBy (c .before .before .before .l2 .given .1)))
 
 pub names-inclusion-spec : {M : Type 1} → statement M
 names-inclusion-spec =

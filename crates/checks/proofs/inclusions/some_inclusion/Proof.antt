@@ -1,5 +1,4 @@
 -- `rulefile::inclusions::some_inclusion` meets its contract: the invariant is that no row below `k` is an inclusion.
--- Assumes nothing.
 use mathlib.Core.Path.{_≡_, sym, ap, _∙_}
 use Prim.Native.Nat.{ℕ, _≤_, _<_, _-_}
 use native.Mathlib.Omega.{arith}
@@ -42,7 +41,8 @@ loop-again c =
       l .inv .0,
       omega (arith, i .loop-test .taken),
       below-more _ (l .k) (l .inv .2)
-          (inclusion-row b (l .k) (omega (arith, i .loop-test .taken, l .inv .0)) ∙ ap (λ (x : ℕ). eqb x 7) (sym (c .before .row-byte .ensures)) ∙ ne-eqb _ 7 (c .if1 .left)),
+          (inclusion-row b (l .k) (omega (arith, i .loop-test .taken, l .inv .0)) ∙ ap (λ (x : ℕ). eqb x 7) (sym (c .before .row-byte .ensures))
+          ∙ ne-eqb _ 7 (c .if1 .left)),
     )
 
 returns-2 : tie.Need-returns-2 Inv-loop μ-loop
@@ -55,5 +55,7 @@ pub some-inclusion-spec : {M : Type 1} → statement M
 some-inclusion-spec =
     tie.close (tie.spec Inv-loop μ-loop
     (λ c κs. search needs) (λ c. search needs) (λ c. (c .row-count .ensures, omega arith, below-none _))
-    (λ c κs. let s : At tie.Start = search in let l : At tie.At-loop = search in (s .pre, omega (arith, c .loop-test .taken, l .loop .inv .0), omega arith)) returns
-    (λ c. let i : At tie.In-loop = search in omega (arith, i .loop-test .taken)) (λ c. let i : At tie.In-loop = search in omega (arith, i .loop-test .taken)) loop-again returns-2)
+    (λ c κs. let s : At tie.Start = search in let l : At tie.At-loop = search in
+    (s .pre, omega (arith, c .loop-test .taken, l .loop .inv .0), omega arith)) returns
+    (λ c. let i : At tie.In-loop = search in omega (arith, i .loop-test .taken))
+    (λ c. let i : At tie.In-loop = search in omega (arith, i .loop-test .taken)) loop-again returns-2)

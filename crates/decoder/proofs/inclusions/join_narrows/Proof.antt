@@ -14,7 +14,8 @@ use Rattle.decoder.proofs.inclusions.join_narrows.Statement.{statement}
 use Rattle.decoder.proofs.inclusions.join_narrows.Tie as tie
 
 abbrev Inv-loop : tie.InvT-loop
-Inv-loop out₀ narrow wide narrower code₀ out code = (narrower ≡ getD out₀ (narrowsAt + narrow) 0) × (code ≤ 32) × JoinsNarrows code narrow wide out₀ out
+Inv-loop out₀ narrow wide narrower code₀ out code = (narrower ≡ getD out₀ (narrowsAt + narrow) 0) × (code ≤ 32)
+    × JoinsNarrows code narrow wide out₀ out
 
 abbrev μ-loop : tie.MeasureT-loop
 μ-loop out₀ narrow wide narrower code₀ out code = 32 - code

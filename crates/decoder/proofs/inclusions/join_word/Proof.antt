@@ -15,7 +15,8 @@ use Rattle.decoder.proofs.inclusions.join_word.Tie as tie
 
 abbrev Inv-loop : tie.InvT-loop
 Inv-loop out₀ narrow wide j reached narrower code₀ out code =
-    (narrower ≡ getD out₀ (narrowsAt + narrow) 0) × (reached ≡ getD out₀ (rolePlace wide + j) 0) × (code ≤ 32) × JoinsWord j code narrow wide out₀ out
+    (narrower ≡ getD out₀ (narrowsAt + narrow) 0) × (reached ≡ getD out₀ (rolePlace wide + j) 0) × (code ≤ 32)
+    × JoinsWord j code narrow wide out₀ out
 
 abbrev μ-loop : tie.MeasureT-loop
 μ-loop out₀ narrow wide j reached narrower code₀ out code = 32 - code
