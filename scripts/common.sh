@@ -81,7 +81,7 @@ print_line() {
   { printf '%s\n' "$1"; } 2>/dev/null || fail "standard output can't be written"
 }
 
-# Its home is the header: 201 is version 0.2.1.
+# Its home is the header: 202 is version 0.2.2.
 version_of_header() {
   local number
   number=$(sed -n 's/^#define GUMBYRA_VERSION \([0-9]*\).*/\1/p' "$root/c/include/gumbyra.h") && [ -n "$number" ] || return 1

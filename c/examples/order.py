@@ -10,7 +10,7 @@ import struct
 import sys
 
 # As in gumbyra.h. The areas are nodes, edges, alternatives, elements and links.
-VERSION, CAN, EXAMPLE_TOO_LONG, NODES_SHORT, ALTERNATIVES_SHORT = 201, 1, 11, 13, 15
+VERSION, CAN, EXAMPLE_TOO_LONG, NODES_SHORT, ALTERNATIVES_SHORT = 202, 1, 11, 13, 15
 RECORD, USUAL, MOST_RECORDS, LONGEST_FILE = [64, 16, 16, 8, 6], [1024, 4096, 4096, 1024, 8192], 4096, 4096
 LAID_OUT = os.path.join(os.path.dirname(os.path.realpath(__file__)), "../../target/library/lib/libgumbyra.so")
 

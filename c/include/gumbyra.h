@@ -17,9 +17,9 @@
 extern "C" {
 #endif
 
-/* The version of this header, and that of the library: 10000 * major + 100 * minor + patch, so 201 is 0.2.1. A program goes with every
+/* The version of this header, and that of the library: 10000 * major + 100 * minor + patch, so 202 is 0.2.2. A program goes with every
    library that has the same major and minor number: GUMBYRA_VERSION / 100 == gumbyra_version() / 100. */
-#define GUMBYRA_VERSION 201
+#define GUMBYRA_VERSION 202
 uint32_t gumbyra_version(void);
 
 /* The sizes, in one enumeration: C++ wants no products of two. */

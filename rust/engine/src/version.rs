@@ -5,7 +5,7 @@ use crate::convention;
 /// The version of this crate. It links only with a library of the same first two numbers.
 pub const VERSION: &str = env!("CARGO_PKG_VERSION");
 
-/// The version of the library, as C programs get it: 10000 * major + 100 * minor + patch, so 201 is 0.2.1.
+/// The version of the library, as C programs get it: 10000 * major + 100 * minor + patch, so 202 is 0.2.2.
 ///
 /// ```
 /// let (major, minor) = (gumbyra::library_version() / 10_000, gumbyra::library_version() / 100 % 100);
