@@ -1,7 +1,6 @@
 -- What holds of a step's result, and how to reason about it.
 --
 -- In order: `Sure`; one step after another, and a loop; adding a record.
-use mathlib.Core.Bool.{true, false}
 use mathlib.Core.List.{List, [], _∷_}
 use Prim.Native.Nat.{ℕ, _<_}
 use lib.Dec.{T, ltb, ltb→lt}
@@ -9,7 +8,7 @@ use lib.ListN.{length}
 use Rattle.concepts.specs.Tests.{by-test}
 use Rattle.concepts.specs.RowSet.{RowSet}
 use Rattle.procedure.specs.Problem.{Problem}
-use Rattle.procedure.specs.Graph.{Node, Graph, Capacity, nodeArea, edgeArea, alternativeArea, Result, reached, noPlace, outOfFuel}
+use Rattle.procedure.specs.Graph.{Node, Graph, Capacity, Result, reached, noPlace, outOfFuel}
 use Rattle.procedure.specs.Graph.{_>>=_, forEach, appendNode, appendEdge, appendAlternative, addNode, addEdge, hasAlternative}
 use Rattle.procedure.specs.Graph.{addAlternative, nodeCount}
 use Rattle.procedure.proofs.States.{States}
@@ -49,23 +48,16 @@ module _ (P : Problem) where
     pub sure-addNode : (n : Node) (g : Graph) → States P g → (nodeCount g < c .nodeRoom → X (appendNode n g)) → Sure X (addNode c n g)
     unfolding addNode
     sure-addNode n g A h =
-        by-test (Sure X) (ltb (length (g .nodes)) (c .nodeRoom)) (reached (appendNode n g)) (noPlace nodeArea g)
-        (λ b. h (ltb→lt (length (g .nodes)) (c .nodeRoom) b)) (λ _. A)
+        by-test (Sure X) (ltb (length (g .nodes)) (c .nodeRoom)) _ _ (λ b. h (ltb→lt (length (g .nodes)) (c .nodeRoom) b)) (λ _. A)
 
     pub sure-addEdge : (x y : ℕ) (g : Graph) → States P g → X (appendEdge x y g) → Sure X (addEdge c x y g)
     unfolding addEdge
     sure-addEdge x y g A h =
-        by-test (Sure X) (ltb (length (g .edges)) (c .edgeRoom)) (reached (appendEdge x y g)) (noPlace edgeArea g) (λ _. h) (λ _. A)
+        by-test (Sure X) (ltb (length (g .edges)) (c .edgeRoom)) _ _ (λ _. h) (λ _. A)
 
     pub sure-addAlternative : (x : ℕ) (s : RowSet) (g : Graph) → States P g → (T (hasAlternative x s g) → X g) → X (appendAlternative x s g)
         → Sure X (addAlternative c x s g)
     unfolding addAlternative
     sure-addAlternative x s g A old new =
-        by-test (Sure X) (hasAlternative x s g) (reached g)
-        (elim (ltb (length (g .alternatives)) (c .alternativeRoom)) [
-          | true ↦ reached (appendAlternative x s g)
-          | false ↦ noPlace alternativeArea g
-        ])
-        old
-        (λ _. by-test (Sure X) (ltb (length (g .alternatives)) (c .alternativeRoom)) (reached (appendAlternative x s g)) (noPlace alternativeArea g)
-        (λ _. new) (λ _. A))
+        by-test (Sure X) (hasAlternative x s g) _ _ old
+        (λ _. by-test (Sure X) (ltb (length (g .alternatives)) (c .alternativeRoom)) _ _ (λ _. new) (λ _. A))
