@@ -1,8 +1,7 @@
 -- Verdicts carry over: what the engine says of a converted draft is true of the draft as its writer meant it.
 --
 -- In order: what is said of the draft (`SpeaksOf`); rows of a list that hold at an element; models of the draft and of the file; the theorem
--- (`verdict-of-draft`),
--- which joins the converter's promise with the engine's.
+-- (`verdict-of-draft`), which joins the converter's promise with the engine's.
 use mathlib.Core.Path.{_≡_, subst}
 use mathlib.Core.List.{List, List·Memᴰ}
 use Prim.Native.Nat.{ℕ, _<_}
