@@ -1,6 +1,6 @@
 // The calls of the archive `libgumbyra.a`, through the C convention: what each promises is what the function that it calls promises.
 //
-// They are the order program's: the engine's call, and the text of a rule file. Every other call is in `gumbyra_more`.
+// In order: the order program's, which are the engine's call and the text of a rule file; the converter's call. Every other is in `gumbyra_more`.
 ghost use mathlib.Core.Path.{_≡_};
 ghost use lib.ListN.{length, take};
 ghost use Rattle.decoding.specs.Decoding.{ruleKinds};
@@ -8,7 +8,10 @@ ghost use Rattle.rulefile.specs.Format.{textOf};
 ghost use Rattle.run.specs.Run.{areasOf};
 ghost use Rattle.run.specs.Promise.{Promise};
 ghost use Rattle.answers.specs.Numbers.{numbersOf};
+ghost use Rattle.drafts.specs.Promise as Drafts;
+ghost use Rattle.converter.specs.Contracts as Converter;
 use answers::Answer;
+use converter::Conversion;
 
 // Whether the kit that the rule file wants can exist: `engine::fit`.
 #[no_mangle]
@@ -34,4 +37,12 @@ pub extern "C" fn gumbyra_text(file: &[u8]) -> usize
     ensures { λ r. ⌜ (r ≡ length (textOf ruleKinds (now (file .entry)))) × (take r (now (file .entry)) ≡ textOf ruleKinds (now (file .entry))) ⌝ }
 {
     engine::text_length(file)
+}
+
+// The rule file that the draft becomes, written into the area: `converter::convert`.
+#[no_mangle]
+pub extern "C" fn gumbyra_convert(draft: &[u8], area: &mut [u8]) -> Conversion
+    ensures { λ r. ⌜ Drafts.ConversionPromise (now (draft .entry)) (now (area .entry)) (Converter.numbersOf r) (now (area .exit)) ⌝ }
+{
+    converter::convert(draft, area)
 }

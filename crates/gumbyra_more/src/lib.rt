@@ -1,6 +1,6 @@
 // The calls of the archive `libgumbyra_more.a`, through the C convention: what each promises is what the function that it calls promises.
 //
-// In order: the engine's call with several wanted rows; the text of a file that is read with them; the catalogue's call; the converter's call.
+// In order: the engine's call with several wanted rows; the text of a file that is read with them; the catalogue's call.
 // They are no calls of `gumbyra`, since what calls of one archive share is not inlined into each, and the order program's call would be
 // slower (docs/DECISIONS.md, D74).
 ghost use mathlib.Core.Path.{_≡_};
@@ -13,11 +13,8 @@ ghost use Rattle.run.specs.Promise.{PromiseFor};
 ghost use Rattle.subsumption.specs.Catalogue.{areasOf};
 ghost use Rattle.subsumption.specs.Promise.{CataloguePromise};
 ghost use Rattle.catalogue.specs.Contracts.{numbersOf};
-ghost use Rattle.drafts.specs.Promise as Drafts;
-ghost use Rattle.converter.specs.Contracts as Converter;
 use answers::Answer;
 use catalogue::Page;
-use converter::Conversion;
 
 // Whether a member of all the wanted rows can exist: `engine::fit_wanted`.
 #[no_mangle]
@@ -62,12 +59,4 @@ pub extern "C" fn gumbyra_catalogue(
         (areasOf (now (nodes .exit)) (now (edges .exit)) (now (alternatives .exit)) (now (table .exit))) ⌝ }
 {
     catalogue::classify(file, nodes, edges, alternatives, table)
-}
-
-// The rule file that the draft becomes, written into the area: `converter::convert`.
-#[no_mangle]
-pub extern "C" fn gumbyra_convert(draft: &[u8], area: &mut [u8]) -> Conversion
-    ensures { λ r. ⌜ Drafts.ConversionPromise (now (draft .entry)) (now (area .entry)) (Converter.numbersOf r) (now (area .exit)) ⌝ }
-{
-    converter::convert(draft, area)
 }
