@@ -12,7 +12,7 @@ import pathlib
 import sys
 
 ROOT = pathlib.Path(__file__).resolve().parent.parent
-VECTORS = ROOT / "tests" / "vectors" / "level-08.txt"
+VECTORS = ROOT / "tests" / "vectors" / "level-07.txt"
 CRATE = ROOT / "crates" / "refusals"
 FILE_CHECKS = ["1", "2", "3", "4", "5", "6", "7", "8", "16"]
 TRAILER = 8

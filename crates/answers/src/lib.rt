@@ -1,10 +1,11 @@
 // The answer of the engine as numbers: what its call gives back beside the areas, also through the C convention (01, Refusals; Areas; 02, [4]).
 //
 // In order: the numbers of an answer; those of a verdict; those of the refusals of an accepted file (1 to 8 and 16 are the reader's).
+#![tactic(auto)]
 
 // With a verdict the refusal is 0. With a refusal the verdict and the numbers after it are 0, but 11 gives the example's two counts, and 13, 14 and 15 how many records were lent.
 #[repr(C)]
-#[derive(Drop)]
+#[derive(Clone, Copy)]
 pub struct Answer {
     // 1 for "can", 2 for "cannot", 0 with a refusal.
     pub verdict: u32,

@@ -2,6 +2,8 @@
 //
 // In order: the names that are listed; the answer; what a run says that wants two rows; such answers in a row, and row after row; an accepted file; every file.
 // How the names are listed is in names.rt. Through the C convention the call is in `gumbyra_more`.
+#![tactic(auto)]
+
 ghost use Rattle.graph.specs.Graphs.{work, capacity_of};
 ghost use Rattle.decoding.specs.Decoding.{rule_kinds};
 ghost use Rattle.reader.specs.Read.{Laid};
@@ -20,7 +22,7 @@ use records::clear;
 pub mod names;
 
 // The names with both a kind 1 and a kind 2 row: name n as bit n, how many they are, and their rows in the order of names.
-#[derive(Drop)]
+#[derive(Clone, Copy)]
 pub struct Listed {
     pub names: u64,
     pub count: usize,
@@ -30,7 +32,7 @@ pub struct Listed {
 
 // The answer: a refusal, or 0 if the table is filled; how many names are listed, and which, name n as bit n: both 0 with a refusal.
 #[repr(C)]
-#[derive(Drop)]
+#[derive(Clone, Copy)]
 pub struct Page {
     pub refusal: u32,
     pub count: u32,

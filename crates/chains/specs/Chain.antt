@@ -1,7 +1,8 @@
 -- Chains through records that share a key, whatever the records: which comes next. Laws are in ChainLaws.
 --
 -- A number below 4,096 is the number of a record; any other says that there is none: no area has more records (01, Areas).
-use Rattle.std.specs.Prelude.{◌≡◌, true, false, List, [], ◌∷◌, ◌≢◌, ℕ, zero, suc, ◌+◌, ◌≤◌, ◌<◌, ltb}
+-- Assumes nothing.
+use Rattle.std.specs.Prelude.{◌≡◌, ◌≢◌, ℕ, zero, suc, ◌+◌, ◌≤◌, ◌<◌}
 use Rattle.words.specs.Sizes.{most_records}
 
 -- i is the first of the records from `from` on, below n, whose key is x; or there is none
@@ -14,30 +15,24 @@ pub record Last (key : ℕ → ℕ) (x n i : ℕ) : Type 0 where
   pub found : i < most_records → (i < n) × (key i ≡ x)
   pub greatest : (k : ℕ) → k < n → key k ≡ x → (k ≤ i) × (i < most_records)
 
--- of the n records those with a key below m are in chains: each has the next with its key, and each key the first record that has it
-pub record Chain (key next first : ℕ → ℕ) (m n : ℕ) : Type 0 where
+-- of n records with keys below m: each has the next with its key, and each key the first and the last record that have it
+pub record Chain (key next first last : ℕ → ℕ) (m n : ℕ) : Type 0 where
   pub few : n ≤ most_records
-  pub nexts : (i : ℕ) → i < n → key i < m → First key (key i) (i + 1) n (next i)
-  pub firsts : (x : ℕ) → x < m → First key x 0 n (first x)
-
--- each of the n records is in a chain, and each key below m has the last record that has it
-pub record Keyed (key last : ℕ → ℕ) (m n : ℕ) : Type 0 where
   pub keys : (i : ℕ) → i < n → key i < m
+  pub nexts : (i : ℕ) → i < n → First key (key i) (i + 1) n (next i)
+  pub firsts : (x : ℕ) → x < m → First key x 0 n (first x)
   pub lasts : (x : ℕ) → x < m → Last key x n (last x)
 
--- record n, the one after all others, was put at the end of the chain of x, behind record l, or as its first if there is no such record
-pub record Joined (next first next' first' : ℕ → ℕ) (l x n : ℕ) : Type 0 where
+-- record n, the one after all others, was put at the end of the chain of x
+pub record Joined (next first last next' first' last' : ℕ → ℕ) (x n : ℕ) : Type 0 where
   pub ends : most_records ≤ next' n
-  pub after : l < n → next' l ≡ n
-  pub nexts : (i : ℕ) → i < n → i ≢ l → next' i ≡ next i
-  pub begins : n ≤ l → first' x ≡ n
-  pub goes_on : l < n → first' x ≡ first x
+  pub after : last x < n → next' (last x) ≡ n
+  pub nexts : (i : ℕ) → i < n → i ≢ last x → next' i ≡ next i
+  pub begins : n ≤ last x → first' x ≡ n
+  pub goes_on : last x < n → first' x ≡ first x
   pub firsts : (y : ℕ) → y ≢ x → first' y ≡ first y
-
--- the records that are met from record i on, from each to its next; there are at most `fuel` of them
-unfoldable pub walked : (ℕ → ℕ) → ℕ → ℕ → List ℕ
-walked next zero i = []
-walked next (suc fuel) i = elim (ltb i most_records) [ true ↦ i ∷ walked next fuel (next i) | false ↦ [] ]
+  pub lastly : last' x ≡ n
+  pub lasts : (y : ℕ) → y ≢ x → last' y ≡ last y
 
 -- a place in the chain of x: its start, or the place behind one of its records
 abbrev pub Behind : (ℕ → ℕ) → ℕ → ℕ → Type 0

@@ -8,7 +8,8 @@ use Rattle.words.specs.Words.{put_le}
 use Rattle.words.specs.Sizes.{node_size, most_records}
 use Rattle.records.specs.Areas.{Fits, field, Within, Beside}
 use Rattle.records.specs.AreaLaws.{fits-before, within-put, within-beside, within_wider, within-then, beside-then, field_put}
-use Rattle.chains.specs.ChainLaws.{chain-empty, keyed-empty, chain_same, keyed-same, chain-key, keyed-key, chain-joined, keyed-joined}
+use Rattle.chains.specs.Chain.{Chain, Joined}
+use Rattle.chains.specs.ChainLaws.{chain_same, chain-key, chain-joined}
 use Rattle.chains.specs.Places.{number, key_in, next_in, first_in, last_in, ChainIn, Sits, Appended, Unused, Begun, Has}
 use Rattle.chains.specs.declared.Places.{Places}
 
@@ -61,9 +62,9 @@ module _ {p : Places} {n b : Bytes} {x i : ℕ} (H : Has p n b x i) where
           begins = λ h. absurd (omega arith);
           goes_on = λ _. W.beside p.first 2 (inl (omega arith)) in-first;
           firsts = λ y d. W.elsewhere y p.first 2 d in-first;
+          lastly = field_put node_size n x (p.first + 2) 2 i H.node.1 in-node small;
+          lasts = λ y d. W.elsewhere y (p.first + 2) 2 d in-node;
         };
-        lastly = field_put node_size n x (p.first + 2) 2 i H.node.1 in-node small;
-        lasts = λ y d. W.elsewhere y (p.first + 2) 2 d in-node;
         nodes = within_wider p.first (p.first + 4) (omega arith) (omega arith) W;
         area = beside-then (within-beside Q) (within-beside U);
       }
@@ -82,9 +83,9 @@ module _ {p : Places} {n b : Bytes} {x i : ℕ} (H : Has p n b x i) where
           begins = λ _. field_put node_size n₁ x p.first 2 i (omega (arith, W.long, H.node.1)) in-first small;
           goes_on = λ h. absurd (omega arith);
           firsts = λ y d. U.elsewhere y p.first 2 d in-first ∙ W.elsewhere y p.first 2 d in-first;
+          lastly = U.beside (p.first + 2) 2 (inr (omega arith)) in-node ∙ field_put node_size n x (p.first + 2) 2 i H.node.1 in-node small;
+          lasts = λ y d. U.elsewhere y (p.first + 2) 2 d in-node ∙ W.elsewhere y (p.first + 2) 2 d in-node;
         };
-        lastly = U.beside (p.first + 2) 2 (inr (omega arith)) in-node ∙ field_put node_size n x (p.first + 2) 2 i H.node.1 in-node small;
-        lasts = λ y d. U.elsewhere y (p.first + 2) 2 d in-node ∙ W.elsewhere y (p.first + 2) 2 d in-node;
         nodes = within-then (within_wider p.first (p.first + 4) (omega arith) (omega arith) W)
             (within_wider p.first (p.first + 4) (omega arith) (omega arith) U);
         area = within-beside Q;
@@ -125,24 +126,12 @@ begun {p} {n} {x} S fits =
 
 -- ---- a chain where other bytes change
 
--- numbers that stay the same
-chain-in-same : {p : Places} {n n' b b' : Bytes} {m k : ℕ}
-    → ((i : ℕ) → i < k → key_in p b' i ≡ key_in p b i)
-    → ((i : ℕ) → i < k → next_in p b' i ≡ next_in p b i)
-    → ((x : ℕ) → x < m → first_in p n' x ≡ first_in p n x)
-    → ((x : ℕ) → x < m → last_in p n' x ≡ last_in p n x)
-    → ChainIn p n b m k → ChainIn p n' b' m k
-chain-in-same k p f l C = record { chain = chain_same k p f C.chain; keyed = keyed-same k l C.keyed }
-
-pub chain-none : (p : Places) (n b : Bytes) → ChainIn p n b 0 0
-chain-none p n b = record { chain = chain-empty (λ x h. absurd (omega arith)); keyed = keyed-empty _ _ }
-
 module _ {p : Places} (S : Sits p) {n n' b b' : Bytes} {m k : ℕ} where
   pub chain-beside : {lo hi lo' hi' : ℕ} → Beside node_size lo hi n n' → Beside p.size lo' hi' b b'
       → (p.first + 4 ≤ lo) ⊎ (hi ≤ p.first) → (p.key + 2 ≤ lo') ⊎ (hi' ≤ p.key) → (p.next + 2 ≤ lo') ⊎ (hi' ≤ p.next)
       → ChainIn p n b m k → ChainIn p n' b' m k
   chain-beside N B f i j C =
-      chain-in-same
+      chain_same
       (λ z _. B.kept z p.key 2 i S.in-key)
       (λ z _. B.kept z p.next 2 j S.in-next)
       (λ z _. N.kept z p.first 2 (elim f [ inl l ↦ inl (omega arith) | inr l ↦ inr l ]) (omega (arith, S.in-node)))
@@ -152,18 +141,19 @@ module _ {p : Places} (S : Sits p) {n n' b b' : Bytes} {m k : ℕ} where
   -- a record more
   pub chain-appended : {x : ℕ} → ChainIn p n b m k → key_in p b k ≡ x → x < m → k < most_records → Appended p n n' b b' k x
       → ChainIn p n' b' m (k + 1)
-  chain-appended {x} C e h l J =
-      let keys : (z : ℕ) → z < k + 1 → key_in p b' z ≡ key_in p b z = λ z _. J.area.kept z p.key 2 S.apart S.in-key in
-      record {
-        chain = chain_same keys (λ _ _. refl) (λ _ _. refl) (chain-joined e (C.keyed.lasts x h) C.chain h l J.joined);
-        keyed = keyed-same keys (λ _ _. refl) (keyed-joined C.keyed e h l J.lastly J.lasts);
-      }
+  chain-appended C e h l J =
+      chain_same
+      (λ z _. J.area.kept z p.key 2 S.apart S.in-key)
+      (λ _ _. refl)
+      (λ _ _. refl)
+      (λ _ _. refl)
+      (chain-joined C e h l J.joined)
 
 -- a record past the last of all changes
 pub chain-past : {p : Places} → Sits p → (n : Bytes) {b b' : Bytes} {m k lo hi : ℕ} → Within p.size k lo hi b b' → ChainIn p n b m k
     → ChainIn p n b' m k
 chain-past {p} S n B C =
-    chain-in-same
+    chain_same
     (λ z l. B.elsewhere z p.key 2 (omega arith) S.in-key)
     (λ z l. B.elsewhere z p.next 2 (omega arith) S.in-next)
     (λ _ _. refl)
@@ -173,11 +163,13 @@ chain-past {p} S n B C =
 -- a node more, which has no record
 pub chain-blank : {p : Places} → Sits p → (b : Bytes) {n n' : Bytes} {m k lo hi : ℕ} → Within node_size m lo hi n n' → Unused p n' m
     → ChainIn p n b m k → ChainIn p n' b (m + 1) k
-chain-blank {p} S b {n} {n'} {m} {k} new (f, l) C =
-    let D : ChainIn p n' b m k = chain-in-same
+chain-blank {p} S b new (f, l) C =
+    chain-key
+    (chain_same
     (λ _ _. refl)
     (λ _ _. refl)
     (λ z h. new.elsewhere z p.first 2 (omega arith) (omega (arith, S.in-node)))
     (λ z h. new.elsewhere z (p.first + 2) 2 (omega arith) (omega (arith, S.in-node)))
-    C in
-    record { chain = chain-key D.keyed D.chain (omega arith); keyed = keyed-key D.keyed (omega arith) }
+    C)
+    (omega arith)
+    (omega arith)

@@ -1,11 +1,11 @@
 -- Where a chain keeps its numbers, in bytes behind the extents of the records, and what code writes there. Laws are in PlaceLaws.
 --
 -- In order: a chain in two areas; the end of a chain; a node with no records; what a step along a chain relies on.
-use Rattle.std.specs.Prelude.{◌≡◌, ◌≢◌, ◌⊎◌, ℕ, ◌+◌, ◌≤◌}
+use Rattle.std.specs.Prelude.{◌≡◌, ◌⊎◌, ℕ, ◌+◌, ◌≤◌}
 use Rattle.concepts.specs.Lists.{Bytes}
 use Rattle.words.specs.Sizes.{node_size, most_records}
 use Rattle.records.specs.Areas.{Fits, field, Within, Beside}
-use Rattle.chains.specs.Chain.{Chain, Keyed, Joined}
+use Rattle.chains.specs.Chain.{Chain, Joined}
 use Rattle.chains.specs.declared.Places.{Places}
 
 -- the number of 2 bytes at place o of record i
@@ -26,9 +26,8 @@ abbrev pub last_in : Places → Bytes → ℕ → ℕ
 last_in p n = number node_size (p.first + 2) n
 
 -- the first k records of b are in chains, whose keys are the first m nodes of n
-pub record ChainIn (p : Places) (n b : Bytes) (m k : ℕ) : Type 0 where
-  pub chain : Chain (key_in p b) (next_in p b) (first_in p n) m k
-  pub keyed : Keyed (key_in p b) (last_in p n) m k
+abbrev pub ChainIn : Places → Bytes → Bytes → ℕ → ℕ → Type 0
+ChainIn p n b m k = Chain (key_in p b) (next_in p b) (first_in p n) (last_in p n) m k
 
 -- the places are in the records, each with bytes of its own
 pub record Sits (p : Places) : Type 0 where
@@ -39,9 +38,7 @@ pub record Sits (p : Places) : Type 0 where
 
 -- record i was put at the end of the chain of node x
 pub record Appended (p : Places) (n n' b b' : Bytes) (i x : ℕ) : Type 0 where
-  pub joined : Joined (next_in p b) (first_in p n) (next_in p b') (first_in p n') (last_in p n x) x i
-  pub lastly : last_in p n' x ≡ i
-  pub lasts : (y : ℕ) → y ≢ x → last_in p n' y ≡ last_in p n y
+  pub joined : Joined (next_in p b) (first_in p n) (last_in p n) (next_in p b') (first_in p n') (last_in p n') x i
   pub nodes : Within node_size x p.first (p.first + 4) n n'
   pub area : Beside p.size p.next (p.next + 2) b b'
 

@@ -2,6 +2,8 @@
 //
 // In order: where a chain keeps its numbers; a node with no records; a record more; from one record to the next.
 // So a record is added at once, and going through those of a node costs what there is.
+#![tactic(auto)]
+
 ghost use Rattle.std.specs.Prelude.{◌≡◌, ◌≤◌};
 ghost use Rattle.words.specs.Sizes.{node_size};
 ghost use Rattle.records.specs.Areas.{room_of, Fits};
@@ -13,7 +15,7 @@ use words::{get2, put2};
 
 // Where a chain keeps its numbers of 2 bytes: in a record of `size` bytes the node that it belongs to (`key`) and the next record of that node,
 // in the node's record the first and, behind it, the last.
-#[derive(Drop)]
+#[derive(Clone, Copy)]
 pub struct Places {
     pub size: usize,
     pub key: usize,

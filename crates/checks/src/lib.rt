@@ -3,6 +3,8 @@
 // In order: the trailer, a row's bytes and a rule; checks 1 to 4; what checks 5 to 8 look for in a row or rule; the search for it; check by check.
 // Rows of kind 7, and where they serve, are in `inclusions`. Which kinds of rows are allowed is a parameter, `kinds`, as in `decoding`. Which rows are
 // wanted is another, `wanted`.
+#![tactic(auto)]
+
 ghost use Rattle.std.specs.Prelude.{◌≡◌, List, ℕ, ◌+◌, ◌*◌, ◌≤◌, ◌<◌, leb, length};
 ghost use Rattle.concepts.specs.Lists.{any};
 ghost use Rattle.decoding.specs.Decoding.{Kinds};
@@ -18,7 +20,7 @@ use rulefile::{LONGEST, MOST_ROWS, MOST_RULES, ROW, TRAILER};
 pub mod inclusions;
 
 // What check 5, 6, 7 and 8 looks for in each row or rule.
-#[derive(Drop)]
+#[derive(Clone, Copy)]
 enum Finding {
     Malformed,
     Argument,

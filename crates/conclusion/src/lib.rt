@@ -2,6 +2,8 @@
 //
 // In order: a verdict; a decision; how many records are lent; whether an example fits; whether a status of the root says "can";
 // the verdict of a run, with no example; the example; the decision.
+#![tactic(auto)]
+
 ghost use Rattle.std.specs.Prelude.{◌≡◌, ◌&&◌, ◌*◌, leb};
 ghost use Rattle.words.specs.Sizes.{set_size, link_size};
 ghost use Rattle.records.specs.Codes.{status_of};
@@ -22,7 +24,7 @@ use words::sizes::{ALTERNATIVE_BYTES, EDGE_BYTES, LINK_BYTES, NODE_BYTES, SET_BY
 use writing::write_example;
 
 // A record found no place in an area; "cannot" or "can", with the records used.
-#[derive(Drop)]
+#[derive(Clone, Copy)]
 pub enum Verdict {
     Short(Area),
     Cannot(Counts),
@@ -31,7 +33,7 @@ pub enum Verdict {
 
 // A record found no place in an area, where so many count as lent; "cannot", with the records used; "can", with these and the example's sizes;
 // "can", and an example area is too short.
-#[derive(Drop)]
+#[derive(Clone, Copy)]
 pub enum Decision {
     Short(Area, usize),
     Cannot(Counts),

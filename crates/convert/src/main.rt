@@ -1,6 +1,8 @@
 // The program that converts: reads one draft from standard input and writes the rule file that it becomes, or one line `REFUSED n` (02, [1]).
 //
 // In order: the sizes of what is read and of what is written; what is written; the program.
+#![tactic(auto)]
+
 ghost use Rattle.convert.specs.Output.{Outputs};
 
 use converter::convert;

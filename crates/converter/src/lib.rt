@@ -1,6 +1,8 @@
 // The converter of drafts (02, [1] and [6]): a draft and one lent area in, a rule file in the area and the answer out.
 //
 // In order: the answer; a refusal; a file that fits is written; an accepted draft; the call.
+#![tactic(auto)]
+
 ghost use Rattle.std.specs.Prelude.{◌≡◌};
 ghost use Rattle.decoding.specs.Decoding.{draft_kinds};
 ghost use Rattle.reader.specs.Read.{Laid};
@@ -15,7 +17,7 @@ use rulefile::{LONGEST, MOST_ROWS, MOST_RULES, ROW, TRAILER};
 
 // The refusal's number and 0, or 0 and the length of the file that is written.
 #[repr(C)]
-#[derive(Drop)]
+#[derive(Clone, Copy)]
 pub struct Conversion {
     // 1 to 8 and 16: a check refuses the draft; 12: the result is too large. 0 with a file.
     pub refusal: u32,

@@ -2,6 +2,8 @@
 //
 // In order: the rows written; the counts, and lists of rows; decoding, of parts and of an accepted file; other wanted rows, other rules.
 // How the inclusions are written is in inclusions.rt.
+#![tactic(auto)]
+
 ghost use Rattle.std.specs.Prelude.{◌≡◌, cond, ◌+◌, ◌*◌, ◌≤◌, ◌<◌, length, set};
 ghost use Rattle.concepts.specs.RowSet.{empty, from_list};
 ghost use Rattle.decoding.specs.Decoding.{rule_kinds};

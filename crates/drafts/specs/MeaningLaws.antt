@@ -3,7 +3,7 @@
 use Rattle.std.specs.Prelude.{◌≡◌, ◌↔◌, ℕ}
 use Rattle.std.proofs.Common.{sym, ap, subst}
 use Rattle.std.proofs.Math.Path.{transport}
-use Rattle.std.proofs.Math.Logic.{Iff·trans}
+use mathlib.Core.Logic.Iff
 use Rattle.concepts.specs.Begins.{Begins, begins-trans}
 use Rattle.concepts.specs.Concept.{Concept, Table, concept_at, Ordered, NoInclusion}
 use Rattle.meaning.specs.Meaning.{World, finite, Means, Holds}
@@ -47,16 +47,16 @@ module _ (W : World) (t : Table) (ordered : Ordered t) where
   meant-step s k σ n e = by_shape σ (λ u. subst (Says s k u) e (shape-means W Row (Holds (finite W) u) (holds-decided W t) (concept_at t k) s n))
     where
       by_shape : (σ : Shape) → ((u : Table) → Says s k u σ) → GrownStep t ordered Meant s k σ
-      by_shape (literal c) M = λ out u o b d. Iff·trans (shared-means (share-gives c out) u o b d) (Iff·trans (M u d) (by-clause s k d))
-      by_shape (other z l) M = λ out p H u o b d. Iff·trans (H u o b d) (Iff·trans (M u d) (by-clause s k d))
+      by_shape (literal c) M = λ out u o b d. Iff.trans (shared-means (share-gives c out) u o b d) (Iff.trans (M u d) (by-clause s k d))
+      by_shape (other z l) M = λ out p H u o b d. Iff.trans (H u o b d) (Iff.trans (M u d) (by-clause s k d))
       by_shape (unary make z l) M = λ out p G H u o b d.
           let S = share-gives (make p.at) p.rows in
-          Iff·trans (shared-means S u o b d) (Iff·trans (M u p.at (H u o (begins-trans p.rows _ u S.more b)) d) (by-clause s k d))
+          Iff.trans (shared-means S u o b d) (Iff.trans (M u p.at (H u o (begins-trans p.rows _ u S.more b)) d) (by-clause s k d))
       by_shape (binary make z l y r) M = λ out p q G H F K u o b d.
           let S = share-gives (make p.at q.at) q.rows in
           let right : Begins q.rows u = begins-trans q.rows _ u S.more b in
           let left : Begins p.rows u = begins-trans p.rows q.rows u F.more right in
-          Iff·trans (shared-means S u o b d) (Iff·trans (M u p.at q.at (H u o left) (K u o right) d) (by-clause s k d))
+          Iff.trans (shared-means S u o b d) (Iff.trans (M u p.at q.at (H u o left) (K u o right) d) (by-clause s k d))
 
   pub put-means : Idle t → (s : Sign) (k : ℕ) (out : Table) → NoInclusion t k → (u : Table) → Ordered u → Begins (put t s k out).rows u
       → MeansRow s k u (put t s k out).at

@@ -5,7 +5,9 @@
 -- Assumes nothing.
 use Rattle.std.specs.Prelude.{Bool, not, ◌↔◌, ◌⊎◌, ℕ, ◌<◌, T}
 use Rattle.std.proofs.Math.Bool.{true, false}
-use Rattle.std.proofs.Math.Logic.{Iff·rfl, Iff·symm, Iff·trans, Iff·and, ⊎_map, by_cases, Dec·not-not}
+use Rattle.std.proofs.Math.Logic.{⊎_map, by_cases}
+use mathlib.Core.Logic.Dec
+use mathlib.Core.Logic.Iff
 use Rattle.std.proofs.Common.{inl, inr, ⊎_elim, T_not}
 use Rattle.std.proofs.Math.Dec.{not_T}
 use Rattle.concepts.specs.Concept.{Concept, atomic, negated, conj, disj, univ, exist, inclusion, neg, impl, is_inclusion}
@@ -39,10 +41,10 @@ module _ {A B : Type 0} where
   either-if p = (⊎_elim (λ x a. absurd (x a)) (λ b _. b), λ f. by_cases p (λ a. inr (f a)) inl)
 
   not-if : Dec A → (A × (B → ⊥)) ↔ ((A → B) → ⊥)
-  not-if p = (λ (a, y) f. y (f a), λ f. ((Dec·not-not p).0 (λ x. f (λ a. absurd (x a))), λ b. f (λ _. b)))
+  not-if p = (λ (a, y) f. y (f a), λ f. ((Dec.not-not p).0 (λ x. f (λ a. absurd (x a))), λ b. f (λ _. b)))
 
 not-both : {A B : Type 0} → Dec A → ((A → ⊥) ⊎ (B → ⊥)) ↔ (A × B → ⊥)
-not-both p = Iff·trans (either-if p) (λ f (a, b). f a b, λ f a b. f (a, b))
+not-both p = Iff.trans (either-if p) (λ f (a, b). f a b, λ f a b. f (a, b))
 
 module _ {R P : ℕ → Type 0} where
   not_some : {E : ℕ → Type 0} → ((e : ℕ) → E e → R e → P e → ⊥) ↔ (((e : ℕ) × E e × R e × P e) → ⊥)
@@ -77,20 +79,20 @@ module _ (W : World) (G H : ℕ → ℕ → Type 0) where
     -- a role inclusion holds at no element, and has no opposite
     pub shape-means : (c : Concept) (s : Sign) → T (not (is_inclusion c)) → ShapeMeans c s (shape c s)
     unfolding shape
-    shape-means (atomic a) true _ = λ _. Iff·rfl
+    shape-means (atomic a) true _ = λ _. Iff.rfl
     shape-means (atomic a) false _ = λ d. (T_not (W.named a d), not_T (W.named a d))
-    shape-means (negated a) true _ = λ _. Iff·rfl
+    shape-means (negated a) true _ = λ _. Iff.rfl
     shape-means (negated a) false _ = λ d. not-T-not (W.named a d)
-    shape-means (conj l r) true _ = λ _ _ p q d. Iff·and (p d) (q d)
-    shape-means (conj l r) false _ = λ _ _ p q d. Iff·trans (either_same (p d) (q d)) (not-both (decided l d))
+    shape-means (conj l r) true _ = λ _ _ p q d. Iff.and (p d) (q d)
+    shape-means (conj l r) false _ = λ _ _ p q d. Iff.trans (either_same (p d) (q d)) (not-both (decided l d))
     shape-means (disj l r) true _ = λ _ _ p q d. either_same (p d) (q d)
-    shape-means (disj l r) false _ = λ _ _ p q d. Iff·trans (Iff·and (p d) (q d)) not-either
+    shape-means (disj l r) false _ = λ _ _ p q d. Iff.trans (Iff.and (p d) (q d)) not-either
     shape-means (univ ρ l) true _ = λ _ p _. all_same p
-    shape-means (univ ρ l) false _ = λ _ p d. Iff·trans (some_same p) (not-all W.size (λ e. T-decided (leads (finite W) ρ d e)) (decided l))
+    shape-means (univ ρ l) false _ = λ _ p d. Iff.trans (some_same p) (not-all W.size (λ e. T-decided (leads (finite W) ρ d e)) (decided l))
     shape-means (exist ρ l) true _ = λ _ p _. some_same p
-    shape-means (exist ρ l) false _ = λ _ p _. Iff·trans (all_same p) not_some
+    shape-means (exist ρ l) false _ = λ _ p _. Iff.trans (all_same p) not_some
     shape-means (inclusion ρ σ) s i = absurd i
-    shape-means (neg l) true _ = λ _. Iff·rfl
-    shape-means (neg l) false _ = λ d. Iff·symm (Dec·not-not (decided l d))
-    shape-means (impl l r) true _ = λ _ _ p q d. Iff·trans (either_same (p d) (q d)) (either-if (decided l d))
-    shape-means (impl l r) false _ = λ _ _ p q d. Iff·trans (Iff·and (p d) (q d)) (not-if (decided l d))
+    shape-means (neg l) true _ = λ _. Iff.rfl
+    shape-means (neg l) false _ = λ d. Iff.symm (Dec.not-not (decided l d))
+    shape-means (impl l r) true _ = λ _ _ p q d. Iff.trans (either_same (p d) (q d)) (either-if (decided l d))
+    shape-means (impl l r) false _ = λ _ _ p q d. Iff.trans (Iff.and (p d) (q d)) (not-if (decided l d))

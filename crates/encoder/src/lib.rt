@@ -1,6 +1,8 @@
 // The bytes of a rule file (01, The rule file: "text, rows, rule list, trailer"), written from its parts into an area that is lent.
 //
 // In order: bytes, a word, the rows, the trailer, the file.
+#![tactic(auto)]
+
 ghost use Rattle.std.specs.Prelude.{◌≡◌, ◌+◌, ◌≤◌, length};
 ghost use Rattle.std.proofs.lemmas.List.Edits.{sets};
 ghost use Rattle.words.specs.Words.{overwrite};

@@ -13,7 +13,7 @@ use conclusion::{Verdict, verdict_of};
 use decoder::{impose, want};
 
 // A record found no place; "cannot"; "can".
-#[derive(Drop)]
+#[derive(Clone, Copy)]
 pub enum Said {
     Short,
     Cannot,

@@ -3,6 +3,8 @@
 //
 // In order: the answer's numbers; an accepted file; every file, with wanted rows that are given and with its own; the text of a file, likewise.
 // Runs with no example, for whoever asks often of one file, are in asking.rt.
+#![tactic(auto)]
+
 ghost use Rattle.std.specs.Prelude.{◌≡◌, ◌≤◌, length, take};
 ghost use Rattle.answers.specs.Numbers.{numbers_of};
 ghost use Rattle.rulefile.specs.Format.{text_for, text_of};

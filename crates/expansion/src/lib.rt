@@ -1,6 +1,8 @@
 // The expansion of a node over lent areas (01, The procedure).
 //
 // In order: what the root puts; what another state puts; the children of a state, of a node without an unfinished kind 3 row, of any node; the whole expansion.
+#![tactic(auto)]
+
 ghost use Rattle.std.specs.Prelude.{◌≡◌, ◌≢◌, ◌+◌, ◌≤◌, ◌<◌, length};
 ghost use Rattle.concepts.specs.RowSet as Set;
 ghost use Rattle.words.specs.Sizes.{set_size, width};

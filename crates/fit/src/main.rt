@@ -1,6 +1,8 @@
 // The program: reads one rule file from standard input and prints what the engine answers (01, Known runs).
 //
 // What is printed is `report`'s: here bytes are only read and written.
+#![tactic(auto)]
+
 use libc::{STDIN_FILENO, STDOUT_FILENO};
 use report::{TEXT, report};
 

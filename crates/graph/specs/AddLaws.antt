@@ -1,32 +1,25 @@
 -- Laws of Graphs: a step that adds a record, with its place in the chains.
 --
 -- In order: a node more; an edge more; an alternative more. Each has a law for a record that finds its place, and one for none.
-use Rattle.std.specs.Prelude.{◌≡◌, Bool, ◌&&◌, List, [], ◌∷◌, ◌⊎◌, ℕ, ◌+◌, ◌≤◌, ◌<◌, length}
+use Rattle.std.specs.Prelude.{◌≡◌, Bool, true, false, List, [], ◌∷◌, ℕ, ◌+◌, ◌≤◌, ◌<◌, ltb, length}
 use Rattle.std.proofs.Math.Path.{refl, sym, ap}
 use Rattle.std.proofs.Common.{◌∙◌, lt-ltb, le-ltb, length-append}
-use Rattle.std.proofs.Math.Bool.{true, false}
-use Rattle.std.proofs.Math.Logic.{inl, inr}
 use Rattle.std.proofs.Math.Decide.{dec_lt}
 use native.Mathlib.Omega.{arith}
-use Rattle.std.proofs.Math.Dec.{ltb}
 use Rattle.concepts.specs.Lists.{Bytes}
 use Rattle.concepts.specs.RowSet.{RowSet}
-use Rattle.concepts.specs.Tests.{impossible, and-nothing, picks_first, picks_second}
+use Rattle.concepts.specs.Tests.{impossible, picks_first, picks_second}
 use Rattle.procedure.specs.Graph as G
 use Rattle.words.specs.Sizes.{node_size, edge_size, alternative_size}
-use Rattle.records.specs.Areas.{room_of, records_in, Stored, Beside}
-use Rattle.records.specs.AreaLaws.{records-append, records-same, stored-then, within-beside, beside-refl, beside-wider, beside-then}
-use Rattle.records.specs.Layout.{node_extent, node_chains, alternatives_at, next_state_at, edge_chains, edge_free}
-use Rattle.records.specs.Records.{node_in, edge_in, EdgeWritten, alternative_of, alternative_in, AlternativeWritten}
+use Rattle.records.specs.Areas.{room_of, records_in, Stored}
+use Rattle.records.specs.AreaLaws.{records-append, records-same, stored-then, within-beside, within_wider, within-then, beside-wider, beside-then}
+use Rattle.records.specs.Layout.{node_chains, alternatives_at, node_free, edge_chains, edge_free}
+use Rattle.records.specs.Records.{node_in, NodeWritten, edge_in, EdgeWritten, alternative_of, alternative_in, AlternativeWritten}
 use Rattle.records.specs.RecordLaws.{node-beside, edge_beside, alternative-beside}
-use Rattle.chains.specs.Places.{Appended}
-use Rattle.lookup.specs.Mix.{place_of}
-use Rattle.lookup.specs.Index.{Index, next_in, is_entered, place_in, Indexed, SpotFor, Entered}
-use Rattle.lookup.specs.IndexLaws.{place-entered, place-of-node, indexed-same, indexed-beyond, indexed-entered}
-use Rattle.lookup.specs.declared.Spot.{Spot}
-use Rattle.graph.specs.Chains.{child_places, parent_places, alternative_places, NodeMade, more_nodes, more_edges, more_alternatives}
-use Rattle.graph.specs.ChainsLaws.{chained-behind, chained-node, chained-edge, chained-alternative}
-use Rattle.graph.specs.Graphs.{Work, work, graph_in, graph_of, capacity_of, Held, Refines, AddsNode, AddsState, AddsEdge, AddsAlternative}
+use Rattle.chains.specs.Places.{Appended, Begun}
+use Rattle.graph.specs.Chains.{child_places, parent_places, alternative_places, more_nodes, more_edges, more_alternatives}
+use Rattle.graph.specs.ChainsLaws.{chained-node, chained-edge, chained-alternative}
+use Rattle.graph.specs.Graphs.{Work, work, graph_of, capacity_of, AddsNode, AddsEdge, AddsAlternative}
 use Rattle.graph.specs.GraphLaws.{grown-refl, sized-refl, count-nodes, count-edges, count-alternatives}
 use Rattle.graph.specs.declared.Counts.{Counts}
 use Rattle.graph.specs.declared.Area.TheVariants.{Nodes, Edges, Alternatives}
@@ -59,87 +52,39 @@ added-count w c v k w' d p =
     omega (arith, count-nodes w c, count-nodes w' d)
 
 graph-append-node : {n n' : Bytes} (c : Counts) (v : G.Node) → Stored node_in n n' c.nodes v → (e a : Bytes)
-    → graph_in n' e a (more_nodes c) ≡ G.append_node v (graph_in n e a c)
-unfolding graph_in
+    → graph_of (work n' e a) (more_nodes c) ≡ G.append_node v (graph_of (work n e a) c)
+unfolding graph_of
 graph-append-node c v s e a =
     ap (λ (ns : List G.Node). record { nodes = ns; edges = records_in edge_in e c.edges; alternatives = records_in alternative_in a c.alternatives })
     (records-append node_in s)
 
--- the record of a node more, and what followed it beside the nodes, with what is known of the index then
-module _ {n n₁ : Bytes} (c : Counts) {v : G.Node} (M : NodeMade n n₁ c.nodes v) (l : c.nodes < room_of node_size n) where
-  -- the nodes that were there are entered where they were
-  pub made-places : (x : ℕ) → x < c.nodes → place_in n₁ x ≡ place_in n x
-  made-places x h = place-of-node n n₁ x (M.stored.others x (omega arith))
-
-  pub made-nexts : (x : ℕ) → x < c.nodes → next_in n₁ x ≡ next_in n x
-  made-nexts x h = M.within.elsewhere x next_state_at 2 (omega arith) (omega arith)
-
-  made-done : {n' : Bytes} {lo hi : ℕ} → Beside node_size lo hi n₁ n' → next_state_at ≤ lo → {t t' : Index} → Indexed n' t' (c.nodes + 1)
-      → (e a : Bytes) → Held (work n e a t) c → Refines (work n e a t) c (Done (more_nodes c)) (work n' e a t') (λ k g. G.add_node k v g)
-  made-done {n'} B s {t} I e a h =
-      let u : Stored node_in n n' c.nodes v = stored-then node_in M.stored B.long (node-beside (omega arith) B) in
+module _ {n n' : Bytes} (c : Counts) (v : G.Node) where
+  pub add-node-done : {n₂ n₃ n₄ : Bytes} → NodeWritten n n' c.nodes v
+      → Begun child_places n' n₂ c.nodes → Begun parent_places n₂ n₃ c.nodes → Begun alternative_places n₃ n₄ c.nodes
+      → c.nodes < room_of node_size n → AddsNode n n₄ c (Done (more_nodes c)) (λ k g. G.add_node k v g)
+  add-node-done W X Y Z l e a h =
+      let B = within-beside (within-then (within_wider node_chains node_free (omega arith) (omega arith) X.within)
+      (within-then (within_wider node_chains node_free (omega arith) (omega arith) Y.within)
+      (within_wider node_chains node_free (omega arith) (omega arith) Z.within))) in
+      let t = stored-then node_in W.stored B.long (node-beside (omega arith) B) in
       record {
-        meets = ap G.reached (graph-append-node c v u e a)
-            ∙ sym (node-room (capacity_of (work n e a t)) v (graph_in n e a c) (omega (arith, count-nodes (work n e a t) c)));
+        meets = ap G.reached (graph-append-node c v t e a)
+            ∙ sym (node-room (capacity_of (work n e a)) v (graph_of (work n e a) c) (omega (arith, count-nodes (work n e a) c)));
         held = (
-          record {
-            nodes = omega (arith, u.size);
-            edges = h.edges;
-            alternatives = h.alternatives;
-            chains = chained-behind (chained-node h.chains M) B s;
-            index = I;
-          },
+          record { nodes = omega (arith, t.size); edges = h.edges; alternatives = h.alternatives; chains = chained-node h.chains W.within X Y Z },
           record { nodes = omega arith; edges = omega arith; alternatives = omega arith },
         );
-        sized = record { nodes = u.size; edges = refl; alternatives = refl };
+        sized = record { nodes = t.size; edges = refl; alternatives = refl };
       }
 
-  -- a node that is no state, or the first: it is not entered
-  pub add-node-done : (v.is_state ≡ false) ⊎ (c.nodes ≡ 0) → AddsNode n n₁ c (Done (more_nodes c)) (λ k g. G.add_node k v g)
-  unfolding is_entered
-  add-node-done out e a t h =
-      let none : is_entered n₁ c.nodes ≡ false = elim out [
-        | inl f ↦ ap (λ (b : Bool). ltb 0 c.nodes && b) (ap (λ (u : G.Node). u.is_state) M.stored.here ∙ f) ∙ and-nothing (ltb 0 c.nodes)
-        | inr z ↦ ap (λ (b : Bool). b && (node_in n₁ c.nodes).is_state) (le-ltb 0 c.nodes (omega arith))
-      ] in
-      made-done (beside-refl {lo = next_state_at} {hi = next_state_at}) (omega arith)
-      (indexed-beyond (indexed-same h.index made-places made-nexts) (omega arith) none) e a h
-
-  -- a state that is not the first: it is entered at its spot
-  pub add-state-done : v.is_state ≡ true → 0 < c.nodes → {n' : Bytes} {t t' : Index} {spot : Spot} → SpotFor n c.nodes v.rows spot
-      → Entered n₁ n' t t' c.nodes spot → AddsState n n' t t' c (Done (more_nodes c)) (λ k g. G.add_node k v g)
-  unfolding is_entered
-  add-state-done is some {t = t} S E e a h =
-      let entered : is_entered n₁ c.nodes ≡ true =
-      ap (λ (b : Bool). b && (node_in n₁ c.nodes).is_state) (lt-ltb 0 c.nodes some) ∙ ap (λ (u : G.Node). u.is_state) M.stored.here ∙ is in
-      let here : place_in n₁ c.nodes ≡ place_of v.rows =
-      place-entered n₁ c.nodes entered ∙ ap (λ (u : G.Node). place_of u.rows) M.stored.here in
-      made-done E.nodes (omega arith) (indexed-entered h.index S made-places made-nexts (omega arith) here E) e a h
-
-module _ {n : Bytes} (c : Counts) (v : G.Node) (l : room_of node_size n ≤ c.nodes) where
-  no_room : (e a : Bytes) (t : Index) → Refines (work n e a t) c (Full Nodes) (work n e a t) (λ k g. G.add_node k v g)
-  no_room e a t = record {
-    meets = (
-      graph_in n e a c,
-      node-none (capacity_of (work n e a t)) v (graph_in n e a c) (omega (arith, count-nodes (work n e a t) c)),
-    );
-    held = tt;
-    sized = sized-refl;
-  }
-
-  pub add-node-full : AddsNode n n c (Full Nodes) (λ k g. G.add_node k v g)
-  add-node-full e a t h = no_room e a t
-
-  pub add-state-full : (t : Index) → AddsState n n t t c (Full Nodes) (λ k g. G.add_node k v g)
-  add-state-full t e a h = no_room e a t
+pub add-node-full : {n : Bytes} (c : Counts) (v : G.Node) → room_of node_size n ≤ c.nodes → AddsNode n n c (Full Nodes) (λ k g. G.add_node k v g)
+add-node-full {n} c v l e a h = record {
+  meets = (graph_of (work n e a) c, node-none (capacity_of (work n e a)) v (graph_of (work n e a) c) (omega (arith, count-nodes (work n e a) c)));
+  held = tt;
+  sized = sized-refl;
+}
 
 -- ---- an edge more
-
--- chains of edges and of alternatives are beside what the index is made of
-index-beside : {n n' : Bytes} {t : Index} {count lo hi : ℕ} → Indexed n t count → Beside node_size lo hi n n' → node_extent ≤ lo → hi ≤ next_state_at
-    → Indexed n' t count
-index-beside {n} {n'} I B l s =
-    indexed-same I (λ x _. place-of-node n n' x (node-beside l B x)) (λ x _. B.kept x next_state_at 2 (inr (omega arith)) (omega arith))
 
 module _ (k : G.Capacity) (x y : ℕ) (g : G.Graph) where
   edge-room : length g.edges < k.edge_room → G.add_edge k x y g ≡ G.reached (G.append_edge x y g)
@@ -153,8 +98,8 @@ module _ (k : G.Capacity) (x y : ℕ) (g : G.Graph) where
 -- nodes that read as before, and one edge more
 graph-append-edge : (n n' : Bytes) {e e' : Bytes} (c : Counts) (x y : ℕ) → ((z : ℕ) → node_in n' z ≡ node_in n z)
     → Stored edge_in e e' c.edges (record { from = x; to = y }) → (a : Bytes)
-    → graph_in n' e' a (more_edges c) ≡ G.append_edge x y (graph_in n e a c)
-unfolding graph_in
+    → graph_of (work n' e' a) (more_edges c) ≡ G.append_edge x y (graph_of (work n e a) c)
+unfolding graph_of
 graph-append-edge n n' c x y same s a = cc (records-same node_in same c.nodes, records-append edge_in s)
 
 module _ {n n₁ n₂ e e₁ e₂ e₃ : Bytes} (c : Counts) (x y : ℕ) where
@@ -162,32 +107,31 @@ module _ {n n₁ n₂ e e₁ e₂ e₃ : Bytes} (c : Counts) (x y : ℕ) where
       → Appended child_places n n₁ e₁ e₂ c.edges x → Appended parent_places n₁ n₂ e₂ e₃ c.edges y
       → c.edges < room_of edge_size e → AddsEdge n n₂ e e₃ c (Done (more_edges c)) (λ k g. G.add_edge k x y g)
   unfolding edge_in
-  add-edge-done hx hy W J K l a t h =
+  add-edge-done hx hy W J K l a h =
       let B = beside-then (beside-wider edge_chains edge_free (omega arith) (omega arith) J.area)
       (beside-wider edge_chains edge_free (omega arith) (omega arith) K.area) in
-      let u = stored-then edge_in W.stored B.long (edge_beside (omega arith) B) in
+      let t = stored-then edge_in W.stored B.long (edge_beside (omega arith) B) in
       let N = beside-then (beside-wider node_chains alternatives_at (omega arith) (omega arith) (within-beside J.nodes))
       (beside-wider node_chains alternatives_at (omega arith) (omega arith) (within-beside K.nodes)) in
       record {
-        meets = ap G.reached (graph-append-edge n n₂ c x y (node-beside (omega arith) N) u a)
-            ∙ sym (edge-room (capacity_of (work n e a t)) x y (graph_in n e a c) (omega (arith, count-edges (work n e a t) c)));
+        meets = ap G.reached (graph-append-edge n n₂ c x y (node-beside (omega arith) N) t a)
+            ∙ sym (edge-room (capacity_of (work n e a)) x y (graph_of (work n e a) c) (omega (arith, count-edges (work n e a) c)));
         held = (
           record {
             nodes = omega (arith, h.nodes, N.long);
-            edges = omega (arith, u.size);
+            edges = omega (arith, t.size);
             alternatives = h.alternatives;
             chains = chained-edge h.chains hx hy (omega arith) W.within (ap (λ (d : G.Edge). d.from) W.stored.here)
                 (ap (λ (d : G.Edge). d.to) W.stored.here) J K;
-            index = index-beside h.index N (omega arith) (omega arith);
           },
           record { nodes = omega arith; edges = omega arith; alternatives = omega arith },
         );
-        sized = record { nodes = N.long; edges = u.size; alternatives = refl };
+        sized = record { nodes = N.long; edges = t.size; alternatives = refl };
       }
 
 pub add-edge-full : {n e : Bytes} (c : Counts) (x y : ℕ) → room_of edge_size e ≤ c.edges → AddsEdge n n e e c (Full Edges) (λ k g. G.add_edge k x y g)
-add-edge-full {n} {e} c x y l a t h = record {
-  meets = (graph_in n e a c, edge_none (capacity_of (work n e a t)) x y (graph_in n e a c) (omega (arith, count-edges (work n e a t) c)));
+add-edge-full {n} {e} c x y l a h = record {
+  meets = (graph_of (work n e a) c, edge_none (capacity_of (work n e a)) x y (graph_of (work n e a) c) (omega (arith, count-edges (work n e a) c)));
   held = tt;
   sized = sized-refl;
 }
@@ -223,52 +167,51 @@ module _ (k : G.Capacity) (x : ℕ) (s : RowSet) (g : G.Graph) where
 
 graph-append-alternative : (n n' : Bytes) {a a' : Bytes} (c : Counts) (x : ℕ) (s : RowSet) → ((z : ℕ) → node_in n' z ≡ node_in n z)
     → Stored alternative_in a a' c.alternatives (alternative_of s x) → (e : Bytes)
-    → graph_in n' e a' (more_alternatives c) ≡ G.append_alternative x s (graph_in n e a c)
-unfolding graph_in
+    → graph_of (work n' e a') (more_alternatives c) ≡ G.append_alternative x s (graph_of (work n e a) c)
+unfolding graph_of
 graph-append-alternative n n' c x s same t e = cc (records-same node_in same c.nodes, records-append alternative_in t)
 
 module _ {n n₁ a a₁ a₂ : Bytes} (c : Counts) (x : ℕ) (s : RowSet) where
-  pub add-alternative-done : x < c.nodes → ((e : Bytes) → G.has_alternative x s (graph_in n e a c) ≡ false)
+  pub add-alternative-done : x < c.nodes → ((e : Bytes) → G.has_alternative x s (graph_of (work n e a) c) ≡ false)
       → AlternativeWritten a a₁ c.alternatives (alternative_of s x)
       → Appended alternative_places n n₁ a₁ a₂ c.alternatives x
       → c.alternatives < room_of alternative_size a → AddsAlternative n n₁ a a₂ c (Done (more_alternatives c)) (λ k g. G.add_alternative k x s g)
   unfolding alternative_in
-  add-alternative-done hx had W J l e t h =
-      let u = stored-then alternative_in W.stored J.area.long (alternative-beside (omega arith) J.area) in
+  add-alternative-done hx had W J l e h =
+      let t = stored-then alternative_in W.stored J.area.long (alternative-beside (omega arith) J.area) in
       let N = within-beside J.nodes in
       record {
-        meets = ap G.reached (graph-append-alternative n n₁ c x s (node-beside (omega arith) N) u e)
-            ∙ sym (alternative-room (capacity_of (work n e a t)) x s (graph_in n e a c) (had e) (omega (arith, count-alternatives (work n e a t) c)));
+        meets = ap G.reached (graph-append-alternative n n₁ c x s (node-beside (omega arith) N) t e)
+            ∙ sym (alternative-room (capacity_of (work n e a)) x s (graph_of (work n e a) c) (had e) (omega (arith, count-alternatives (work n e a) c)));
         held = (
           record {
             nodes = omega (arith, h.nodes, N.long);
             edges = h.edges;
-            alternatives = omega (arith, u.size);
+            alternatives = omega (arith, t.size);
             chains = chained-alternative h.chains hx (omega arith) W.within (ap (λ (d : G.Alternative). d.owner) W.stored.here) J;
-            index = index-beside h.index N (omega arith) (omega arith);
           },
           record { nodes = omega arith; edges = omega arith; alternatives = omega arith },
         );
-        sized = record { nodes = N.long; edges = refl; alternatives = u.size };
+        sized = record { nodes = N.long; edges = refl; alternatives = t.size };
       }
 
 module _ {n a : Bytes} (c : Counts) (x : ℕ) (s : RowSet) where
-  pub add-alternative-known : ((e : Bytes) → G.has_alternative x s (graph_in n e a c) ≡ true)
+  pub add-alternative-known : ((e : Bytes) → G.has_alternative x s (graph_of (work n e a) c) ≡ true)
       → AddsAlternative n n a a c (Done c) (λ k g. G.add_alternative k x s g)
-  add-alternative-known had e t h =
+  add-alternative-known had e h =
       record {
-        meets = sym (alternative-known (capacity_of (work n e a t)) x s (graph_in n e a c) (had e));
+        meets = sym (alternative-known (capacity_of (work n e a)) x s (graph_of (work n e a) c) (had e));
         held = (h, grown-refl);
         sized = sized-refl;
       }
 
-  pub add-alternative-full : ((e : Bytes) → G.has_alternative x s (graph_in n e a c) ≡ false) → room_of alternative_size a ≤ c.alternatives
+  pub add-alternative-full : ((e : Bytes) → G.has_alternative x s (graph_of (work n e a) c) ≡ false) → room_of alternative_size a ≤ c.alternatives
       → AddsAlternative n n a a c (Full Alternatives) (λ k g. G.add_alternative k x s g)
-  add-alternative-full had l e t h = record {
+  add-alternative-full had l e h = record {
     meets = (
-      graph_in n e a c,
-      alternative-none (capacity_of (work n e a t)) x s (graph_in n e a c) (had e)
-          (omega (arith, count-alternatives (work n e a t) c)),
+      graph_of (work n e a) c,
+      alternative-none (capacity_of (work n e a)) x s (graph_of (work n e a) c) (had e)
+          (omega (arith, count-alternatives (work n e a) c)),
     );
     held = tt;
     sized = sized-refl;

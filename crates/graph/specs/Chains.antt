@@ -1,12 +1,9 @@
 -- The three chains of the work areas: the edges from a node (its children), the edges to it (its parents), the alternatives of a state. Laws are in ChainsLaws.
-use Rattle.std.specs.Prelude.{ℕ, ◌+◌}
+use Rattle.std.specs.Prelude.{◌+◌}
 use Rattle.concepts.specs.Lists.{Bytes}
-use Rattle.procedure.specs.Graph as G
-use Rattle.words.specs.Sizes.{node_size, edge_size, alternative_size}
-use Rattle.records.specs.Areas.{Stored, Within}
-use Rattle.records.specs.Layout.{children_at, parents_at, alternatives_at, next_state_at, from_at, to_at, next_child_at, next_parent_at, owner_at, next_alternative_at}
-use Rattle.records.specs.Records.{node_in}
-use Rattle.chains.specs.Places.{ChainIn, Unused}
+use Rattle.words.specs.Sizes.{edge_size, alternative_size}
+use Rattle.records.specs.Layout.{children_at, parents_at, alternatives_at, from_at, to_at, next_child_at, next_parent_at, owner_at, next_alternative_at}
+use Rattle.chains.specs.Places.{ChainIn}
 use Rattle.chains.specs.declared.Places.{Places}
 use Rattle.graph.specs.declared.Counts.{Counts}
 
@@ -24,14 +21,6 @@ pub record Chained (n e a : Bytes) (c : Counts) : Type 0 where
   pub children : ChainIn child_places n e c.nodes c.edges
   pub parents : ChainIn parent_places n e c.nodes c.edges
   pub alternatives : ChainIn alternative_places n a c.nodes c.alternatives
-
--- node x is new, with v in its record: it has no children, no parents and no alternatives
-pub record NodeMade (n n' : Bytes) (x : ℕ) (v : G.Node) : Type 0 where
-  pub stored : Stored node_in n n' x v
-  pub within : Within node_size x 0 next_state_at n n'
-  pub children : Unused child_places n' x
-  pub parents : Unused parent_places n' x
-  pub alternatives : Unused alternative_places n' x
 
 -- one more record of a kind
 abbrev pub more_nodes : Counts → Counts

@@ -1,19 +1,17 @@
 -- Laws of Chains: the three chains under what is written in the areas.
 --
--- In order: their places; a node made; areas with no records; bytes beside them; a node more; an edge more; an alternative more.
+-- In order: their places; areas with no records; bytes beside them; a node more; an edge more; an alternative more.
 use Rattle.std.specs.Prelude.{◌≡◌, ℕ, ◌+◌, ◌≤◌, ◌<◌}
 use Rattle.std.proofs.Common.{◌∙◌, inl, inr, arith}
 use Rattle.concepts.specs.Lists.{Bytes}
-use Rattle.procedure.specs.Graph as G
 use Rattle.words.specs.Sizes.{node_size, edge_size, alternative_size, most_records}
 use Rattle.records.specs.Areas.{Within, Beside}
-use Rattle.records.specs.AreaLaws.{stored-then, within-beside, within_wider, within-then, beside-refl, beside-wider, beside-then}
-use Rattle.records.specs.Layout.{node_chains, children_at, parents_at, alternatives_at, next_state_at, edge_extent, to_at, edge_chains, alternative_extent}
-use Rattle.records.specs.Records.{node_in, NodeWritten}
-use Rattle.records.specs.RecordLaws.{node-beside}
+use Rattle.records.specs.AreaLaws.{within-beside, within_wider, within-then, beside-refl, beside-wider, beside-then}
+use Rattle.records.specs.Layout.{node_extent, node_chains, children_at, parents_at, alternatives_at, node_free, edge_extent, to_at, edge_chains, alternative_extent}
+use Rattle.chains.specs.ChainLaws.{chain-empty}
 use Rattle.chains.specs.Places.{key_in, ChainIn, Sits, Appended, Begun}
-use Rattle.chains.specs.PlaceLaws.{chain-none, chain-beside, chain-past, chain-appended, chain-blank}
-use Rattle.graph.specs.Chains.{child_places, parent_places, alternative_places, Chained, NodeMade}
+use Rattle.chains.specs.PlaceLaws.{chain-beside, chain-past, chain-appended, chain-blank}
+use Rattle.graph.specs.Chains.{child_places, parent_places, alternative_places, Chained}
 use Rattle.graph.specs.Chains.{more_nodes, more_edges, more_alternatives, no_records}
 use Rattle.graph.specs.declared.Counts.{Counts}
 
@@ -32,50 +30,19 @@ alternative-sits = record { in-node = omega arith; in-key = omega arith; in-next
 unchanged : {size : ℕ} {b : Bytes} → Beside size 0 0 b b
 unchanged = beside-refl
 
--- ---- a node made: its record, then that it has no children, no parents, no alternatives
-
-pub node_made : {n n₁ n₂ n₃ n₄ : Bytes} {x : ℕ} {v : G.Node} → NodeWritten n n₁ x v
-    → Begun child_places n₁ n₂ x → Begun parent_places n₂ n₃ x → Begun alternative_places n₃ n₄ x → NodeMade n n₄ x v
-node_made {x = x} W X Y Z =
-    let B = within-then (within_wider node_chains next_state_at (omega arith) (omega arith) X.within)
-    (within-then (within_wider node_chains next_state_at (omega arith) (omega arith) Y.within)
-    (within_wider node_chains next_state_at (omega arith) (omega arith) Z.within)) in
-    record {
-      stored = stored-then node_in W.stored B.long (node-beside (omega arith) (within-beside B));
-      within = within-then (within_wider 0 next_state_at (omega arith) (omega arith) W.within) (within_wider 0 next_state_at (omega arith) (omega arith) B);
-      children = (
-        Z.within.beside children_at 2 (inl (omega arith)) (omega arith)
-            ∙ Y.within.beside children_at 2 (inl (omega arith)) (omega arith) ∙ X.unused.0,
-        Z.within.beside (children_at + 2) 2 (inl (omega arith)) (omega arith)
-            ∙ Y.within.beside (children_at + 2) 2 (inl (omega arith)) (omega arith) ∙ X.unused.1,
-      );
-      parents = (
-        Z.within.beside parents_at 2 (inl (omega arith)) (omega arith) ∙ Y.unused.0,
-        Z.within.beside (parents_at + 2) 2 (inl (omega arith)) (omega arith) ∙ Y.unused.1,
-      );
-      alternatives = Z.unused;
-    }
-
 -- ---- areas with no records
 
 pub chained-none : (n e a : Bytes) → Chained n e a no_records
-chained-none n e a = record { children = chain-none _ _ _; parents = chain-none _ _ _; alternatives = chain-none _ _ _ }
+chained-none n e a = record { children = chain-empty _ _ _ _; parents = chain-empty _ _ _ _; alternatives = chain-empty _ _ _ _ }
 
 module _ {n e a : Bytes} {c : Counts} (C : Chained n e a c) where
-  -- ---- bytes beside them: in nodes, before them and behind them, and in edges
+  -- ---- bytes beside them: in nodes, and in edges
 
   pub chained-nodes : {n' : Bytes} {lo hi : ℕ} → Beside node_size lo hi n n' → hi ≤ node_chains → Chained n' e a c
   chained-nodes B s = record {
     children = chain-beside child-sits B unchanged (inr (omega arith)) (inr (omega arith)) (inr (omega arith)) C.children;
     parents = chain-beside parent-sits B unchanged (inr (omega arith)) (inr (omega arith)) (inr (omega arith)) C.parents;
     alternatives = chain-beside alternative-sits B unchanged (inr (omega arith)) (inr (omega arith)) (inr (omega arith)) C.alternatives;
-  }
-
-  pub chained-behind : {n' : Bytes} {lo hi : ℕ} → Beside node_size lo hi n n' → next_state_at ≤ lo → Chained n' e a c
-  chained-behind B s = record {
-    children = chain-beside child-sits B unchanged (inl (omega arith)) (inr (omega arith)) (inr (omega arith)) C.children;
-    parents = chain-beside parent-sits B unchanged (inl (omega arith)) (inr (omega arith)) (inr (omega arith)) C.parents;
-    alternatives = chain-beside alternative-sits B unchanged (inl (omega arith)) (inr (omega arith)) (inr (omega arith)) C.alternatives;
   }
 
   pub chained-edges : {e' : Bytes} {lo hi : ℕ} → Beside edge_size lo hi e e' → edge_extent ≤ lo → hi ≤ edge_chains → Chained n e' a c
@@ -85,14 +52,28 @@ module _ {n e a : Bytes} {c : Counts} (C : Chained n e a c) where
     alternatives = C.alternatives;
   }
 
-  -- ---- a node more
+  -- ---- a node more: its record, then that it has no children, no parents, no alternatives
 
-  pub chained-node : {n' : Bytes} {v : G.Node} → NodeMade n n' c.nodes v → Chained n' e a (more_nodes c)
-  chained-node M = record {
-    children = chain-blank child-sits e M.within M.children C.children;
-    parents = chain-blank parent-sits e M.within M.parents C.parents;
-    alternatives = chain-blank alternative-sits a M.within M.alternatives C.alternatives;
-  }
+  pub chained-node : {n₁ n₂ n₃ n₄ : Bytes} → Within node_size c.nodes 0 node_extent n n₁
+      → Begun child_places n₁ n₂ c.nodes → Begun parent_places n₂ n₃ c.nodes → Begun alternative_places n₃ n₄ c.nodes
+      → Chained n₄ e a (more_nodes c)
+  chained-node {n₁} {n₂} {n₃} {n₄} W X Y Z =
+      let all : Within node_size c.nodes 0 node_free n n₄ =
+      within-then (within_wider 0 node_free (omega arith) (omega arith) W) (within-then (within_wider 0 node_free (omega arith) (omega arith) X.within)
+      (within-then (within_wider 0 node_free (omega arith) (omega arith) Y.within) (within_wider 0 node_free (omega arith) (omega arith) Z.within))) in
+      record {
+        children = chain-blank child-sits e all (
+          Z.within.beside children_at 2 (inl (omega arith)) (omega arith)
+              ∙ Y.within.beside children_at 2 (inl (omega arith)) (omega arith) ∙ X.unused.0,
+          Z.within.beside (children_at + 2) 2 (inl (omega arith)) (omega arith)
+              ∙ Y.within.beside (children_at + 2) 2 (inl (omega arith)) (omega arith) ∙ X.unused.1,
+        ) C.children;
+        parents = chain-blank parent-sits e all (
+          Z.within.beside parents_at 2 (inl (omega arith)) (omega arith) ∙ Y.unused.0,
+          Z.within.beside (parents_at + 2) 2 (inl (omega arith)) (omega arith) ∙ Y.unused.1,
+        ) C.parents;
+        alternatives = chain-blank alternative-sits a all Z.unused C.alternatives;
+      }
 
   -- ---- an edge more: its record, then its place in the chain of its start, then in that of its end
 

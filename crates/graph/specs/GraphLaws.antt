@@ -3,24 +3,21 @@
 -- In order: counts and lengths (`CountsGrown`, `Sized`); areas that hold a graph; looking at the graph; storing a node.
 -- Not here: a step that adds a record, which is in AddLaws; searches, and the records of a node, which are in SearchLaws.
 use Rattle.std.specs.Prelude.{◌≡◌, refl, ℕ, ◌+◌, ◌*◌, ◌≤◌, ◌<◌, length}
-use Rattle.std.proofs.Common.{sym, subst, ◌∙◌, inr, arith}
+use Rattle.std.proofs.Common.{sym, ◌∙◌, arith}
 use Rattle.std.proofs.Math.Path.{ap}
 use mathlib.Core.List.{List}
-use Rattle.std.proofs.Math.Decide.{ℕ_discrete}
 use Rattle.concepts.specs.Lists.{Bytes}
 use Rattle.procedure.specs.Graph as G
 use Rattle.words.specs.Sizes.{node_size, edge_size, alternative_size, set_size, most_records}
 use Rattle.rowset.specs.SetOf.{set_of}
 use Rattle.records.specs.Areas.{room_of, Fits, records_in, Stored, Beside}
 use Rattle.records.specs.AreaLaws.{length-records, get_or-records, records-set, within-beside}
-use Rattle.records.specs.Layout.{node_chains, next_state_at, edge_extent, edge_chains}
+use Rattle.records.specs.Layout.{node_chains, edge_extent, edge_chains}
 use Rattle.records.specs.Records.{node_in, NodeWritten, edge_in, alternative_in}
 use Rattle.records.specs.RecordLaws.{node-rows}
-use Rattle.lookup.specs.Index.{empty_index, place_in}
-use Rattle.lookup.specs.IndexLaws.{place_same, place-of-node, indexed-empty, indexed-same}
 use Rattle.graph.specs.Chains.{no_records}
 use Rattle.graph.specs.ChainsLaws.{chained-none, chained-nodes, chained-edges}
-use Rattle.graph.specs.Graphs.{Work, work, graph_in, graph_of, capacity_of, Held, CountsGrown, Sized, ChangesNodes}
+use Rattle.graph.specs.Graphs.{Work, work, graph_of, capacity_of, Held, CountsGrown, Sized, ChangesNodes}
 use Rattle.graph.specs.declared.Counts.{Counts}
 
 -- ---- counts that grow, areas that keep their lengths
@@ -48,14 +45,8 @@ module _ {w w' : Work} (p : Sized w w') where
 
 -- ---- areas that hold a graph
 
-pub held_none : (n e a : Bytes) → Held (work n e a empty_index) no_records
-held_none n e a = record {
-  nodes = omega arith;
-  edges = omega arith;
-  alternatives = omega arith;
-  chains = chained-none n e a;
-  index = indexed-empty n;
-}
+pub held_none : (w : Work) → Held w no_records
+held_none w = record { nodes = omega arith; edges = omega arith; alternatives = omega arith; chains = chained-none _ _ _ }
 
 module _ {w : Work} {c : Counts} (h : Held w c) where
   pub held-most : (c.nodes ≤ most_records) × (c.edges ≤ most_records) × (c.alternatives ≤ most_records)
@@ -65,25 +56,18 @@ module _ {w : Work} {c : Counts} (h : Held w c) where
       × (c.alternatives ≤ room_of alternative_size w.alternatives)
   held-room = (h.nodes, h.edges, h.alternatives)
 
-  -- what is written beside the chains keeps all: in nodes, whose sets stay and which stay states or none, and in edges
+  -- what is written beside the chains keeps all: in nodes, and in edges
   pub held-nodes : {n' : Bytes} {lo hi : ℕ} → Beside node_size lo hi w.nodes n' → hi ≤ node_chains
-      → ((x : ℕ) → place_in n' x ≡ place_in w.nodes x) → Held (work n' w.edges w.alternatives w.index) c
-  held-nodes B s same = record {
-    nodes = omega (arith, h.nodes, B.long);
-    edges = h.edges;
-    alternatives = h.alternatives;
-    chains = chained-nodes h.chains B s;
-    index = indexed-same h.index (λ x _. same x) (λ x _. B.kept x next_state_at 2 (inr (omega arith)) (omega arith));
-  }
+      → Held (work n' w.edges w.alternatives) c
+  held-nodes B s = record { nodes = omega (arith, h.nodes, B.long); edges = h.edges; alternatives = h.alternatives; chains = chained-nodes h.chains B s }
 
   pub held-edges : {e' : Bytes} {lo hi : ℕ} → Beside edge_size lo hi w.edges e' → edge_extent ≤ lo → hi ≤ edge_chains
-      → Held (work w.nodes e' w.alternatives w.index) c
+      → Held (work w.nodes e' w.alternatives) c
   held-edges B s t = record {
     nodes = h.nodes;
     edges = omega (arith, h.edges, B.long);
     alternatives = h.alternatives;
     chains = chained-edges h.chains B s t;
-    index = h.index;
   }
 
   pub held-node : {x : ℕ} → x < c.nodes → Fits node_size w.nodes x
@@ -100,19 +84,19 @@ module _ {w : Work} {c : Counts} (h : Held w c) where
 
 module _ (w : Work) (c : Counts) where
   pub count-nodes : G.node_count (graph_of w c) ≡ c.nodes
-  unfolding graph_in
+  unfolding graph_of
   count-nodes = length-records node_in w.nodes c.nodes
 
   pub count-edges : length (graph_of w c).edges ≡ c.edges
-  unfolding graph_in
+  unfolding graph_of
   count-edges = length-records edge_in w.edges c.edges
 
   pub count-alternatives : length (graph_of w c).alternatives ≡ c.alternatives
-  unfolding graph_in
+  unfolding graph_of
   count-alternatives = length-records alternative_in w.alternatives c.alternatives
 
   pub graph-node : (x : ℕ) → x < c.nodes → G.node_at (graph_of w c) x ≡ node_in w.nodes x
-  unfolding graph_in
+  unfolding graph_of
   graph-node x h = get_or-records node_in w.nodes c.nodes x G.no_node h
 
   -- its set, where it stands
@@ -123,28 +107,18 @@ module _ (w : Work) (c : Counts) where
 
 module _ {n n' : Bytes} {x : ℕ} where
   graph-store : {v : G.Node} → Stored node_in n n' x v → (e a : Bytes) (c : Counts) → x < c.nodes
-      → graph_in n' e a c ≡ G.replace_node x v (graph_in n e a c)
-  unfolding graph_in
+      → graph_of (work n' e a) c ≡ G.replace_node x v (graph_of (work n e a) c)
+  unfolding graph_of
   graph-store s e a c h =
       ap (λ (ns : List G.Node). record { nodes = ns; edges = records_in edge_in e c.edges; alternatives = records_in alternative_in a c.alternatives })
       (records-set node_in s c.nodes h)
 
-  -- the places of all nodes are the same where one is stored with the set that it had, and as the state or none that it was
-  places-stored : {v : G.Node} → Stored node_in n n' x v → v.rows ≡ (node_in n x).rows → v.is_state ≡ (node_in n x).is_state
-      → (y : ℕ) → place_in n' y ≡ place_in n y
-  places-stored {v} s r i y = elim (ℕ_discrete y x) [
-    | yes p ↦ subst (λ (z : ℕ). place_in n' z ≡ place_in n z) (sym p)
-        (place_same n n' x (ap (λ (u : G.Node). u.rows) s.here ∙ r) (ap (λ (u : G.Node). u.is_state) s.here ∙ i))
-    | no d ↦ place-of-node n n' y (s.others y d)
-  ]
-
-  -- a node changed by what it was, but for its set and for whether it is a state
-  pub graph-change : (f : G.Node → G.Node) → NodeWritten n n' x (f (node_in n x))
-      → (f (node_in n x)).rows ≡ (node_in n x).rows → (f (node_in n x)).is_state ≡ (node_in n x).is_state
-      → (c : Counts) → x < c.nodes → ChangesNodes n n' c (λ g. G.replace_node x (f (G.node_at g x)) g)
-  graph-change f s r i c l e a t h =
+  -- a node changed by what it was
+  pub graph-change : (f : G.Node → G.Node) → NodeWritten n n' x (f (node_in n x)) → (c : Counts) → x < c.nodes
+      → ChangesNodes n n' c (λ g. G.replace_node x (f (G.node_at g x)) g)
+  graph-change f s c l e a h =
       record {
-        meets = graph-store s.stored e a c l ∙ ap (λ (v : G.Node). G.replace_node x (f v) (graph_in n e a c)) (sym (graph-node (work n e a t) c x l));
-        held = held-nodes h (within-beside s.within) (omega arith) (places-stored s.stored r i);
+        meets = graph-store s.stored e a c l ∙ ap (λ (v : G.Node). G.replace_node x (f v) (graph_of (work n e a) c)) (sym (graph-node (work n e a) c x l));
+        held = held-nodes h (within-beside s.within) (omega arith);
         sized = record { nodes = s.stored.size; edges = refl; alternatives = refl };
       }

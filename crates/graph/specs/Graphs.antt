@@ -3,7 +3,7 @@
 -- In order: the work areas; refinement (`Refines`, `Changes`); some areas, whatever the others hold; searches; the records of a node, from a place on.
 use Rattle.std.specs.Prelude.{◌≡◌, Bool, ◌&&◌, List, [], ◌∷◌, ℕ, ◌+◌, ◌*◌, ◌≤◌, ◌<◌, eqb, ltb, length, get_or}
 use Rattle.std.proofs.Math.Option.{Option, none, some}
-use Rattle.concepts.specs.Lists.{Bytes, NoneBelow, range, select}
+use Rattle.concepts.specs.Lists.{Bytes, NoneBelow}
 use Rattle.concepts.specs.RowSet.{RowSet, empty}
 use Rattle.procedure.specs.Graph as G
 use Rattle.words.specs.Sizes.{node_size, edge_size, alternative_size}
@@ -11,8 +11,6 @@ use Rattle.rowset.specs.SetOf.{set_of}
 use Rattle.records.specs.Areas.{room_of, records_in, chosen_from}
 use Rattle.records.specs.Records.{node_in, edge_in, alternative_in}
 use Rattle.chains.specs.Chain.{Behind}
-use Rattle.lookup.specs.Mix.{place_of}
-use Rattle.lookup.specs.Index.{Index, Indexed}
 use Rattle.graph.specs.Chains.{Chained}
 use Rattle.graph.specs.declared.Counts.{Counts}
 use Rattle.graph.specs.declared.Area.{Area}
@@ -28,31 +26,22 @@ use Rattle.graph.specs.declared.NextAlternative.TheVariants as Set
 
 -- ---- the work areas, and the graph that they hold
 
--- "Three work areas hold nodes .., graph edges .. and alternatives" (01, Areas); and the index of states, which a run keeps beside them (02, [8])
+-- "Three work areas hold nodes .., graph edges .. and alternatives" (01, Areas)
 pub record Work : Type 0 where
   pub nodes : Bytes
   pub edges : Bytes
   pub alternatives : Bytes
-  pub index : Index
 
-abbrev pub work : Bytes → Bytes → Bytes → Index → Work
-work n e a t = record { nodes = n; edges = e; alternatives = a; index = t }
+abbrev pub work : Bytes → Bytes → Bytes → Work
+work n e a = record { nodes = n; edges = e; alternatives = a }
 
--- the areas as they are lent, with no index
-abbrev pub lent : Bytes → Bytes → Bytes → Work
-lent n e a = work n e a []
-
--- the graph that three areas hold; the index is nothing to it
-unfoldable pub graph_in : Bytes → Bytes → Bytes → Counts → G.Graph
-graph_in n e a c =
+unfoldable pub graph_of : Work → Counts → G.Graph
+graph_of w c =
     record {
-      nodes = records_in node_in n c.nodes;
-      edges = records_in edge_in e c.edges;
-      alternatives = records_in alternative_in a c.alternatives;
+      nodes = records_in node_in w.nodes c.nodes;
+      edges = records_in edge_in w.edges c.edges;
+      alternatives = records_in alternative_in w.alternatives c.alternatives;
     }
-
-abbrev pub graph_of : Work → Counts → G.Graph
-graph_of w c = graph_in w.nodes w.edges w.alternatives c
 
 abbrev pub capacity_of : Work → G.Capacity
 capacity_of w = record {
@@ -61,13 +50,12 @@ capacity_of w = record {
   alternative_room = room_of alternative_size w.alternatives;
 }
 
--- the areas have the records that the counts count, and their chains; the index leads to the states
+-- the areas have the records that the counts count, and their chains
 pub record Held (w : Work) (c : Counts) : Type 0 where
   pub nodes : c.nodes ≤ room_of node_size w.nodes
   pub edges : c.edges ≤ room_of edge_size w.edges
   pub alternatives : c.alternatives ≤ room_of alternative_size w.alternatives
   pub chains : Chained w.nodes w.edges w.alternatives c
-  pub index : Indexed w.nodes w.index c.nodes
 
 -- no count is less than before
 pub record CountsGrown (c d : Counts) : Type 0 where
@@ -115,70 +103,52 @@ pub record Changes (w : Work) (c : Counts) (w' : Work) (f : G.Graph → G.Graph)
 
 -- ---- some areas, whatever the others hold
 
--- of the graph with these nodes, P holds; and so of the graph with these nodes and this index
+-- of the graph with these nodes, P holds
 abbrev pub WithNodes : Bytes → Counts → (G.Graph → Type 0) → Type 0
-WithNodes n c P = (e a : Bytes) (t : Index) → Held (work n e a t) c → P (graph_of (work n e a t) c)
-
-abbrev pub WithIndex : Bytes → Index → Counts → (G.Graph → Type 0) → Type 0
-WithIndex n t c P = (e a : Bytes) → Held (work n e a t) c → P (graph_of (work n e a t) c)
+WithNodes n c P = (e a : Bytes) → Held (work n e a) c → P (graph_of (work n e a) c)
 
 -- of the graph that these nodes and edges have with counts c, P holds; and so with these alternatives. By now the areas may hold more
 abbrev pub WithEdges : Bytes → Bytes → Counts → (G.Graph → Type 0) → Type 0
-WithEdges n e c P = (a : Bytes) (t : Index) (d : Counts) → Held (work n e a t) d → CountsGrown c d → P (graph_of (work n e a t) c)
+WithEdges n e c P = (a : Bytes) (d : Counts) → Held (work n e a) d → CountsGrown c d → P (graph_of (work n e a) c)
 
 abbrev pub WithAlternatives : Bytes → Bytes → Counts → (G.Graph → Type 0) → Type 0
-WithAlternatives n a c P = (e : Bytes) (t : Index) (d : Counts) → Held (work n e a t) d → CountsGrown c d → P (graph_of (work n e a t) c)
+WithAlternatives n a c P = (e : Bytes) (d : Counts) → Held (work n e a) d → CountsGrown c d → P (graph_of (work n e a) c)
 
 -- a step from counts c made the nodes n' of n, and answered r, as f does with the graph
 abbrev pub AddsNode : Bytes → Bytes → Counts → Step → Operation → Type 0
-AddsNode n n' c r f = (e a : Bytes) (t : Index) → Held (work n e a t) c → Refines (work n e a t) c r (work n' e a t) f
+AddsNode n n' c r f = (e a : Bytes) → Held (work n e a) c → Refines (work n e a) c r (work n' e a) f
 
--- .. and the index t' of t; .. or the edges e' of e; .. or the alternatives a' of a
-abbrev pub AddsState : Bytes → Bytes → Index → Index → Counts → Step → Operation → Type 0
-AddsState n n' t t' c r f = (e a : Bytes) → Held (work n e a t) c → Refines (work n e a t) c r (work n' e a t') f
-
+-- .. and the edges e' of e; .. and the alternatives a' of a
 abbrev pub AddsEdge : Bytes → Bytes → Bytes → Bytes → Counts → Step → Operation → Type 0
-AddsEdge n n' e e' c r f = (a : Bytes) (t : Index) → Held (work n e a t) c → Refines (work n e a t) c r (work n' e' a t) f
+AddsEdge n n' e e' c r f = (a : Bytes) → Held (work n e a) c → Refines (work n e a) c r (work n' e' a) f
 
 abbrev pub AddsAlternative : Bytes → Bytes → Bytes → Bytes → Counts → Step → Operation → Type 0
-AddsAlternative n n' a a' c r f = (e : Bytes) (t : Index) → Held (work n e a t) c → Refines (work n e a t) c r (work n' e a' t) f
+AddsAlternative n n' a a' c r f = (e : Bytes) → Held (work n e a) c → Refines (work n e a) c r (work n' e a') f
 
 -- nodes n became n', as f does with the graph
 abbrev pub ChangesNodes : Bytes → Bytes → Counts → (G.Graph → G.Graph) → Type 0
-ChangesNodes n n' c f = (e a : Bytes) (t : Index) → Held (work n e a t) c → Changes (work n e a t) c (work n' e a t) f
+ChangesNodes n n' c f = (e a : Bytes) → Held (work n e a) c → Changes (work n e a) c (work n' e a) f
 
--- these areas hold a graph, with some index
-pub record AreasHeld (n e a : Bytes) (c : Counts) : Type 0 where
-  pub index : Index
-  pub held : Held (work n e a index) c
-
--- these nodes and edges hold a graph, with some alternatives and some index
+-- these nodes and edges hold a graph, with some alternatives
 pub record EdgesHeld (n e : Bytes) (c : Counts) : Type 0 where
   pub alternatives : Bytes
-  pub index : Index
-  pub held : Held (work n e alternatives index) c
+  pub held : Held (work n e alternatives) c
 
--- .. and with this index
-pub record IndexHeld (n e : Bytes) (t : Index) (c : Counts) : Type 0 where
-  pub alternatives : Bytes
-  pub held : Held (work n e alternatives t) c
-
--- these nodes and alternatives, with some edges and some index, hold a graph that has the node x
+-- these nodes and alternatives, with some edges, hold a graph that has the node x
 pub record Owns (n a : Bytes) (c : Counts) (x : ℕ) : Type 0 where
   pub edges : Bytes
-  pub index : Index
-  pub held : Held (work n edges a index) c
+  pub held : Held (work n edges a) c
   pub node : x < c.nodes
 
 -- r says whether state x of these nodes and alternatives has the set s among them, whatever the edges
 abbrev pub TellsAlternative : Bytes → Bytes → Counts → ℕ → RowSet → Bool → Type 0
-TellsAlternative n a c x s r = (e : Bytes) → r ≡ G.has_alternative x s (graph_in n e a c)
+TellsAlternative n a c x s r = (e : Bytes) → r ≡ G.has_alternative x s (graph_of (work n e a) c)
 
 -- ---- searches
 
--- the states so far, "the root left out, whose sets mix to" place k (02, [8]), in order of arrival
-unfoldable pub states_mixed_to : ℕ → G.Graph → List ℕ
-states_mixed_to k g = select (λ x. ltb 0 x && ((G.node_at g x).is_state && eqb (place_of (G.node_at g x).rows) k)) (range 0 (G.node_count g))
+-- node x of an area is a state with the set s, and not the root
+unfoldable pub is_state_with : Bytes → RowSet → ℕ → Bool
+is_state_with n s x = ltb 0 x && ((node_in n x).is_state && eqb (node_in n x).rows s)
 
 abbrev pub found_of : FoundNode → Option ℕ
 found_of (Found.At x) = some x

@@ -6,4 +6,3 @@ pub mod GraphLaws
 pub mod AddLaws
 pub mod SearchLaws
 pub mod RefineLaws
-pub mod LookUpLaws

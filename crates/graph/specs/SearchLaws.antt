@@ -7,7 +7,7 @@ use Rattle.std.proofs.Math.Path.{ap, subst}
 use mathlib.Core.List.{List, [], ◌∷◌, ◌++◌}
 use Rattle.std.proofs.Math.Option.{Option, none, some}
 use Rattle.std.proofs.Math.Dec.{eqb, ltb}
-use Rattle.concepts.specs.Tests.{picks_first, picks_second}
+use Rattle.concepts.specs.Tests.{and-nothing, and-all, picks_first, picks_second}
 use Rattle.concepts.specs.Lists.{Bytes, range, NoneBelow, any, select}
 use Rattle.concepts.specs.ListLaws.{get_or-range, length-range}
 use Rattle.concepts.specs.FirstLaws.{first-at, first-nowhere}
@@ -19,15 +19,13 @@ use Rattle.records.specs.Areas.{records_in, chosen_from}
 use Rattle.records.specs.AreaLaws.{get_or-records, records-kept, chosen-found, chosen-end}
 use Rattle.rowset.specs.SetOf.{set_of}
 use Rattle.records.specs.Records.{node_in, is_unset_at, edge_in, alternative_in}
+use Rattle.records.specs.RecordLaws.{node-rows}
 use Rattle.chains.specs.Chain.{First, Behind, following}
 use Rattle.chains.specs.ChainLaws.{chain-follows, first_found, first-end, behind-same}
 use Rattle.chains.specs.Places.{key_in, next_in, first_in, ChainIn}
 use Rattle.chains.specs.declared.Places.{Places}
 use Rattle.graph.specs.Chains.{child_places, parent_places, alternative_places}
-use Rattle.lookup.specs.Index.{Index, is_state_with, LookedUp, looked_of}
-use Rattle.lookup.specs.declared.Looked.{Looked}
-use Rattle.lookup.specs.declared.Looked.TheVariants as Look
-use Rattle.graph.specs.Graphs.{Work, work, graph_in, graph_of, Held, CountsGrown, children_from, parents_from, alternatives_from}
+use Rattle.graph.specs.Graphs.{Work, work, graph_of, Held, CountsGrown, is_state_with, children_from, parents_from, alternatives_from}
 use Rattle.graph.specs.Graphs.{no_edge, no_alternative, AmongChildren, AmongParents, AmongAlternatives, Walks, IsNext, IsNextAlternative}
 use Rattle.graph.specs.Graphs.{WithAlternatives, Owns}
 use Rattle.graph.specs.GraphLaws.{grown-refl, count-nodes, count-edges, count-alternatives, graph-node}
@@ -38,6 +36,18 @@ use Rattle.graph.specs.declared.NextAlternative.{NextAlternative}
 use Rattle.graph.specs.declared.NextAlternative.TheVariants as Set
 
 -- ---- searches for a node
+
+-- the test of a node by its set, and then by its flag
+module _ (n : Bytes) (x : ℕ) (s : RowSet) where
+  by-set : {b : Bool} → eqb (set_of n (node_size * x)) s ≡ b → is_state_with n s x ≡ (ltb 0 x && ((node_in n x).is_state && b))
+  unfolding is_state_with
+  by-set e = ap (λ (b : Bool). ltb 0 x && ((node_in n x).is_state && b)) (ap (λ (r : RowSet). eqb r s) (node-rows n x) ∙ e)
+
+  pub other-set : eqb (set_of n (node_size * x)) s ≡ false → false ≡ is_state_with n s x
+  other-set e = sym (by-set e ∙ ap (λ (b : Bool). ltb 0 x && b) (and-nothing (node_in n x).is_state) ∙ and-nothing (ltb 0 x))
+
+  pub same_set : eqb (set_of n (node_size * x)) s ≡ true → {a : Bool} → a ≡ (node_in n x).is_state → (ltb 0 x && a) ≡ is_state_with n s x
+  same_set e flag = ap (λ (b : Bool). ltb 0 x && b) (flag ∙ sym (and-all (node_in n x).is_state)) ∙ sym (by-set e)
 
 -- what `lowest` asks of a node
 abbrev answer : (ℕ → Bool) → ℕ → Option ℕ
@@ -84,11 +94,6 @@ module _ (w : Work) (c : Counts) where
     unfolding G.find_state
     state-nowhere all = lowest-nowhere _ (is_state_with w.nodes s) (graph_of w c) states-agree (λ k l. all k (omega (arith, count-nodes w c)))
 
-    -- a look-up gives the lowest state with the set
-    pub state-looked : (r : Looked) → LookedUp w.nodes c.nodes s r → looked_of r ≡ G.find_state s (graph_of w c)
-    state-looked (Look.At x) (h, here, below) = sym (state-found x h below here)
-    state-looked (Look.Missing spot) (below, _) = sym (state-nowhere below)
-
   unset-agree : (x : ℕ) → x < G.node_count (graph_of w c) → is_unset (G.node_at (graph_of w c) x).status ≡ is_unset_at w.nodes x
   unfolding is_unset_at
   unset-agree x h = ap (λ (v : G.Node). is_unset v.status) (graph-node w c x (omega (arith, count-nodes w c)))
@@ -119,12 +124,12 @@ alternatives-all g x = refl
 -- records that were there stay where they are: the areas w' with counts d hold what those of w with counts c held, and more
 module _ (w w' : Work) {c d : Counts} (grown : CountsGrown c d) where
   pub edges-kept : (more : List G.Edge) → (graph_of w' d).edges ≡ (graph_of w c).edges ++ more → (graph_of w' c).edges ≡ (graph_of w c).edges
-  unfolding graph_in
+  unfolding graph_of
   edges-kept more q = records-kept edge_in w'.edges c.edges d.edges (graph_of w c).edges more (count-edges w c) grown.edges q
 
   pub alternatives-kept : (more : List G.Alternative) → (graph_of w' d).alternatives ≡ (graph_of w c).alternatives ++ more
       → (graph_of w' c).alternatives ≡ (graph_of w c).alternatives
-  unfolding graph_in
+  unfolding graph_of
   alternatives-kept more q =
       records-kept alternative_in w'.alternatives c.alternatives d.alternatives (graph_of w c).alternatives more
       (count-alternatives w c) grown.alternatives q
@@ -187,7 +192,7 @@ module _ {A B : Type 0} (p : Places) (read : Bytes → ℕ → A) (key_of : A �
     key_here j q = ap key_of (get_or-records read b count j missing q) ∙ keyed b j
 
     along : First (key_in p b) x from k i
-    along = rw s (chain-follows C.chain h from (omega arith) (behind-same (λ j q. sym (key_here j q)) x from l o))
+    along = rw s (chain-follows C h from (omega arith) (behind-same (λ j q. sym (key_here j q)) x from l o))
 
     tests : (j : ℕ) → eqb (key_in p b j) x ≡ eqb (key_of (read b j)) x
     tests j = ap (λ (v : ℕ). eqb v x) (sym (keyed b j))
@@ -195,23 +200,23 @@ module _ {A B : Type 0} (p : Places) (read : Bytes → ℕ → A) (key_of : A �
     along-next : i < count → (from ≤ i) × (i < count) × (rest_from b count x from ≡ worth (read b i) ∷ rest_from b count x (i + 1))
         × Behind (key_at b count) x (i + 1)
     along-next q =
-        let f = first_found along C.chain.few count few q in
+        let f = first_found along C.few count few q in
         let e : suc i ≡ i + 1 = omega arith in (
           f.start,
           q,
           chosen-found (λ d. eqb (key_of d) x) worth read b count from i (λ j. eqb (key_in p b j) x) tests f q,
-          subst (λ (v : ℕ). Behind (key_at b count) x v) e (key_here i q ∙ (along.found (omega (arith, C.chain.few))).2),
+          subst (λ (v : ℕ). Behind (key_at b count) x v) e (key_here i q ∙ (along.found (omega (arith, C.few))).2),
         )
 
     along-end : count ≤ i → rest_from b count x from ≡ []
     along-end q =
-        chosen-end (λ d. eqb (key_of d) x) worth read b count from count (λ j. eqb (key_in p b j) x) tests (first-end along C.chain.few count few l q)
+        chosen-end (λ d. eqb (key_of d) x) worth read b count from count (λ j. eqb (key_in p b j) x) tests (first-end along C.few count few l q)
         (omega arith)
 
-module _ {n e a : Bytes} {t : Index} {c d : Counts} (H : Held (work n e a t) d) (grown : CountsGrown c d) where
+module _ {n e a : Bytes} {c d : Counts} (H : Held (work n e a) d) (grown : CountsGrown c d) where
   -- the graph with counts c
   abbrev g : G.Graph
-  g = graph_in n e a c
+  g = graph_of (work n e a) c
 
   module _ {x from : ℕ} (walks : Walks edge_size n e c.nodes c.edges x from) where
     there : x < d.nodes
@@ -219,26 +224,26 @@ module _ {n e a : Bytes} {t : Index} {c d : Counts} (H : Held (work n e a t) d) 
 
     module _ {i : ℕ} (o : AmongChildren g x from) (s : i ≡ following (next_in child_places e) (first_in child_places n) x from) where
       pub child-next : (y : ℕ) → y ≡ (edge_in e i).to → i < c.edges → IsNext (Node.At i y) from c.edges (children_from g x) (AmongChildren g x)
-      unfolding children_from graph_in edge_in
+      unfolding children_from graph_of edge_in
       child-next y q h =
           rw q (along-next child_places edge_in (λ (d : G.Edge). d.from) (λ (d : G.Edge). d.to) no_edge (λ b j. refl) n e
           H.chains.children there grown.edges walks.place o s h)
 
       pub child-end : c.edges ≤ i → IsNext Node.End from c.edges (children_from g x) (AmongChildren g x)
-      unfolding children_from graph_in edge_in
+      unfolding children_from graph_of edge_in
       child-end h =
           along-end child_places edge_in (λ (d : G.Edge). d.from) (λ (d : G.Edge). d.to) no_edge (λ b j. refl) n e
           H.chains.children there grown.edges walks.place o s h
 
     module _ {i : ℕ} (o : AmongParents g x from) (s : i ≡ following (next_in parent_places e) (first_in parent_places n) x from) where
       pub parent-next : (y : ℕ) → y ≡ (edge_in e i).from → i < c.edges → IsNext (Node.At i y) from c.edges (parents_from g x) (AmongParents g x)
-      unfolding parents_from graph_in edge_in
+      unfolding parents_from graph_of edge_in
       parent-next y q h =
           rw q (along-next parent_places edge_in (λ (d : G.Edge). d.to) (λ (d : G.Edge). d.from) no_edge (λ b j. refl) n e
           H.chains.parents there grown.edges walks.place o s h)
 
       pub parent-end : c.edges ≤ i → IsNext Node.End from c.edges (parents_from g x) (AmongParents g x)
-      unfolding parents_from graph_in edge_in
+      unfolding parents_from graph_of edge_in
       parent-end h =
           along-end parent_places edge_in (λ (d : G.Edge). d.to) (λ (d : G.Edge). d.from) no_edge (λ b j. refl) n e
           H.chains.parents there grown.edges walks.place o s h
@@ -249,13 +254,13 @@ module _ {n e a : Bytes} {t : Index} {c d : Counts} (H : Held (work n e a t) d) 
     state-there = omega (arith, walks.node, grown.nodes)
 
     pub alternative-next : i < c.alternatives → IsNextAlternative a (Set.At i) from c.alternatives (alternatives_from g x) (AmongAlternatives g x)
-    unfolding alternatives_from graph_in alternative_in
+    unfolding alternatives_from graph_of alternative_in
     alternative-next h =
         along-next alternative_places alternative_in (λ (d : G.Alternative). d.owner) (λ (d : G.Alternative). d.rows) no_alternative (λ b j. refl) n a
         H.chains.alternatives state-there grown.alternatives walks.place o s h
 
     pub alternative-end : c.alternatives ≤ i → IsNextAlternative a Set.End from c.alternatives (alternatives_from g x) (AmongAlternatives g x)
-    unfolding alternatives_from graph_in alternative_in
+    unfolding alternatives_from graph_of alternative_in
     alternative-end h =
         along-end alternative_places alternative_in (λ (d : G.Alternative). d.owner) (λ (d : G.Alternative). d.rows) no_alternative (λ b j. refl) n a
         H.chains.alternatives state-there grown.alternatives walks.place o s h
@@ -280,18 +285,18 @@ has-among x s g = any-chosen (λ (d : G.Alternative). eqb d.owner x) (λ (d : G.
 -- a search through the alternatives of x: those from place i on have the set exactly if all have. Which edges there are is nothing to them
 pub record Sought (n a : Bytes) (c : Counts) (x : ℕ) (s : RowSet) (i : ℕ) : Type 0 where
   pub place : i ≤ c.alternatives
-  pub among : AmongAlternatives (graph_in n [] a c) x i
-  pub left : (e : Bytes) → any (λ v. eqb v s) (alternatives_from (graph_in n e a c) x i) ≡ G.has_alternative x s (graph_in n e a c)
+  pub among : AmongAlternatives (graph_of (work n [] a) c) x i
+  pub left : (e : Bytes) → any (λ v. eqb v s) (alternatives_from (graph_of (work n e a) c) x i) ≡ G.has_alternative x s (graph_of (work n e a) c)
 
 -- what the search from place i on learns at alternative j, the next one
 pub record SoughtAt (n a : Bytes) (c : Counts) (x : ℕ) (s : RowSet) (i j : ℕ) : Type 0 where
   pub from : i ≤ j
   pub below : j < c.alternatives
-  pub here : eqb (set_of a (alternative_size * j)) s ≡ true → (e : Bytes) → true ≡ G.has_alternative x s (graph_in n e a c)
+  pub here : eqb (set_of a (alternative_size * j)) s ≡ true → (e : Bytes) → true ≡ G.has_alternative x s (graph_of (work n e a) c)
   pub more : eqb (set_of a (alternative_size * j)) s ≡ false → Sought n a c x s (j + 1)
 
 pub sought-start : (n a : Bytes) (c : Counts) (x : ℕ) (s : RowSet) → Sought n a c x s 0
-sought-start n a c x s = record { place = omega arith; among = tt; left = λ e. sym (has-among x s (graph_in n e a c)) }
+sought-start n a c x s = record { place = omega arith; among = tt; left = λ e. sym (has-among x s (graph_of (work n e a) c)) }
 
 module _ {n a : Bytes} {c : Counts} {x : ℕ} {s : RowSet} {i : ℕ} (O : Owns n a c x) (S : Sought n a c x s i) where
   pub sought-walks : Walks alternative_size n a c.nodes c.alternatives x i
@@ -302,23 +307,23 @@ module _ {n a : Bytes} {c : Counts} {x : ℕ} {s : RowSet} {i : ℕ} (O : Owns n
       → IsNextAlternative a r i c.alternatives (alternatives_from g x) (AmongAlternatives g x))) where
     -- the answer, whatever the edges
     answered : (v : NextAlternative) → r ≡ v → (e : Bytes)
-        → let g = graph_in n e a c in IsNextAlternative a v i c.alternatives (alternatives_from g x) (AmongAlternatives g x)
-    unfolding graph_in alternatives_from
+        → let g = graph_of (work n e a) c in IsNextAlternative a v i c.alternatives (alternatives_from g x) (AmongAlternatives g x)
+    unfolding graph_of alternatives_from
     answered v q e =
-        let g = graph_in n O.edges a c in
+        let g = graph_of (work n O.edges a) c in
         subst (λ (u : NextAlternative). IsNextAlternative a u i c.alternatives (alternatives_from g x) (AmongAlternatives g x)) q
-        (N O.edges O.index c O.held grown-refl S.among)
+        (N O.edges c O.held grown-refl S.among)
 
-    pub sought-end : r ≡ Set.End → (e : Bytes) → false ≡ G.has_alternative x s (graph_in n e a c)
+    pub sought-end : r ≡ Set.End → (e : Bytes) → false ≡ G.has_alternative x s (graph_of (work n e a) c)
     unfolding any
     sought-end q e = ap (λ (l : List RowSet). any (λ v. eqb v s) l) (sym (answered Set.End q e)) ∙ S.left e
 
     -- by whether the set of alternative j is s
     by_first : {j : ℕ} → r ≡ Set.At j → (b : Bool) → eqb (set_of a (alternative_size * j)) s ≡ b → (e : Bytes)
-        → (b || any (λ v. eqb v s) (alternatives_from (graph_in n e a c) x (j + 1))) ≡ G.has_alternative x s (graph_in n e a c)
+        → (b || any (λ v. eqb v s) (alternatives_from (graph_of (work n e a) c) x (j + 1))) ≡ G.has_alternative x s (graph_of (work n e a) c)
     unfolding any
     by_first {j} q b t e =
-        ap (λ (b : Bool). b || any (λ v. eqb v s) (alternatives_from (graph_in n e a c) x (j + 1))) (sym t)
+        ap (λ (b : Bool). b || any (λ v. eqb v s) (alternatives_from (graph_of (work n e a) c) x (j + 1))) (sym t)
         ∙ ap (λ (l : List RowSet). any (λ v. eqb v s) l) (sym (answered (Set.At j) q e).2) ∙ S.left e
 
     pub sought-at : {j : ℕ} → r ≡ Set.At j → SoughtAt n a c x s i j

@@ -1,36 +1,33 @@
 // The graph of the procedure in three lent areas, of nodes, of edges and of alternatives (01, The procedure; Areas).
 //
 // In order: the values; the chains; the records that belong to a node, one after another; adding a record; changing a node; searches.
-// How a record stands in bytes is in crate records, what a chain is in crate chains, and how states are looked up in crate lookup.
-ghost use Rattle.std.specs.Prelude.{◌≡◌, false, ◌⊎◌, ◌≤◌, ◌<◌, length};
+// How a record stands in bytes is in crate records, and what a chain is in crate chains.
+#![tactic(auto)]
+
+ghost use Rattle.std.specs.Prelude.{◌≡◌, ◌≤◌, ◌<◌};
 ghost use Rattle.concepts.specs.Lists.{NoneBelow};
 ghost use Rattle.procedure.specs.Graph.{add_node, add_edge, add_alternative, set_status, set_link, find_state, lowest_unset};
-ghost use Rattle.procedure.specs.Tableau.{state};
 ghost use Rattle.words.specs.Sizes.{node_size, edge_size, alternative_size};
 ghost use Rattle.rowset.specs.SetOf.{set_of};
 ghost use Rattle.records.specs.Areas.{room_of, Fits};
 ghost use Rattle.records.specs.Codes as Codes;
 ghost use Rattle.records.specs.Records as Records;
-ghost use Rattle.lookup.specs.Mix.{places};
-ghost use Rattle.lookup.specs.Index.{Indexed, look_up, looked_of, LookedUp, SpotFor};
-ghost use Rattle.graph.specs.Chains as Chains;
 ghost use Rattle.graph.specs.Graphs as Graphs;
 
 use chains::{Places, append, begin, follow};
-use lookup::{Looked, Spot, enter, look_up};
 use records::layout::{
     ALTERNATIVES_AT, CHILDREN_AT, FROM_AT, NEXT_ALTERNATIVE_AT, NEXT_CHILD_AT, NEXT_PARENT_AT,
     OWNER_AT, PARENTS_AT, TO_AT,
 };
 use records::{
-    Edge, Link, Node, Status, alternative_set, is_unset, load_edge, room, store_alternative,
-    store_edge, store_link, store_node, store_status,
+    Edge, Link, Node, Status, alternative_set, is_state, is_unset, load_edge, node_set, room,
+    store_alternative, store_edge, store_link, store_node, store_status,
 };
 use rowset::same;
 use words::sizes::{ALTERNATIVE_BYTES, EDGE_BYTES, NODE_BYTES, SET_BYTES, SET_WORDS};
 
 // How many records each area has in use, at most 4,096 of each. In 2 bytes each, since nearly every function takes counts and answers with counts.
-#[derive(Drop)]
+#[derive(Clone, Copy)]
 pub struct Counts {
     pub nodes: u16,
     pub edges: u16,
@@ -38,7 +35,7 @@ pub struct Counts {
 }
 
 // An area that was short.
-#[derive(Drop)]
+#[derive(Clone, Copy)]
 pub enum Area {
     Nodes,
     Edges,
@@ -46,28 +43,28 @@ pub enum Area {
 }
 
 // What a step answers: the new counts, or the area that had no place.
-#[derive(Drop)]
+#[derive(Clone, Copy)]
 pub enum Step {
     Done(Counts),
     Full(Area),
 }
 
 // A node that was looked for.
-#[derive(Drop)]
+#[derive(Clone, Copy)]
 pub enum FoundNode {
     At(u16),
     Nothing,
 }
 
 // The next child or parent, with the index of its edge.
-#[derive(Drop)]
+#[derive(Clone, Copy)]
 pub enum Next {
     At { index: usize, node: u16 },
     End,
 }
 
 // The next alternative of a state, by its index.
-#[derive(Drop)]
+#[derive(Clone, Copy)]
 pub enum NextAlternative {
     At(usize),
     End,
@@ -149,58 +146,16 @@ pub fn next_alternative(
     }
 }
 
-// Writes n with the set s as node x. It has no children, no parents and no alternatives.
-fn make_node(nodes: &mut [u8], x: usize, s: &[u8; SET_BYTES], n: Node)
-    requires { Fits node_size nodes.old x }
-    ensures { Chains.NodeMade nodes.old nodes.new x (Records.node_of (set_of s.now 0) n) }
-{
-    store_node(nodes, x, s, n);
-    begin(nodes, CHILDREN, x);
-    begin(nodes, PARENTS, x);
-    begin(nodes, ALTERNATIVES, x);
-}
-
-// Adds a node with the set s at the end, which is no state, or the first node.
+// Adds a node with the set s at the end. It has no children, no parents and no alternatives.
 pub fn add_node(nodes: &mut [u8], c: Counts, s: &[u8; SET_BYTES], n: Node) -> Step
-    requires { (n.is_state ≡ false) ⊎ (c.nodes ≡ 0) }
     ensures { Graphs.AddsNode nodes.old nodes.new c result (λ k g. add_node k (Records.node_of (set_of s.now 0) n) g) }
 {
     let x = c.nodes as usize;
     if x < room(nodes.len(), NODE_BYTES) {
-        make_node(nodes, x, s, n);
-        Step::Done(Counts {
-            nodes: c.nodes + 1,
-            edges: c.edges,
-            alternatives: c.alternatives,
-        })
-    } else {
-        Step::Full(Area::Nodes)
-    }
-}
-
-// Adds a state with the set s at the end, and enters it in the index at the spot where a look-up did not find it.
-pub fn add_state(
-    nodes: &mut [u8],
-    c: Counts,
-    s: &[u8; SET_BYTES],
-    spot: Spot,
-    index: &mut [u16],
-) -> Step
-    requires { (0 < c.nodes) × SpotFor nodes.old c.nodes (set_of s.now 0) spot × (length index.old ≡ places) }
-    ensures { Graphs.AddsState nodes.old nodes.new index.old index.new c result
-        (λ k g. add_node k (state (set_of s.now 0)) g) }
-{
-    let x = c.nodes as usize;
-    if x < room(nodes.len(), NODE_BYTES) {
-        let state = Node {
-            status: Status::Unset,
-            is_state: true,
-            pst: 0,
-            prl: 0,
-            link: Link::None,
-        };
-        make_node(nodes, x, s, state);
-        enter(nodes, x, spot, index);
+        store_node(nodes, x, s, n);
+        begin(nodes, CHILDREN, x);
+        begin(nodes, PARENTS, x);
+        begin(nodes, ALTERNATIVES, x);
         Step::Done(Counts {
             nodes: c.nodes + 1,
             edges: c.edges,
@@ -300,14 +255,32 @@ pub fn set_link(nodes: &mut [u8], c: Counts, x: usize, link: Link)
     store_link(nodes, x, link);
 }
 
-// The lowest state with the set s, or where it could be entered; the root "is never looked up".
-pub fn find_state(nodes: &[u8], c: Counts, s: &[u8; SET_BYTES], index: &[u16]) -> Looked
-    requires { (c.nodes ≤ room_of node_size nodes.now) × Indexed nodes.now index.now c.nodes }
-    ensures { Graphs.WithIndex nodes.now index.now c (λ g. looked_of result ≡ find_state (set_of s.now 0) g)
-        × (looked_of result ≡ look_up nodes.now index.now (set_of s.now 0))
-        × LookedUp nodes.now c.nodes (set_of s.now 0) result }
+// Whether node x is a state with the set s, and not the root.
+fn is_state_with(nodes: &[u8], x: u16, s: &[u8; SET_BYTES]) -> bool
+    requires { Fits node_size nodes.now x }
+    ensures { result ≡ Graphs.is_state_with nodes.now (set_of s.now 0) x }
 {
-    look_up(nodes, c.nodes, s, index)
+    // most nodes differ in the set
+    if !same(nodes, node_set(x), s, 0, SET_WORDS) {
+        return false;
+    }
+    (0 < x) & is_state(nodes, x as usize)
+}
+
+// The state with the set s; the root "is never looked up".
+pub fn find_state(nodes: &[u8], c: Counts, s: &[u8; SET_BYTES]) -> FoundNode
+    requires { c.nodes ≤ room_of node_size nodes.now }
+    ensures { Graphs.WithNodes nodes.now c (λ g. Graphs.found_of result ≡ find_state (set_of s.now 0) g) }
+{
+    let count = c.nodes;
+    let mut x = 0;
+    while x < count {
+        if is_state_with(nodes, x, s) {
+            return FoundNode::At(x);
+        }
+        x += 1;
+    }
+    FoundNode::Nothing
 }
 
 // The lowest node that has no status, where none below `from` lacks one; nor does any below the one that is found.

@@ -1,6 +1,8 @@
 // The calls of the archive `libgumbyra.a`, through the C convention: what each promises is what the function that it calls promises.
 //
 // In order: the order program's, which are the engine's call and the text of a rule file; the converter's call. Every other is in `gumbyra_more`.
+#![tactic(auto)]
+
 ghost use Rattle.std.specs.Prelude.{◌≡◌, length, take};
 ghost use Rattle.decoding.specs.Decoding.{rule_kinds};
 ghost use Rattle.rulefile.specs.Format.{text_of};

@@ -3,6 +3,8 @@
 // In order: the engine's call with several wanted rows; the text of a file that is read with them; the catalogue's call.
 // They are no calls of `gumbyra`, since what calls of one archive share is not inlined into each, and the order program's call would be
 // slower (docs/DECISIONS.md, D74).
+#![tactic(auto)]
+
 ghost use Rattle.std.specs.Prelude.{◌≡◌, length, take};
 ghost use Rattle.decoding.specs.Decoding.{rule_kinds};
 ghost use Rattle.rulefile.specs.Format.{text_for};

@@ -1,6 +1,8 @@
 // What the walk of the example keeps in the spare bytes of the records (01, The example), read and written mark by mark.
 //
 // In order: the sizes of an example, and one link; the number of a state; the state of an element; a link read and written; every number cleared.
+#![tactic(auto)]
+
 ghost use Rattle.std.specs.Prelude.{◌≡◌, ◌≤◌};
 ghost use Rattle.words.specs.Sizes.{node_size, edge_size};
 ghost use Rattle.records.specs.Areas.{room_of, Fits};
@@ -13,14 +15,14 @@ use words::sizes::{EDGE_BYTES, NODE_BYTES};
 use words::{get2, put2};
 
 // How many elements and links an example has.
-#[derive(Drop)]
+#[derive(Clone, Copy)]
 pub struct Sizes {
     pub elements: usize,
     pub links: usize,
 }
 
 // A link between two elements: "from, role code, to" (01, Areas).
-#[derive(Drop)]
+#[derive(Clone, Copy)]
 pub struct LinkMark {
     pub from: u16,
     pub role: u16,

@@ -3,6 +3,8 @@
 // In order: what becomes of a row; rows as words, and sharing equal ones; a row with all that it needs; a list of rows; the inclusions.
 // Rows that are written stand in words, so many at the start of a slice. Which place a row of the draft, or its opposite, has got is remembered, so
 // that each is put once.
+#![tactic(auto)]
+
 ghost use Rattle.std.specs.Prelude.{◌≡◌, ◌+◌, ◌*◌, ◌≤◌, ◌<◌, length};
 ghost use Rattle.concepts.specs.Concept.{NoInclusion};
 ghost use Rattle.rulefile.specs.Format.{row_count, most_rows};
@@ -17,7 +19,7 @@ use rulefile::MOST_ROWS;
 
 // What becomes of a row: a row without arguments (kind, name); what becomes of another row (sign, row); a row over one (kind, role, sign, row) or over two
 // (kind, sign, row, sign, row). The sign says whether the row is needed as it stands or its opposite is.
-#[derive(Drop)]
+#[derive(Clone, Copy)]
 enum Shape {
     Literal(u8, u8),
     Other(bool, u8),
@@ -26,14 +28,14 @@ enum Shape {
 }
 
 // Where a row stands, and how many rows are written; or there are more than a file can have.
-#[derive(Drop)]
+#[derive(Clone, Copy)]
 enum Placement {
     At(u8, usize),
     Full,
 }
 
 // How many rows are written; or there are more than a file can have.
-#[derive(Drop)]
+#[derive(Clone, Copy)]
 pub enum Listed {
     Rows(usize),
     Full,

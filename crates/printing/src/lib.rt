@@ -3,6 +3,8 @@
 // In order: a byte; a digit; numbers; words; lines; numbers read from an area; the line of a record, and of all; the lines of an answer; the whole.
 // A function that writes takes the place of its first byte and answers the place after its last one. Where the area ends nothing
 // more is stored, and the places are counted on, so that the whole answers how much room it needs.
+#![tactic(auto)]
+
 ghost use Rattle.std.specs.Prelude.{◌≡◌, [], ◌∷◌, ◌+◌, ◌*◌, ◌<◌, length, get_or};
 ghost use Rattle.words.specs.Words.{le_at};
 ghost use Rattle.listing.specs.Layout.{element_at, link_at};

@@ -1,6 +1,8 @@
 // The reader of rule files (01, The rule file; Refusals; 02, [6] and [7]): the first check that refuses a file, or its layout; the parts of a file.
 //
 // A rule file is read with `decoding`'s RULE_KINDS. Which rows are wanted is a parameter, or the file's own row.
+#![tactic(auto)]
+
 ghost use Rattle.std.specs.Prelude.{◌≡◌, [], ◌+◌, ◌*◌, ◌≤◌, ◌<◌, length, take, drop};
 ghost use Rattle.rulefile.specs.Format as Format;
 ghost use Rattle.rulefile.specs.Checks.{Parted};
@@ -10,7 +12,7 @@ use checks::{CHECKS, first_row, number, refuses, row_count, rule_count};
 use rulefile::{ROW, TRAILER};
 
 // The length of the text, which is the place of the first row, and the numbers of rows and rules.
-#[derive(Drop)]
+#[derive(Clone, Copy)]
 pub struct Layout {
     pub text: usize,
     pub rows: usize,
@@ -18,7 +20,7 @@ pub struct Layout {
 }
 
 // A file is refused with the number of the first check that fails, 1 to 8 or 16, or accepted.
-#[derive(Drop)]
+#[derive(Clone, Copy)]
 pub enum Outcome {
     Refused(u8),
     Accepted(Layout),

@@ -1,8 +1,7 @@
 -- Where each number stands in its record, in bytes from the record's start (01, Areas). Nothing else says so, but the constants of the code (layout.rt).
 --
 -- In order, as in a record: what is the graph's own, as far as the record's extent, the set of rows before all; then the marks of the walk (crate marks);
--- then the chains (crate chains), each with the first of a node's records and, 2 bytes behind, the last, or with the next record; the rest is free. The
--- records' sizes are in words.
+-- then the chains (crate chains), each with the first of a node's records and, 2 bytes behind, the last; the rest is free. The records' sizes are in words.
 use Rattle.std.specs.Prelude.{ℕ, ◌+◌}
 use Rattle.words.specs.Sizes.{set_size}
 
@@ -49,12 +48,8 @@ parents_at = set_size + 16
 abbrev pub alternatives_at : ℕ
 alternatives_at = set_size + 20
 
--- in the chain of its starting place the next state (crate lookup)
-abbrev pub next_state_at : ℕ
-next_state_at = set_size + 24
-
 abbrev pub node_free : ℕ
-node_free = set_size + 26
+node_free = set_size + 24
 
 -- ---- an edge
 

@@ -24,8 +24,6 @@ pub const PARENTS_AT: usize = SET_BYTES + 16;
 
 pub const ALTERNATIVES_AT: usize = SET_BYTES + 20;
 
-pub const NEXT_STATE_AT: usize = SET_BYTES + 24;
-
 // An edge: its own, its marks, its chains.
 pub const FROM_AT: usize = 0;
 

@@ -3,6 +3,8 @@
 // In order: the values; tests of a status; codes of one byte; how many records an area holds; where a record's set of rows is; a record read and
 // written; one part of a node; an area cleared. Where each number stands is in layout.rt. The graph that three areas hold is in crate graph.
 // A set of rows goes by its place and is no part of a value.
+#![tactic(auto)]
+
 ghost use Rattle.std.specs.Prelude.{◌≡◌, ◌+◌, ◌*◌, ◌^◌, ◌≤◌, ◌<◌, length, replicate};
 ghost use Rattle.procedure.specs.Status.{is_open, is_live};
 ghost use Rattle.procedure.specs.Graph.{with_status, with_link};
@@ -23,7 +25,7 @@ use words::{get1, get2, put1, put2};
 pub mod layout;
 
 // "a status (none, open, yes, never, small)".
-#[derive(Drop)]
+#[derive(Clone, Copy)]
 pub enum Status {
     Unset,
     Open,
@@ -33,7 +35,7 @@ pub enum Status {
 }
 
 // "its link, which is none, a state or lapsed".
-#[derive(Drop)]
+#[derive(Clone, Copy)]
 pub enum Link {
     None,
     State(u16),
@@ -41,7 +43,7 @@ pub enum Link {
 }
 
 // A node but for its set.
-#[derive(Drop)]
+#[derive(Clone, Copy)]
 pub struct Node {
     pub status: Status,
     pub is_state: bool,
@@ -50,7 +52,7 @@ pub struct Node {
     pub link: Link,
 }
 
-#[derive(Drop)]
+#[derive(Clone, Copy)]
 pub struct Edge {
     pub from: u16,
     pub to: u16,

@@ -1,5 +1,7 @@
 // The reader over many files. Standard input holds cases, each a length of 2 bytes, low byte first, and as many bytes of a rule file; for each the program
 // writes one line: the number of the refusal, 1 to 8, or `ok`; the length of the text; the sum of the text's bytes. tests/refusals.py makes stdin and stdout.
+#![tactic(auto)]
+
 use decoding::RULE_KINDS;
 use libc::{STDIN_FILENO, STDOUT_FILENO};
 use reader::Outcome;

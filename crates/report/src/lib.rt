@@ -1,6 +1,8 @@
 // The program's work, from the bytes of a rule file to the bytes that are printed (01, Known runs): the program `fit` only reads and writes.
 //
 // In order: the areas that are lent; the text area; the report.
+#![tactic(auto)]
+
 ghost use Rattle.report.specs.Report.{Reports};
 
 use words::sizes::{ALTERNATIVE_BYTES, EDGE_BYTES, LINK_BYTES, NODE_BYTES, SET_BYTES};

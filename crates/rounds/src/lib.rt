@@ -1,6 +1,8 @@
 // The run of the procedure over lent areas (01, The procedure).
 //
 // In order: the rounds; the whole run.
+#![tactic(auto)]
+
 ghost use Rattle.graph.specs.Graphs.{work};
 ghost use Rattle.problem.specs.Decoded.{Decoded};
 ghost use Rattle.rounds.specs.Clauses.{RoundsAsks, RoundsGives, RunGives};

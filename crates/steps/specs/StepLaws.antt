@@ -12,12 +12,8 @@ use Rattle.procedure.specs.GraphLaws.{find-state}
 use Rattle.procedure.specs.Tableau.{below, state, join_alternatives, link_to, link_found, link_special}
 use Rattle.records.specs.Codes.{status_of}
 use Rattle.records.specs.Records.{node_in, IsStatus}
-use Rattle.lookup.specs.Index.{Index, looked_of, LookedUp, SpotFor}
-use Rattle.lookup.specs.declared.Spot.{Spot}
-use Rattle.lookup.specs.declared.Looked.{Looked}
-use Rattle.lookup.specs.declared.Looked.TheVariants as Look
-use Rattle.graph.specs.Graphs.{Work, work, graph_in, graph_of, capacity_of, Held, Operation, Refines, WithIndex, AddsNode, AddsState, AddsEdge}
-use Rattle.graph.specs.Graphs.{AddsAlternative, ChangesNodes}
+use Rattle.graph.specs.Graphs.{Work, work, graph_of, capacity_of, Held, Operation, Refines, WithNodes, AddsNode, AddsEdge, AddsAlternative, ChangesNodes}
+use Rattle.graph.specs.Graphs.{found_of}
 use Rattle.graph.specs.GraphLaws.{sized-refl, count-nodes, graph-node}
 use Rattle.graph.specs.AddLaws.{added-count}
 use Rattle.graph.specs.RefineLaws.{refines-answer, refines-as, refines-held, refines-then, refines-short, refines-none, changes-then}
@@ -26,38 +22,42 @@ use Rattle.records.specs.declared.Status.{Status}
 use Rattle.graph.specs.declared.Area.{Area}
 use Rattle.graph.specs.declared.Step.{Step}
 use Rattle.graph.specs.declared.Step.TheVariants.{Done, Full}
-use Rattle.steps.specs.Steps.{AddsBelow, LinksBelow, AddsRecords, add_child, add_lapsed}
+use Rattle.graph.specs.declared.FoundNode.{FoundNode}
+use Rattle.graph.specs.declared.FoundNode.TheVariants as Found
+use Rattle.steps.specs.Steps.{AddsBelow, add_child, add_lapsed}
 
 -- ---- a node that is added first
 
-module _ {w w₁ : Work} {c : Counts} {first : Step} (v : G.Node) (adds : Refines w c first w₁ (λ k g. G.add_node k v g)) where
+module _ {n n' : Bytes} {c : Counts} {first : Step} (v : G.Node) (adds : AddsNode n n' c first (λ k g. G.add_node k v g)) where
   -- the areas hold one node more
-  pub node-held : {d : Counts} → first ≡ Done d → Held w₁ d × (d.nodes ≡ c.nodes + 1)
-  node-held {d} q = let R = refines-answer adds q in (refines-held R, added-count w c v (capacity_of w) w₁ d R.meets)
+  pub node-held : {d : Counts} → first ≡ Done d → {e a : Bytes} → Held (work n e a) c → Held (work n' e a) d × (d.nodes ≡ c.nodes + 1)
+  node-held {d} w {e} {a} h =
+      let R = refines-answer (adds e a h) w in
+      (refines-held R, added-count (work n e a) c v (capacity_of (work n e a)) (work n' e a) d R.meets)
 
   -- what follows it may use its number, which is the count of the nodes before
-  pub node-then : {d : Counts} → first ≡ Done d → (next : ℕ → Operation) {s : Step} {w' : Work}
-      → (Held w₁ d → Refines w₁ d s w' (next c.nodes))
-      → Refines w c s w' (λ k g. G.◌>>=◌ (G.add_node k v g) (next (G.node_count g) k))
-  node-then {d} q next {s} {w'} after =
-      let R = refines-answer adds q in
+  pub node-then : {d : Counts} → first ≡ Done d → (next : ℕ → Operation) {e a : Bytes} {s : Step} {w' : Work} → Held (work n e a) c
+      → (Held (work n' e a) d → Refines (work n' e a) d s w' (next c.nodes))
+      → Refines (work n e a) c s w' (λ k g. G.◌>>=◌ (G.add_node k v g) (next (G.node_count g) k))
+  node-then {d} w next {e} {a} {s} {w'} h after =
+      let R = refines-answer (adds e a h) w in
       refines-then R (λ g. next (G.node_count g))
-      (subst (λ (m : ℕ). Refines w₁ d s w' (next m)) (sym (count-nodes w c)) (after (refines-held R)))
+      (subst (λ (m : ℕ). Refines (work n' e a) d s w' (next m)) (sym (count-nodes (work n e a) c)) (after (refines-held R)))
 
   -- without a place for it nothing follows
-  pub node-short : {p : Area} → first ≡ Full p → (next : ℕ → Operation)
-      → Refines w c (Full p) w₁ (λ k g. G.◌>>=◌ (G.add_node k v g) (next (G.node_count g) k))
-  node-short q next = refines-short (refines-answer adds q) (λ g. next (G.node_count g)) sized-refl
+  pub node-short : {p : Area} → first ≡ Full p → (next : ℕ → Operation) {e a : Bytes} → Held (work n e a) c
+      → Refines (work n e a) c (Full p) (work n' e a) (λ k g. G.◌>>=◌ (G.add_node k v g) (next (G.node_count g) k))
+  node-short w next {e} {a} h = refines-short (refines-answer (adds e a h) w) (λ g. next (G.node_count g)) sized-refl
 
 -- ---- a node with the edge to it
 
 module _ {n n' e : Bytes} {c : Counts} {first : Step} (x : ℕ) (v : G.Node) (adds : AddsNode n n' c first (λ k g. G.add_node k v g)) where
   pub child-done : {n'' e' : Bytes} {d : Counts} {s : Step} → first ≡ Done d → AddsEdge n' n'' e e' d s (λ k g. G.add_edge k x c.nodes g)
       → AddsBelow n n'' e e' c s (add_child x v)
-  child-done w edge a t h = node-then v (adds e a t h) w (λ m k g. G.add_edge k x m g) (λ held. edge a t held)
+  child-done w edge a h = node-then v adds w (λ m k g. G.add_edge k x m g) h (λ held. edge a held)
 
   pub child-full : {p : Area} → first ≡ Full p → AddsBelow n n' e e c (Full p) (add_child x v)
-  child-full w a t h = node-short v (adds e a t h) w (λ m k g. G.add_edge k x m g)
+  child-full w a h = node-short v adds w (λ m k g. G.add_edge k x m g) h
 
 -- ---- a special node that is linked
 
@@ -65,59 +65,51 @@ pub link-done : {n n₁ n' e e' : Bytes} {c : Counts} {s : Step} (z y : ℕ) →
     → AddsEdge n₁ n' e e' c s (λ k g. G.add_edge k z y g)
     → AddsBelow n n' e e' c s (λ k g. link_to k z y g)
 unfolding link_to
-link-done {e = e} z y changes edge a t h = let C = changes e a t h in changes-then C (λ g k u. G.add_edge k z y u) (edge a t C.held)
+link-done {e = e} z y changes edge a h = let C = changes e a h in changes-then C (λ g k u. G.add_edge k z y u) (edge a C.held)
 
 -- the state that was looked for
-module _ {n : Bytes} {t : Index} {c : Counts} (z : ℕ) (rows : RowSet) {r : Looked} (found : WithIndex n t c (λ g. looked_of r ≡ G.find_state rows g)) where
+module _ {n : Bytes} {c : Counts} (z : ℕ) (rows : RowSet) {r : FoundNode} (found : WithNodes n c (λ g. found_of r ≡ G.find_state rows g)) where
   -- as if it was known which it is
-  as-found : {e e' n' : Bytes} {t' : Index} {s : Step} {v : Looked} → r ≡ v
-      → LinksBelow n n' e e' t t' c s (λ k g. link_found k z rows (looked_of v) g)
-      → LinksBelow n n' e e' t t' c s (λ k g. link_found k z rows (G.find_state rows g) g)
+  as-found : {e e' n' : Bytes} {s : Step} {v : FoundNode} → r ≡ v → AddsBelow n n' e e' c s (λ k g. link_found k z rows (found_of v) g)
+      → AddsBelow n n' e e' c s (λ k g. link_found k z rows (G.find_state rows g) g)
   as-found {e} {v = v} w links a h =
-      refines-as (links a h)
-      (ap (λ (o : Option ℕ). link_found (capacity_of (work n e a t)) z rows o (graph_in n e a c)) (sym (found e a h) ∙ ap looked_of w))
+      let g = graph_of (work n e a) c in
+      refines-as (links a h) (ap (λ (o : Option ℕ). link_found (capacity_of (work n e a)) z rows o g) (sym (found e a h) ∙ ap found_of w))
 
   -- it is a node
-  pub found_below : {y : ℕ} → r ≡ Look.At y → {e a : Bytes} → Held (work n e a t) c → y < c.nodes
+  pub found_below : {y : ℕ} → r ≡ Found.At y → {e a : Bytes} → Held (work n e a) c → y < c.nodes
   found_below {y} w {e} {a} h =
-      omega (arith, (find-state rows (graph_in n e a c) y (sym (found e a h) ∙ ap looked_of w)).0, count-nodes (work n e a t) c)
+      let g = graph_of (work n e a) c in
+      omega (arith, (find-state rows g y (sym (found e a h) ∙ ap found_of w)).0, count-nodes (work n e a) c)
 
-  pub found-there : {n' e e' : Bytes} {s : Step} {y : ℕ} → r ≡ Look.At y → AddsBelow n n' e e' c s (λ k g. link_to k z y g)
-      → LinksBelow n n' e e' t t c s (λ k g. link_found k z rows (G.find_state rows g) g)
+  pub found-there : {n' e e' : Bytes} {s : Step} {y : ℕ} → r ≡ Found.At y → AddsBelow n n' e e' c s (λ k g. link_to k z y g)
+      → AddsBelow n n' e e' c s (λ k g. link_found k z rows (G.find_state rows g) g)
   unfolding link_found
-  found-there {y = y} w links = as-found {v = Look.At y} w (λ a. links a t)
+  found-there {y = y} w links = as-found {v = Found.At y} w links
 
-  module _ {spot : Spot} (w : r ≡ Look.Missing spot) {n₁ e : Bytes} {t₁ : Index} {first : Step}
-      (adds : AddsState n n₁ t t₁ c first (λ k g. G.add_node k (state rows) g)) where
+  module _ (w : r ≡ Found.Nothing) {n₁ e : Bytes} {first : Step} (adds : AddsNode n n₁ c first (λ k g. G.add_node k (state rows) g)) where
     -- it is made
     pub found-new : {n' e' : Bytes} {d : Counts} {s : Step} → first ≡ Done d → AddsBelow n₁ n' e e' d s (λ k g. link_to k z c.nodes g)
-        → LinksBelow n n' e e' t t₁ c s (λ k g. link_found k z rows (G.find_state rows g) g)
+        → AddsBelow n n' e e' c s (λ k g. link_found k z rows (G.find_state rows g) g)
     unfolding link_found
-    found-new q links =
-        as-found {v = Look.Missing spot} w (λ a h. node-then (state rows) (adds e a h) q (λ m k g. link_to k z m g) (λ held. links a t₁ held))
+    found-new q links = as-found {v = Found.Nothing} w (λ a h. node-then (state rows) adds q (λ m k g. link_to k z m g) h (λ held. links a held))
 
     -- or finds no place
-    pub found-full : {p : Area} → first ≡ Full p → LinksBelow n n₁ e e t t₁ c (Full p) (λ k g. link_found k z rows (G.find_state rows g) g)
+    pub found-full : {p : Area} → first ≡ Full p → AddsBelow n n₁ e e c (Full p) (λ k g. link_found k z rows (G.find_state rows g) g)
     unfolding link_found
-    found-full q = as-found {v = Look.Missing spot} w (λ a h. node-short (state rows) (adds e a h) q (λ m k g. link_to k z m g))
+    found-full q = as-found {v = Found.Nothing} w (λ a h. node-short (state rows) adds q (λ m k g. link_to k z m g) h)
 
--- what the making of a state asks
-pub spot-found : {n : Bytes} {count : ℕ} {rows : RowSet} {r : Looked} → LookedUp n count rows r → {spot : Spot} → r ≡ Look.Missing spot
-    → SpotFor n count rows spot
-spot-found {n} {count} {rows} L e = (subst (λ (v : Looked). LookedUp n count rows v) e L).1
-
-module _ {n n₁ e : Bytes} {t : Index} {c : Counts} {first : Step} (p ρ : ℕ) (rows : RowSet)
+module _ {n n₁ e : Bytes} {c : Counts} {first : Step} (p ρ : ℕ) (rows : RowSet)
     (adds : AddsNode n n₁ c first (λ k g. G.add_node k (below p ρ rows unset G.unlinked) g)) where
-  pub special-done : {n' e' : Bytes} {t' : Index} {d : Counts} {s : Step} → first ≡ Done d
-      → LinksBelow n₁ n' e e' t t' d s (λ k g. link_found k c.nodes rows (G.find_state rows g) g)
-      → LinksBelow n n' e e' t t' c s (λ k g. link_special k p ρ rows g)
+  pub special-done : {n' e' : Bytes} {d : Counts} {s : Step} → first ≡ Done d
+      → AddsBelow n₁ n' e e' d s (λ k g. link_found k c.nodes rows (G.find_state rows g) g)
+      → AddsBelow n n' e e' c s (λ k g. link_special k p ρ rows g)
   unfolding link_special
-  special-done w links a h =
-      node-then (below p ρ rows unset G.unlinked) (adds e a t h) w (λ m k g. link_found k m rows (G.find_state rows g) g) (λ held. links a held)
+  special-done w links a h = node-then (below p ρ rows unset G.unlinked) adds w (λ m k g. link_found k m rows (G.find_state rows g) g) h (λ held. links a held)
 
-  pub special-full : {area : Area} → first ≡ Full area → LinksBelow n n₁ e e t t c (Full area) (λ k g. link_special k p ρ rows g)
+  pub special-full : {area : Area} → first ≡ Full area → AddsBelow n n₁ e e c (Full area) (λ k g. link_special k p ρ rows g)
   unfolding link_special
-  special-full w a h = node-short (below p ρ rows unset G.unlinked) (adds e a t h) w (λ m k g. link_found k m rows (G.find_state rows g) g)
+  special-full w a h = node-short (below p ρ rows unset G.unlinked) adds w (λ m k g. link_found k m rows (G.find_state rows g) g) h
 
 -- ---- a special node that is lapsed
 
@@ -130,14 +122,15 @@ module _ {n : Bytes} (c : Counts) (p : ℕ) (lacked : RowSet) (v : Status) (read
       → AddsAlternative n n' a a' c s (λ k g. G.add_alternative k p lacked g)
       → AddsAlternative n n' a a' c s (λ k g. join_alternatives k p lacked g)
   unfolding join_alternatives
-  join-done {a = a} live adds e t h = refines-as (adds e t h) (rw (sym (status-read (work n e a t) refl) ∙ live, join_alternatives))
+  join-done {a = a} live adds e h = refines-as (adds e h) (rw (sym (status-read (work n e a) refl) ∙ live, join_alternatives))
 
   pub join-not : {a : Bytes} → is_live (status_of v) ≡ false → AddsAlternative n n a a c (Done c) (λ k g. join_alternatives k p lacked g)
   unfolding join_alternatives
-  join-not {a} settled e t h = refines-as (refines-none h) (rw (sym (status-read (work n e a t) refl) ∙ settled, join_alternatives))
+  join-not {a} settled e h = refines-as (refines-none h) (rw (sym (status-read (work n e a) refl) ∙ settled, join_alternatives))
 
 module _ {n n₁ e a : Bytes} {c : Counts} {first : Step} (x p ρ : ℕ) (rows lacked : RowSet)
-    (adds : AddsNode n n₁ c first (λ k g. G.add_node k (below p ρ rows toosmall G.lapsed) g)) where
+    (adds : AddsNode n n₁ c first (λ k g. G.add_node k (below p ρ rows toosmall G.lapsed) g))
+    (h : Held (work n e a) c) where
   abbrev joining : ℕ → Operation
   joining m k g = join_alternatives k p lacked g
 
@@ -146,23 +139,23 @@ module _ {n n₁ e a : Bytes} {c : Counts} {first : Step} (x p ρ : ℕ) (rows l
 
   module _ {n₂ a' : Bytes} {d : Counts} {second : Step} (w : first ≡ Done d)
       (joins : AddsAlternative n₁ n₂ a a' d second (λ k g. join_alternatives k p lacked g)) where
-    joined : AddsRecords n n₂ e e a a' c second (λ k g. G.◌>>=◌ (G.add_node k (below p ρ rows toosmall G.lapsed) g) (join_alternatives k p lacked))
-    joined t h = node-then (below p ρ rows toosmall G.lapsed) (adds e a t h) w joining (λ held. joins e t held)
+    joined : Refines (work n e a) c second (work n₂ e a')
+        (λ k g. G.◌>>=◌ (G.add_node k (below p ρ rows toosmall G.lapsed) g) (join_alternatives k p lacked))
+    joined = node-then (below p ρ rows toosmall G.lapsed) adds w joining h (λ held. joins e held)
 
     -- the areas hold the node, and there are as many nodes as then
-    pub joined-held : {b : Counts} → second ≡ Done b → (t : Index) → Held (work n e a t) c → Held (work n₂ e a' t) b × (d.nodes ≤ b.nodes)
-    joined-held u t h =
-        let R = refines-answer (joins e t (node-held (below p ρ rows toosmall G.lapsed) (adds e a t h) w).0) u in (refines-held R, R.held.1.nodes)
+    pub joined-held : {b : Counts} → second ≡ Done b → Held (work n₂ e a') b × (d.nodes ≤ b.nodes)
+    joined-held u = let R = refines-answer (joins e (node-held (below p ρ rows toosmall G.lapsed) adds w h).0) u in (refines-held R, R.held.1.nodes)
 
     pub lapsed-done : {n₃ e' : Bytes} {b : Counts} {s : Step} → second ≡ Done b → AddsEdge n₂ n₃ e e' b s (λ k g. G.add_edge k x c.nodes g)
-        → AddsRecords n n₃ e e' a a' c s (add_lapsed x p ρ rows lacked)
-    lapsed-done {n₃} {e'} {b} {s} u edge t h =
-        let R = refines-answer (joined t h) u in
-        refines-then R last (subst (λ (m : ℕ). Refines (work n₂ e a' t) b s (work n₃ e' a' t) (λ k g. G.add_edge k x m g))
-        (sym (count-nodes (work n e a t) c)) (edge a' t (refines-held R)))
+        → Refines (work n e a) c s (work n₃ e' a') (add_lapsed x p ρ rows lacked)
+    lapsed-done {n₃} {e'} {b} {s} u edge =
+        let R = refines-answer joined u in
+        refines-then R last (subst (λ (m : ℕ). Refines (work n₂ e a') b s (work n₃ e' a') (λ k g. G.add_edge k x m g))
+        (sym (count-nodes (work n e a) c)) (edge a' (refines-held R)))
 
-    pub lapsed-full : {area : Area} → second ≡ Full area → AddsRecords n n₂ e e a a' c (Full area) (add_lapsed x p ρ rows lacked)
-    lapsed-full u t h = refines-short (refines-answer (joined t h) u) last sized-refl
+    pub lapsed-full : {area : Area} → second ≡ Full area → Refines (work n e a) c (Full area) (work n₂ e a') (add_lapsed x p ρ rows lacked)
+    lapsed-full u = refines-short (refines-answer joined u) last sized-refl
 
-  pub lapsed-none : {area : Area} → first ≡ Full area → AddsRecords n n₁ e e a a c (Full area) (add_lapsed x p ρ rows lacked)
-  lapsed-none w t h = refines-short (node-short (below p ρ rows toosmall G.lapsed) (adds e a t h) w joining) last sized-refl
+  pub lapsed-none : {area : Area} → first ≡ Full area → Refines (work n e a) c (Full area) (work n₁ e a) (add_lapsed x p ρ rows lacked)
+  lapsed-none w = refines-short (node-short (below p ρ rows toosmall G.lapsed) adds w joining h) last sized-refl

@@ -5,21 +5,13 @@ use Rattle.concepts.specs.RowSet.{RowSet}
 use Rattle.procedure.specs.Status.{toosmall}
 use Rattle.procedure.specs.Graph as G
 use Rattle.procedure.specs.Tableau.{below, join_alternatives}
-use Rattle.lookup.specs.Index.{Index}
 use Rattle.graph.specs.Graphs.{work, Held, Operation, Refines}
 use Rattle.graph.specs.declared.Counts.{Counts}
 use Rattle.graph.specs.declared.Step.{Step}
 
--- nodes n became n' and edges e e' with the answer r, as f does with the graph, whatever the alternatives and the index
+-- nodes n became n' and edges e e' with the answer r, as f does with the graph, whatever the alternatives
 abbrev pub AddsBelow : Bytes → Bytes → Bytes → Bytes → Counts → Step → Operation → Type 0
-AddsBelow n n' e e' c r f = (a : Bytes) (t : Index) → Held (work n e a t) c → Refines (work n e a t) c r (work n' e' a t) f
-
--- .. and the index t became t'; .. and the alternatives a became a'
-abbrev pub LinksBelow : Bytes → Bytes → Bytes → Bytes → Index → Index → Counts → Step → Operation → Type 0
-LinksBelow n n' e e' t t' c r f = (a : Bytes) → Held (work n e a t) c → Refines (work n e a t) c r (work n' e' a t') f
-
-abbrev pub AddsRecords : Bytes → Bytes → Bytes → Bytes → Bytes → Bytes → Counts → Step → Operation → Type 0
-AddsRecords n n' e e' a a' c r f = (t : Index) → Held (work n e a t) c → Refines (work n e a t) c r (work n' e' a' t) f
+AddsBelow n n' e e' c r f = (a : Bytes) → Held (work n e a) c → Refines (work n e a) c r (work n' e' a) f
 
 -- a node, and the edge to it
 abbrev pub add_child : ℕ → G.Node → Operation

@@ -12,7 +12,7 @@ use Rattle.procedure.specs.Tableau.{fold_children}
 use Rattle.words.specs.Sizes.{edge_size}
 use Rattle.records.specs.Codes.{status_of}
 use Rattle.records.specs.Records.{node_in}
-use Rattle.graph.specs.Graphs.{lent, graph_in, WithEdges, ChangesNodes, children_from, AmongChildren, Walks, IsNext}
+use Rattle.graph.specs.Graphs.{work, graph_of, WithEdges, ChangesNodes, children_from, AmongChildren, Walks, IsNext}
 use Rattle.graph.specs.GraphLaws.{grown-refl, graph-node}
 use Rattle.graph.specs.SearchLaws.{children-all}
 use Rattle.graph.specs.declared.Counts.{Counts}
@@ -42,13 +42,13 @@ entry_at rows table e a b i j p q =
 -- ---- a fold over the children
 
 -- the children are by the edges alone
-ends_of : (n e a : Bytes) (c : Counts) (x i : ℕ) → children_from (graph_in n e a c) x i ≡ ends_from e c x i
-unfolding graph_in children_from ends_from
+ends_of : (n e a : Bytes) (c : Counts) (x i : ℕ) → children_from (graph_of (work n e a) c) x i ≡ ends_from e c x i
+unfolding graph_of children_from ends_from
 ends_of n e a c x i = refl
 
 -- place i is one among the ends of the edges from x
 unfoldable pub AmongEnds : Bytes → Counts → ℕ → ℕ → Type 0
-AmongEnds e c x i = AmongChildren (graph_in [] e [] c) x i
+AmongEnds e c x i = AmongChildren (graph_of (work [] e []) c) x i
 
 -- from place i on, the children are nodes, and folding them from v gives what folding all from the start gives
 pub record Folds (table : P.StatusTable) (n e : Bytes) (c : Counts) (x : ℕ) (start : P.Status) (i : ℕ) (v : P.Status) : Type 0 where
@@ -57,8 +57,8 @@ pub record Folds (table : P.StatusTable) (n e : Bytes) (c : Counts) (x : ℕ) (s
   pub inside : (y : ℕ) → Memᴰ y (ends_from e c x i) → y < c.nodes
   pub rest : P.fold_status table v (statuses_from n e c x i) ≡ P.fold_status table start (statuses_from n e c x 0)
 
-ends-all : (n e a : Bytes) (c : Counts) (x : ℕ) → ends_from e c x 0 ≡ G.children (graph_in n e a c) x
-ends-all n e a c x = sym (ends_of n e a c x 0) ∙ children-all (graph_in n e a c) x
+ends-all : (n e a : Bytes) (c : Counts) (x : ℕ) → ends_from e c x 0 ≡ G.children (graph_of (work n e a) c) x
+ends-all n e a c x = sym (ends_of n e a c x 0) ∙ children-all (graph_of (work n e a) c) x
 
 -- every child is a node
 judges-inside : {n e : Bytes} {c : Counts} {x : ℕ} → Judges n e c x → (y : ℕ) → Memᴰ y (ends_from e c x 0) → y < c.nodes
@@ -83,10 +83,10 @@ pub record NextEnd (e : Bytes) (c : Counts) (x i k y : ℕ) : Type 0 where
 module _ {n e : Bytes} {c : Counts} {x : ℕ} (j : Judges n e c x) (i : ℕ) (o : AmongEnds e c x i) {r : Next}
     (all : WithEdges n e c (λ g. AmongChildren g x i → IsNext r i c.edges (children_from g x) (AmongChildren g x))) where
   as-next : (s : Next) → r ≡ s → IsNext s i c.edges (ends_from e c x) (AmongEnds e c x)
-  unfolding graph_in children_from ends_from AmongEnds
+  unfolding graph_of children_from ends_from AmongEnds
   as-next s w =
-      let g : G.Graph = graph_in n e j.alternatives c in
-      subst (λ (t : Next). IsNext t i c.edges (children_from g x) (AmongChildren g x)) w (all j.alternatives j.index c j.held grown-refl o)
+      let g : G.Graph = graph_of (work n e j.alternatives) c in
+      subst (λ (t : Next). IsNext t i c.edges (children_from g x) (AmongChildren g x)) w (all j.alternatives c j.held grown-refl o)
 
   pub next-at : {k y : ℕ} → r ≡ Next.At k y → NextEnd e c x i k y
   next-at {k} {y} w = let (from, below, more, among) = as-next (Next.At k y) w in record { from = from; below = below; more = more; among = among }
@@ -122,22 +122,22 @@ map_same f g [] all = refl
 map_same f g (x ∷ xs) all = let p = all x (Memᴰ.head refl) in let q = map_same f g xs (λ y m. all y (Memᴰ.tail m)) in cc
 
 module _ {n e : Bytes} {c : Counts} {x : ℕ} (j : Judges n e c x) where
-  statuses-graph : (a : Bytes) → statuses_from n e c x 0 ≡ map (λ y. (G.node_at (graph_in n e a c) y).status) (G.children (graph_in n e a c) x)
+  statuses-graph : (a : Bytes) → statuses_from n e c x 0 ≡ map (λ y. (G.node_at (graph_of (work n e a) c) y).status) (G.children (graph_of (work n e a) c) x)
   unfolding statuses_from
   statuses-graph a =
-      map_same (λ y. (node_in n y).status) (λ y. (G.node_at (graph_in n e a c) y).status) (ends_from e c x 0)
-      (λ y m. ap (λ (v : G.Node). v.status) (sym (graph-node (lent n e a) c y (judges-inside j y m))))
-      ∙ ap (λ (ys : List ℕ). map (λ y. (G.node_at (graph_in n e a c) y).status) ys) (ends-all n e a c x)
+      map_same (λ y. (node_in n y).status) (λ y. (G.node_at (graph_of (work n e a) c) y).status) (ends_from e c x 0)
+      (λ y m. ap (λ (v : G.Node). v.status) (sym (graph-node (work n e a) c y (judges-inside j y m))))
+      ∙ ap (λ (ys : List ℕ). map (λ y. (G.node_at (graph_of (work n e a) c) y).status) ys) (ends-all n e a c x)
 
   -- a node that took what the fold gave is judged
   pub judged : {n' : Bytes} (table : P.StatusTable) (v u : P.Status) → u ≡ P.fold_status table v (statuses_from n e c x 0)
       → ChangesNodes n n' c (G.set_status x u)
       → JudgesAs n n' e c (fold_children table v x)
   unfolding fold_children
-  judged {n'} table v u p changes a t h =
-      let C = changes e a t h in
+  judged {n'} table v u p changes a h =
+      let C = changes e a h in
       record {
-        meets = C.meets ∙ ap (λ (w : P.Status). G.set_status x w (graph_in n e a c))
+        meets = C.meets ∙ ap (λ (w : P.Status). G.set_status x w (graph_of (work n e a) c))
             (p ∙ ap (λ (ws : List P.Status). P.fold_status table v ws) (statuses-graph a));
         held = C.held;
         sized = C.sized;

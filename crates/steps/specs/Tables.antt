@@ -5,8 +5,7 @@ use Rattle.concepts.specs.Lists.{Bytes}
 use Rattle.procedure.specs.Status.{Status, StatusTable, branch_table, state_table}
 use Rattle.procedure.specs.Graph as G
 use Rattle.records.specs.Records.{node_in}
-use Rattle.lookup.specs.Index.{Index}
-use Rattle.graph.specs.Graphs.{work, graph_in, Held, Changes, children_from}
+use Rattle.graph.specs.Graphs.{work, graph_of, Held, Changes, children_from}
 use Rattle.graph.specs.declared.Counts.{Counts}
 use Rattle.steps.specs.declared.Pairs.{Pairs}
 use Rattle.steps.specs.declared.Pairs.TheVariants.{Branch, State}
@@ -15,21 +14,20 @@ abbrev pub status_table : Pairs → StatusTable
 status_table Branch = branch_table
 status_table State = state_table
 
--- node x and its children are nodes of a graph with these nodes and edges, and some alternatives, and some index
+-- node x and its children are nodes of a graph with these nodes and edges, and some alternatives
 pub record Judges (n e : Bytes) (c : Counts) (x : ℕ) : Type 0 where
   pub alternatives : Bytes
-  pub index : Index
-  pub held : Held (work n e alternatives index) c
+  pub held : Held (work n e alternatives) c
   pub node : x < c.nodes
-  pub inside : (y : ℕ) → Memᴰ y (G.children (graph_in n e alternatives c) x) → y < c.nodes
+  pub inside : (y : ℕ) → Memᴰ y (G.children (graph_of (work n e alternatives) c) x) → y < c.nodes
 
--- nodes n became n', as f does with the graph, whatever the alternatives and the index
+-- nodes n became n', as f does with the graph, whatever the alternatives
 abbrev pub JudgesAs : Bytes → Bytes → Bytes → Counts → (G.Graph → G.Graph) → Type 0
-JudgesAs n n' e c f = (a : Bytes) (t : Index) → Held (work n e a t) c → Changes (work n e a t) c (work n' e a t) f
+JudgesAs n n' e c f = (a : Bytes) → Held (work n e a) c → Changes (work n e a) c (work n' e a) f
 
 -- the ends of the edges from x, from edge i on
 unfoldable pub ends_from : Bytes → Counts → ℕ → ℕ → List ℕ
-ends_from e c x i = children_from (graph_in [] e [] c) x i
+ends_from e c x i = children_from (graph_of (work [] e []) c) x i
 
 -- their statuses
 unfoldable pub statuses_from : Bytes → Bytes → Counts → ℕ → ℕ → List Status

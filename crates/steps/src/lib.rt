@@ -1,7 +1,9 @@
 // The steps of the tableau that do not recur, on the graph in three lent areas (01, The procedure).
 //
 // In order: a node with the edge to it; a special node that is linked; one that is lapsed; the two tables of statuses; judging by them.
-ghost use Rattle.std.specs.Prelude.{◌≡◌, false, ◌≤◌, ◌<◌};
+#![tactic(auto)]
+
+ghost use Rattle.std.specs.Prelude.{◌≡◌, ◌≤◌, ◌<◌};
 ghost use Rattle.procedure.specs.Status as Procedure;
 ghost use Rattle.procedure.specs.Graph as Graph;
 ghost use Rattle.procedure.specs.Tableau as Tableau;
@@ -10,19 +12,18 @@ ghost use Rattle.rowset.specs.SetOf.{set_of};
 ghost use Rattle.records.specs.Areas.{room_of};
 ghost use Rattle.records.specs.Codes as Codes;
 ghost use Rattle.records.specs.Records as Records;
-ghost use Rattle.graph.specs.Graphs.{AreasHeld, EdgesHeld, IndexHeld, AddsAlternative, Owns};
+ghost use Rattle.graph.specs.Graphs.{work, Held, EdgesHeld, Refines, AddsAlternative, Owns};
 ghost use Rattle.steps.specs.Steps as Steps;
 ghost use Rattle.steps.specs.Tables as Tables;
 
 use graph::{
-    Counts, Next, Step, add_alternative, add_edge, add_node, add_state, find_state, next_child,
+    Counts, FoundNode, Next, Step, add_alternative, add_edge, add_node, find_state, next_child,
     set_link, set_status,
 };
-use lookup::Looked;
 use records::{Link, Node, Status, is_live, status_of};
 use words::sizes::SET_BYTES;
 
-// Adds a node with the set s, which is no state, and the edge to it.
+// Adds a node with the set s, and the edge to it.
 pub fn add_child(
     nodes: &mut [u8],
     edges: &mut [u8],
@@ -31,7 +32,7 @@ pub fn add_child(
     s: &[u8; SET_BYTES],
     node: Node,
 ) -> Step
-    requires { (from < c.nodes) × (node.is_state ≡ false) × EdgesHeld nodes.old edges.old c }
+    requires { (from < c.nodes) × EdgesHeld nodes.old edges.old c }
     ensures { Steps.AddsBelow nodes.old nodes.new edges.old edges.new c result
         (Steps.add_child from (Records.node_of (set_of s.now 0) node)) }
 {
@@ -52,25 +53,26 @@ fn link_to(nodes: &mut [u8], edges: &mut [u8], c: Counts, z: u16, y: u16) -> Ste
 }
 
 // Links node z to the state with the set s, made if new.
-fn link_found(
-    nodes: &mut [u8],
-    edges: &mut [u8],
-    c: Counts,
-    z: u16,
-    s: &[u8; SET_BYTES],
-    index: &mut [u16],
-) -> Step
-    requires { (z < c.nodes) × IndexHeld nodes.old edges.old index.old c }
-    ensures { Steps.LinksBelow nodes.old nodes.new edges.old edges.new
-        index.old index.new c result
+fn link_found(nodes: &mut [u8], edges: &mut [u8], c: Counts, z: u16, s: &[u8; SET_BYTES]) -> Step
+    requires { (z < c.nodes) × EdgesHeld nodes.old edges.old c }
+    ensures { Steps.AddsBelow nodes.old nodes.new edges.old edges.new c result
         (λ k g. Tableau.link_found k z (set_of s.now 0) (Graph.find_state (set_of s.now 0) g) g) }
 {
-    match find_state(nodes, c, s, index) {
-        Looked::At(y) => link_to(nodes, edges, c, z, y),
-        Looked::Missing(spot) => match add_state(nodes, c, s, spot, index) {
-            Step::Done(d) => link_to(nodes, edges, d, z, c.nodes),
-            Step::Full(area) => Step::Full(area),
-        },
+    match find_state(nodes, c, s) {
+        FoundNode::At(y) => link_to(nodes, edges, c, z, y),
+        FoundNode::Nothing => {
+            let state = Node {
+                status: Status::Unset,
+                is_state: true,
+                pst: 0,
+                prl: 0,
+                link: Link::None,
+            };
+            match add_node(nodes, c, s, state) {
+                Step::Done(d) => link_to(nodes, edges, d, z, c.nodes),
+                Step::Full(area) => Step::Full(area),
+            }
+        }
     }
 }
 
@@ -82,11 +84,9 @@ pub fn link_special(
     p: u16,
     role: u8,
     s: &[u8; SET_BYTES],
-    index: &mut [u16],
 ) -> Step
-    requires { IndexHeld nodes.old edges.old index.old c }
-    ensures { Steps.LinksBelow nodes.old nodes.new edges.old edges.new
-        index.old index.new c result
+    requires { EdgesHeld nodes.old edges.old c }
+    ensures { Steps.AddsBelow nodes.old nodes.new edges.old edges.new c result
         (λ k g. Tableau.link_special k p role (set_of s.now 0) g) }
 {
     let special = Node {
@@ -97,7 +97,7 @@ pub fn link_special(
         link: Link::None,
     };
     match add_node(nodes, c, s, special) {
-        Step::Done(d) => link_found(nodes, edges, d, c.nodes, s, index),
+        Step::Done(d) => link_found(nodes, edges, d, c.nodes, s),
         Step::Full(area) => Step::Full(area),
     }
 }
@@ -134,9 +134,9 @@ pub fn add_lapsed(
     s: &[u8; SET_BYTES],
     lacked: &[u8; SET_BYTES],
 ) -> Step
-    requires { (from < c.nodes) × (p < c.nodes) × AreasHeld nodes.old edges.old alternatives.old c }
-    ensures { Steps.AddsRecords nodes.old nodes.new edges.old edges.new
-        alternatives.old alternatives.new c result
+    requires { (from < c.nodes) × (p < c.nodes) × Held (work nodes.old edges.old alternatives.old) c }
+    ensures { Refines (work nodes.old edges.old alternatives.old) c result
+        (work nodes.new edges.new alternatives.new)
         (Steps.add_lapsed from p role (set_of s.now 0) (set_of lacked.now 0)) }
 {
     let lapsed = Node {
@@ -156,7 +156,7 @@ pub fn add_lapsed(
 }
 
 // Which of the two tables of status pairs.
-#[derive(Drop)]
+#[derive(Clone, Copy)]
 enum Pairs {
     Branch,
     State,

@@ -1,1 +1,2 @@
 // Which names are under which: definitions, in specs/. Nothing to run.
+#![tactic(auto)]

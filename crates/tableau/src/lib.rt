@@ -1,6 +1,8 @@
 // The tableau over lent areas (01, The procedure).
 //
 // In order: putting a set; judging a node; the alternatives of a small state. They call each other: the rows missing from the set fall.
+#![tactic(auto)]
+
 ghost use Rattle.std.specs.Prelude.{◌≡◌, ◌+◌, ◌*◌, ◌≤◌, ◌<◌, length};
 ghost use Rattle.concepts.specs.RowSet.{union};
 ghost use Rattle.words.specs.Sizes.{node_size, alternative_size, set_size, most_records};

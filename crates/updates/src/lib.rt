@@ -4,6 +4,8 @@
 // A parent's own parents are updated by a call only while other parents are left; those of the last one are updated in the loop. Both come after one
 // node more is settled.
 // So a nested call needs a node with two parents, and only states have more than one.
+#![tactic(auto)]
+
 ghost use Rattle.std.specs.Prelude.{◌≡◌};
 ghost use Rattle.words.specs.Sizes.{edge_size};
 ghost use Rattle.graph.specs.Graphs.{work, WithEdges, parents_from, AmongParents, Walks};
@@ -14,7 +16,7 @@ use records::{is_open, status_of};
 use tableau::judge;
 
 // What judging an open node again came to: the counts, with its status as it was or changed, or the area that had no place.
-#[derive(Drop)]
+#[derive(Clone, Copy)]
 pub enum Rejudged {
     Kept(Counts),
     Changed(Counts),

@@ -3,6 +3,8 @@
 //
 // In order: the statuses that the walk goes to; the child that it goes to; down to a state; meeting a state; the rows of an element; the walk.
 // Elements and links are kept as marks in the spare bytes of the records.
+#![tactic(auto)]
+
 ghost use Rattle.std.specs.Prelude.{◌≡◌, ◌≤◌};
 ghost use Rattle.procedure.specs.Status.{is_sat};
 ghost use Rattle.procedure.specs.Example as Example;

@@ -1,6 +1,8 @@
 // The bytes of the example, written from the spare bytes of the records (01, Areas; 02, [2]).
 //
 // In order: the names of all elements; a link; all links; the example, which lists every row that holds.
+#![tactic(auto)]
+
 ghost use Rattle.std.specs.Prelude.{◌≡◌, ◌+◌, ◌*◌, ◌≤◌, length};
 ghost use Rattle.words.specs.Words.{overwrite};
 ghost use Rattle.words.specs.Fields.{put_fields};

@@ -5,7 +5,7 @@ use plain::Lent;
 use std::path::PathBuf;
 
 /// The vectors that are in force.
-const VECTORS: &str = "../../tests/vectors/level-08.txt";
+const VECTORS: &str = "../../tests/vectors/level-07.txt";
 
 /// A question `fit` with its answer.
 pub struct Case {

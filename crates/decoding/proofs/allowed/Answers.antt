@@ -1,0 +1,19 @@
+-- `decoding::allowed` meets its contract: the bit that it tests is that of the definition, and a set of 16 bits has no kind above them.
+-- Assumes nothing.
+use mathlib.Core.Path.{sym}
+use native.Mathlib.Omega.{arith}
+use lib.Dec.{not_T}
+use borrow.Author.Rules.{rules}
+use Rattle.concepts.specs.Tests.{as-false}
+use Rattle.concepts.specs.RowSet.{mem}
+use Rattle.concepts.specs.RowSetLaws.{mem-lt}
+use Rattle.decoding.proofs.allowed.Goals as goal
+
+pub returns-then-kind-lt16 : goal.returns-then-kind-lt16
+unfolding mem
+returns-then-kind-lt16 c = search rules
+
+pub returns : goal.returns
+returns c =
+    let a = c.args in
+    sym (as-false (mem a.kind a.kinds) (not_T (mem a.kind a.kinds) (λ m. omega (arith, mem-lt 16 a.kind a.kinds (omega arith) m))))

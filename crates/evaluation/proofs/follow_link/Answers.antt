@@ -1,0 +1,78 @@
+-- `evaluation::follow_link` meets its contract: the link is taken onward if its code counts for that, and then backward if it counts for that.
+use mathlib.Core.Path.{refl, sym, ap, ◌∙◌}
+use mathlib.Core.Logic.{inl, inr}
+use native.Mathlib.Omega.{arith}
+use borrow.Author.Tests.{not-true}
+use Rattle.concepts.specs.RowSet.{union}
+use Rattle.concepts.specs.RowSetLaws.{mem-union}
+use Rattle.listing.specs.Layout.{link_at}
+use Rattle.evaluation.specs.Clauses.{codes}
+use Rattle.evaluation.specs.LinkCases.{Taken, CodeRead, code_read, way-followed, way-passed, link-taken, link-passed}
+use Rattle.evaluation.proofs.follow_link.Goals as goal
+
+] : 
+
+
+-- none does
+pub returns-then-not-has : goal.returns-then-not-has
+unfolding union
+returns-then-not-has c =
+    let ways = c.args.ways in
+    let role = (link_at c.args.links.now c.args.i).role in
+    let either = union ways.onward ways.backward in
+    let neither =
+    sym (mem-union role ways.onward ways.backward) ∙ sym (ap (codes either) c.get2-code.ensures) ∙ sym c.has.ensures
+    ∙ not-true _ c.if-not-has.true-raw in
+    link-passed c.requires.argument (code_read c.args.links.now c.args.i (codes ways.onward) (codes ways.backward)) neither
+
+pub follow-requires-then-backward : goal.follow-requires-then-backward
+follow-requires-then-backward c =
+    let onward : Taken c.has-onward.result c.args.elements.now c.get2-from.result c.get2-to.result c.args.k c.args.left c.args.all c.if-onward.elements = elim c.if-onward.branch [
+  | inl (if2, arg, follow, rest, known, e) ↦ way-followed if2.taken follow.kept.0 follow.ensures e
+  | inr (if2, e) ↦ way-passed if2.left e in
+    let size = onward.size in record {
+      from = omega (arith, c.requires.to, c.get2-to.ensures, size);
+      to = omega (arith, c.requires.from, c.get2-from.ensures, size);
+      row = c.requires.row;
+      argument = omega (arith, c.requires.row, c.requires.argument);
+    }
+
+pub shape_of-elements-then-backward : goal.shape_of-elements-then-backward
+shape_of-elements-then-backward c =
+    let onward : Taken c.has-onward.result c.args.elements.now c.get2-from.result c.get2-to.result c.args.k c.args.left c.args.all c.if-onward.elements = elim c.if-onward.branch [
+  | inl (if2, arg, follow, rest, known, e) ↦ way-followed if2.taken follow.kept.0 follow.ensures e
+  | inr (if2, e) ↦ way-passed if2.left e in
+    c.follow-then-backward.auto.elements ∙ onward.size
+
+pub returns-then-backward : goal.returns-then-backward
+returns-then-backward c =
+    let read : CodeRead c.args.links.now c.args.i (codes c.args.ways.onward) (codes c.args.ways.backward) c.has-onward.result c.has-backward.result = let code = c.get2-code.ensures in
+    record {
+      on-is = c.has-onward.ensures ∙ ap (codes c.args.ways.onward) code;
+      back_is = c.has-backward.ensures ∙ ap (codes c.args.ways.backward) code;
+    } in
+    let onward : Taken c.has-onward.result c.args.elements.now c.get2-from.result c.get2-to.result c.args.k c.args.left c.args.all c.if-onward.elements = elim c.if-onward.branch [
+  | inl (if2, arg, follow, rest, known, e) ↦ way-followed if2.taken follow.kept.0 follow.ensures e
+  | inr (if2, e) ↦ way-passed if2.left e in
+    link-taken c.requires.argument read c.get2-from.ensures c.get2-to.ensures onward
+    (way-followed c.if-backward.true c.follow-then-backward.auto.elements c.follow-then-backward.ensures refl)
+
+pub shape_of-elements-else-backward : goal.shape_of-elements-else-backward
+shape_of-elements-else-backward c =
+    let onward : Taken c.has-onward.result c.args.elements.now c.get2-from.result c.get2-to.result c.args.k c.args.left c.args.all c.if-onward.elements = elim c.if-onward.branch [
+  | inl (if2, arg, follow, rest, known, e) ↦ way-followed if2.taken follow.kept.0 follow.ensures e
+  | inr (if2, e) ↦ way-passed if2.left e in
+    onward.size
+
+pub returns-else-backward : goal.returns-else-backward
+returns-else-backward c =
+    let read : CodeRead c.args.links.now c.args.i (codes c.args.ways.onward) (codes c.args.ways.backward) c.has-onward.result c.has-backward.result = let code = c.get2-code.ensures in
+    record {
+      on-is = c.has-onward.ensures ∙ ap (codes c.args.ways.onward) code;
+      back_is = c.has-backward.ensures ∙ ap (codes c.args.ways.backward) code;
+    } in
+    let onward : Taken c.has-onward.result c.args.elements.now c.get2-from.result c.get2-to.result c.args.k c.args.left c.args.all c.if-onward.elements = elim c.if-onward.branch [
+  | inl (if2, arg, follow, rest, known, e) ↦ way-followed if2.taken follow.kept.0 follow.ensures e
+  | inr (if2, e) ↦ way-passed if2.left e in
+    link-taken c.requires.argument read c.get2-from.ensures c.get2-to.ensures onward
+    (way-passed c.if-backward.false refl)

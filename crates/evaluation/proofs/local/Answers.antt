@@ -1,0 +1,27 @@
+use mathlib.Core.Path.{sym, ◌∙◌}
+use mathlib.Core.Logic.{inl, inr}
+use Prim.Native.Nat.{◌-◌}
+use native.Mathlib.Omega.{arith}
+use Rattle.words.specs.Sizes.{set_words}
+use Rattle.evaluation.specs.ElementCases.{row_put-none, row_put-in, row_put-out, row_put-all}
+use Rattle.evaluation.proofs.local.Goals as goal
+
+pub loop-d-init : goal.loop-d-init
+loop-d-init c = row_put-none
+
+pub junction-requires : goal.junction-requires
+junction-requires c = (omega (arith, c.requires.2), omega (arith, c.requires.3))
+
+pub put_row-requires : goal.put_row-requires
+put_row-requires c = (omega arith, c.requires.1)
+
+pub loop-d-preserved : goal.loop-d-preserved
+loop-d-preserved c =
+    let test = sym (c.junction.ensures set_words c.requires.2 c.requires.3) in
+    elim c.if-junction.branch [
+      | inl (taken, arg, put, rest, known, e) ↦ row_put-in c.loop-d.invariant (omega arith) c.requires.1 (test ∙ taken.taken) (e ∙ put.ensures)
+      | inr (other, e) ↦ row_put-out c.loop-d.invariant (omega arith) (test ∙ other.left) e
+    ]
+
+pub returns : goal.returns
+returns c = record { holds = row_put-all c.loop-d.invariant (omega arith) }

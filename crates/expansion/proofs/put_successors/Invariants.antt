@@ -1,0 +1,14 @@
+-- What another state puts: a successor for each existential row, rising.
+--
+-- In order: the invariant, and what falls; the places that later needs speak of; the needs, in the code's order.
+use Prim.Native.Nat.{◌-◌}
+use Rattle.problem.specs.Decoded.{count_of}
+use Rattle.graph.specs.Graphs.{work}
+use Rattle.expansion.specs.SuccessorCases.{SuccessorsPut}
+use Rattle.expansion.proofs.put_successors.Given as goal
+
+abbrev pub invariant-loop-row : goal.invariant-loop-row
+invariant-loop-row l = SuccessorsPut l.problem (work l.initial.nodes l.initial.edges l.initial.alternatives) l.initial.cur l.x (work l.nodes l.edges l.alternatives) l.cur l.k
+
+abbrev pub decreases-loop-row : goal.decreases-loop-row
+decreases-loop-row l = count_of l.problem - l.k

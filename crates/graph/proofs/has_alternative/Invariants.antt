@@ -1,0 +1,11 @@
+-- `graph::has_alternative` meets its contract: the invariant is that the alternatives that are left have the set exactly if all have.
+use Prim.Native.Nat.{◌-◌}
+use Rattle.rowset.specs.SetOf.{set_of}
+use Rattle.graph.specs.SearchLaws.{Sought}
+use Rattle.graph.proofs.has_alternative.Given as goal
+
+abbrev pub invariant-loop-index : goal.invariant-loop-index
+invariant-loop-index l = Sought l.nodes l.alternatives l.c l.owner (set_of l.s 0) l.i
+
+abbrev pub decreases-loop-index : goal.decreases-loop-index
+decreases-loop-index l = l.c.alternatives - l.i

@@ -1,0 +1,11 @@
+-- `printing::element_lines` meets its contract: the invariant is that the lines of the first `d` elements are written.
+use Prim.Native.Nat.{◌-◌}
+use Rattle.run.specs.Printed.{element_lines}
+use Rattle.printing.specs.Printing.{element_most, Pieces}
+use Rattle.printing.proofs.element_lines.Given as goal
+
+abbrev pub invariant-loop-d : goal.invariant-loop-d
+invariant-loop-d l = Pieces (element_lines l.elements) element_most l.count l.initial.out l.at l.out l.next l.d
+
+abbrev pub decreases-loop-d : goal.decreases-loop-d
+decreases-loop-d l = l.count - l.d

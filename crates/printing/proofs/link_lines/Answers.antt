@@ -1,0 +1,20 @@
+use Prim.Native.Nat.{◌-◌}
+use native.Mathlib.Omega.{arith}
+use Rattle.run.specs.PrintedLaws.{link_lines-none, link_lines-more}
+use Rattle.printing.specs.PrintingLaws.{wrote-size, pieces_none, pieces_more, pieces-all}
+use Rattle.printing.proofs.link_lines.Goals as goal
+
+pub loop-i-init : goal.loop-i-init
+loop-i-init c = pieces_none _ _ (link_lines-none _)
+
+pub link_line-next-requires : goal.link_line-next-requires
+link_line-next-requires c = omega (arith, c.loop-i.invariant.wrote.after, c.loop-i.invariant.wrote.bounded)
+
+pub loop-i-preserved : goal.loop-i-preserved
+loop-i-preserved c = pieces_more c.loop-i.invariant c.loop-i-test.true (link_lines-more _ _) c.link_line-next.ensures
+
+pub shape_of-out : goal.shape_of-out
+shape_of-out c = wrote-size c.loop-i.invariant.wrote
+
+pub returns : goal.returns
+returns c = pieces-all c.loop-i.invariant c.loop-i-test.false

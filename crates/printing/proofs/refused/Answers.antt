@@ -1,0 +1,18 @@
+-- `printing::refused` meets its contract: it makes the definition's choice.
+-- Assumes nothing.
+use mathlib.Core.Path.{sym, ◌∙◌}
+use native.Mathlib.Omega.{arith}
+use Rattle.answers.specs.Numbers.{numbers_of}
+use Rattle.run.specs.PrintedLaws.{refusal_counts-long, refusal_counts-short}
+use Rattle.printing.specs.PrintingLaws.{wrote-refused}
+use Rattle.printing.proofs.refused.Goals as goal
+
+pub is_short-requires : goal.is_short-requires
+is_short-requires c =
+    let n = numbers_of c.args.answer in
+    wrote-refused n (refusal_counts-long n c.if-answer-eq-TOO_LONG.true) (omega arith) c.line_of_three.ensures
+
+pub shape_of-out : goal.shape_of-out
+shape_of-out c =
+    let n = numbers_of c.args.answer in
+    wrote-refused n (refusal_counts-short n c.if-answer-eq-TOO_LONG.false (sym c.is_short.ensures ∙ c.if-is_short.true)) (omega arith) c.line_of_two.ensures

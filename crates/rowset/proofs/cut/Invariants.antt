@@ -1,0 +1,11 @@
+-- `rowset::cut` meets its contract: the invariant is that the words passed are written.
+use Prim.Native.Nat.{ℕ, ◌-◌}
+use Rattle.concepts.specs.RowSet.{minus}
+use Rattle.rowset.specs.Joined.{word_at, WordsPut}
+use Rattle.rowset.proofs.cut.Given as goal
+
+abbrev pub invariant-loop-j : goal.invariant-loop-j
+invariant-loop-j l = WordsPut (λ (m : ℕ). minus (word_at l.initial.b l.at m) (word_at l.c l.there m)) l.initial.b l.at l.n l.b l.j
+
+abbrev pub decreases-loop-j : goal.decreases-loop-j
+decreases-loop-j l = l.n - l.j
