@@ -3,7 +3,7 @@
 
 usage: python3 tools/respell.py      at the top of the repository, once, right after port.py
 
-It turns each lower camel word of crates/*/{src,specs,proofs}, strings and characters of programs aside. A lemma that would then have the
+It turns each lower camel word of crates/*/{src,specs,proofs}, strings and characters aside. A lemma that would then have the
 name of a definition gets `_lem` first. specs/Contracts.antt becomes specs/Clauses.antt, since Rattle makes a module `specs.contracts`.
 """
 
@@ -14,6 +14,7 @@ import subprocess
 
 WORD = re.compile(r"(?<![A-Za-z0-9_])[a-z][a-z0-9]*(?:[A-Z][a-z0-9]*)+")
 STRING = re.compile(r"b?\"(?:[^\"\\]|\\.)*\"|b?'(?:[^'\\]|\\.)'")
+QUOTED = re.compile(r"\"(?:[^\"\\\n]|\\.)*\"")
 
 # The lemma, and the files where it stands or is used.
 LEMMAS = [
@@ -42,10 +43,8 @@ def snake(word):
 
 
 def turned(path, text):
-    if path.endswith(".antt"):
-        return WORD.sub(snake, text)
     out, at = "", 0
-    for m in STRING.finditer(text):
+    for m in (QUOTED if path.endswith(".antt") else STRING).finditer(text):
         out += WORD.sub(snake, text[at : m.start()]) + m.group(0)
         at = m.end()
     return out + WORD.sub(snake, text[at:])

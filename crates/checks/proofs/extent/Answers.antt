@@ -1,22 +1,18 @@
 -- `rulefile::extent` meets its contract: each variant but `Rule` counts the rows.
 use mathlib.Core.Path.{◌≡◌, refl, sym, ◌∙◌}
-use mathlib.Core.List.{[], ◌∷◌}
-use denote.Enum.Declared.{tag_of}
-use types.Run.{OneOf, miss}
 use Rattle.concepts.specs.Lists.{Bytes}
 use Rattle.checks.specs.declared.Finding.{Finding}
 use Rattle.checks.specs.declared.Finding.TheVariants.{Malformed, Argument, Repeated, Rule}
 use Rattle.rulefile.specs.Format.{row_count}
 use Rattle.checks.specs.Findings.{extent}
-use Rattle.checks.specs.contracts.Finding as finding
 use Rattle.checks.proofs.extent.Goals as goal
 
-rows : (t : Finding) (b : Bytes) → OneOf (0 ∷ 1 ∷ 2 ∷ []) (tag_of finding.the_type t) → extent t b ≡ row_count b
+rows : (t : Finding) (b : Bytes) → (t ≡ Rule → ⊥) → extent t b ≡ row_count b
 unfolding extent
 rows Malformed b o = refl
 rows Argument b o = refl
 rows Repeated b o = refl
-rows Rule b o = absurd (miss (0 ∷ 1 ∷ 2 ∷ []) 3 tt o)
+rows Rule b o = absurd (o refl)
 
 pub returns-in-Rule : goal.returns-in-Rule
 unfolding extent
@@ -25,4 +21,4 @@ returns-in-Rule c = rw c.in-Rule.is c.rule_count.ensures
 pub returns-in_default : goal.returns-in_default
 returns-in_default c =
     let a = c.args in
-    c.row_count.ensures ∙ sym (rows a.finding a.file.now c.in_default.in_default-own.keys2)
+    c.row_count.ensures ∙ sym (rows a.finding a.file.now c.in_default.not-Rule)

@@ -21,29 +21,29 @@ last_arm i l r =
     last h h₄ h₅ h₆ h₇ = omega arith
 
 pub bad_mark-requires : goal.bad_mark-requires
-bad_mark-requires c = long c.args.kinds c.args.wanted.now c.args.file.now c.requires.1 (omega (arith, c.in_default))
+bad_mark-requires c = long c.args.kinds c.args.wanted.now c.args.file.now c.requires.1 (omega arith)
 
 pub bad_counts-requires : goal.bad_counts-requires
 bad_counts-requires c =
     long c.args.kinds c.args.wanted.now c.args.file.now c.requires.1
-    (omega (arith, c.in_default))
+    (omega arith)
 
 pub bad_place-requires : goal.bad_place-requires
-bad_place-requires c = long c.args.kinds c.args.wanted.now c.args.file.now c.requires.1 (omega (arith, c.in_default))
+bad_place-requires c = long c.args.kinds c.args.wanted.now c.args.file.now c.requires.1 (omega arith)
 
 pub found-requires : goal.found-requires
-found-requires c = parted c.args.kinds c.args.wanted.now c.args.file.now c.requires.1 (omega (arith, c.in_default))
+found-requires c = parted c.args.kinds c.args.wanted.now c.args.file.now c.requires.1 (omega arith)
 
 pub found-requires-in-5 : goal.found-requires-in-5
-found-requires-in-5 c = parted c.args.kinds c.args.wanted.now c.args.file.now c.requires.1 (omega (arith, c.in_default))
+found-requires-in-5 c = parted c.args.kinds c.args.wanted.now c.args.file.now c.requires.1 (omega arith)
 
 pub found-requires-in-6 : goal.found-requires-in-6
-found-requires-in-6 c = parted c.args.kinds c.args.wanted.now c.args.file.now c.requires.1 (omega (arith, c.in_default))
+found-requires-in-6 c = parted c.args.kinds c.args.wanted.now c.args.file.now c.requires.1 (omega arith)
 
 pub bad_rule-requires : goal.bad_rule-requires
 bad_rule-requires c =
     parted c.args.kinds c.args.wanted.now c.args.file.now c.requires.1
-    (omega (arith, c.in_default))
+    (omega arith)
 
 pub inclusion_serves-requires : goal.inclusion_serves-requires
 inclusion_serves-requires c = parted c.args.kinds c.args.wanted.now c.args.file.now c.requires.1 (omega (arith, last_arm c.args.i c.requires.0 c.in_default.in_default-own.rest))

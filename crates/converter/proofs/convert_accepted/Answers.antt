@@ -1,6 +1,5 @@
 -- `converter::convert_accepted` meets its contract: the inclusions are kept, the rules and then the wanted row are put, and the file is written if it fits.
 use mathlib.Core.Path.{◌≡◌, refl}
-use borrow.Author.Rules.{rules}
 use Rattle.rulefile.specs.Format.{wanted_rows}
 use Rattle.reader.specs.PartLaws.{laid-placed}
 use Rattle.converter.specs.ConvertCases.{list-as, numbers_as, inclusions-asks, rules-asks, rules-full, kit-asks, kit-full, finish-asks, too_many}
@@ -24,14 +23,9 @@ put_list-requires-in-Rows c =
 pub finish-requires : goal.finish-requires
 finish-requires c =
     let the-kit : c.wanted_of-kit.result.now ≡ wanted_rows c.args.draft.now = c.wanted_of-kit.ensures.0 (laid-placed c.requires).parts.least in
-    let second : tie.After-put-list2 = c in
-    let n = the-n second in
-    let rules = first-list n in
-    let kept = inclusions rules in
-    let kit = lists kept in
-    finish-asks (start kit).requires kit.before.rules-of.ensures kept.keep-inclusions.ensures _ refl (list-as rules.put-list.ensures n.n.given.1)
-    (the-kit kit)
-    (list-as second.put-list2.ensures c.in-Rows-put_list.is)
+    finish-asks c.requires c.rules_of-tbox.ensures c.keep_inclusions-inclusions.ensures _ refl (list-as c.put_list.ensures c.in-Rows.is)
+    the-kit
+    (list-as c.put_list-in-Rows.ensures c.in-Rows-put_list.is)
 
 pub returns-in-Full-put_list : goal.returns-in-Full-put_list
 returns-in-Full-put_list c =

@@ -33,27 +33,24 @@ put_list-requires-2 c =
 pub is_empty_mask-requires : goal.is_empty_mask-requires
 is_empty_mask-requires c =
     let Here : List ℕ → Type 0 = λ w. let a = c.args in Placed a.rows.now a.rules.now a.wanted.now w in
-    let placed : Here c.put_list-2.new.out = let known : tie.After-shared-slice-known = c in
-    let (ok, rules-listed, wanted-listed, fresh) = c.requires in
-    rows-placed ok (λ i. omega (arith, known.shared-slice-known.given i)) rules-listed wanted-listed
+    let placed : Here c.put_list-2.new.out = let (ok, rules-listed, wanted-listed, fresh) = c.requires in
+    rows-placed ok (λ i. omega (arith, c.shared_slice_known-1.given i)) rules-listed wanted-listed
     c.put_rows.ensures c.put_counts-used.ensures.0 c.put_counts-used.ensures.1 c.put_list.ensures c.put_list-2.ensures in
     omega (arith, placed.rows.enough)
 
 pub put_sames-requires : goal.put_sames-requires
 put_sames-requires c =
     let Here : List ℕ → Type 0 = λ w. let a = c.args in Placed a.rows.now a.rules.now a.wanted.now w in
-    let placed : Here c.put_list-2.new.out = let known : tie.After-shared-slice-known = c in
-    let (ok, rules-listed, wanted-listed, fresh) = c.requires in
-    rows-placed ok (λ i. omega (arith, known.shared-slice-known.given i)) rules-listed wanted-listed
+    let placed : Here c.put_list-2.new.out = let (ok, rules-listed, wanted-listed, fresh) = c.requires in
+    rows-placed ok (λ i. omega (arith, c.shared_slice_known-1.given i)) rules-listed wanted-listed
     c.put_rows.ensures c.put_counts-used.ensures.0 c.put_counts-used.ensures.1 c.put_list.ensures c.put_list-2.ensures in
     placed.rows.enough
 
 pub put_inclusions-requires : goal.put_inclusions-requires
 put_inclusions-requires c =
     let Here : List ℕ → Type 0 = λ w. let a = c.args in Placed a.rows.now a.rules.now a.wanted.now w in
-    let placed : Here c.put_list-2.new.out = let known : tie.After-shared-slice-known = c in
-    let (ok, rules-listed, wanted-listed, fresh) = c.requires in
-    rows-placed ok (λ i. omega (arith, known.shared-slice-known.given i)) rules-listed wanted-listed
+    let placed : Here c.put_list-2.new.out = let (ok, rules-listed, wanted-listed, fresh) = c.requires in
+    rows-placed ok (λ i. omega (arith, c.shared_slice_known-1.given i)) rules-listed wanted-listed
     c.put_rows.ensures c.put_counts-used.ensures.0 c.put_counts-used.ensures.1 c.put_list.ensures c.put_list-2.ensures in
     let started : Here c.put_sames.new.out × Included c.put_sames.new.out 0 c.put_sames.new.out = placed-sames placed c.put_sames.ensures in
     (started.0.rows, started.1)
@@ -61,22 +58,17 @@ put_inclusions-requires c =
 pub returns-then-not-is_empty_mask : goal.returns-then-not-is_empty_mask
 returns-then-not-is_empty_mask c =
     let Here : List ℕ → Type 0 = λ w. let a = c.args in Placed a.rows.now a.rules.now a.wanted.now w in
-    let placed : Here c.put_list-2.new.out = let known : tie.After-shared-slice-known = c in
-    let (ok, rules-listed, wanted-listed, fresh) = c.requires in
-    rows-placed ok (λ i. omega (arith, known.shared-slice-known.given i)) rules-listed wanted-listed
+    let placed : Here c.put_list-2.new.out = let (ok, rules-listed, wanted-listed, fresh) = c.requires in
+    rows-placed ok (λ i. omega (arith, c.shared_slice_known-1.given i)) rules-listed wanted-listed
     c.put_rows.ensures c.put_counts-used.ensures.0 c.put_counts-used.ensures.1 c.put_list.ensures c.put_list-2.ensures in
     let started : Here c.put_sames.new.out × Included c.put_sames.new.out 0 c.put_sames.new.out = placed-sames placed c.put_sames.ensures in
-    let all : tie.After-put-inclusions = c in
-    let sames : tie.After-put-sames = all.before.before.before.before in
-    included-decoded (started sames).0 all.put-inclusions.ensures
+    included-decoded started.0 c.put_inclusions.ensures
 
 pub returns-else-not-is_empty_mask : goal.returns-else-not-is_empty_mask
 returns-else-not-is_empty_mask c =
     let Here : List ℕ → Type 0 = λ w. let a = c.args in Placed a.rows.now a.rules.now a.wanted.now w in
-    let placed : Here c.put_list-2.new.out = let known : tie.After-shared-slice-known = c in
-    let (ok, rules-listed, wanted-listed, fresh) = c.requires in
-    rows-placed ok (λ i. omega (arith, known.shared-slice-known.given i)) rules-listed wanted-listed
+    let placed : Here c.put_list-2.new.out = let (ok, rules-listed, wanted-listed, fresh) = c.requires in
+    rows-placed ok (λ i. omega (arith, c.shared_slice_known-1.given i)) rules-listed wanted-listed
     c.put_rows.ensures c.put_counts-used.ensures.0 c.put_counts-used.ensures.1 c.put_list.ensures c.put_list-2.ensures in
-    let e : tie.After-is-empty-mask = c in
-    let none-there : no_inclusion (lists-put e).put-list2.new.0 ≡ true = sym e.is-empty-mask.ensures ∙ not-false _ c.if-not-is_empty_mask.false-raw in
-    placed-decoded (placed (lists-put e)) none-there
+    let none-there : no_inclusion c.put_list-2.new.out ≡ true = sym c.is_empty_mask.ensures ∙ not-false _ c.if-not-is_empty_mask.false-raw in
+    placed-decoded placed none-there

@@ -22,13 +22,6 @@ mark-requires-2 c =
 -- the calls, from the last one back
 pub returns : goal.returns
 returns c =
-    let second : tie.After-mark2 = c in
-    let place : tie.After-second-mask = second.before in
-    let first : tie.After-mark = place.before.before.before.before in
-    let put : tie.After-put = first.before.before.before.before in
-    let right : tie.After-byte-at4 = put.before.before in
-    let left : tie.After-byte-at3 = right.before in
-    let role : tie.After-byte-at2 = left.before in
-    let a = role.before.before.before.before.args in
-    row_put a.rows.now a.out.now a.k role.before.byte_at.ensures.0 role.byte-at2.ensures.0 left.byte-at3.ensures.0
-    right.byte-at4.ensures.0 put.put.ensures first.mark.ensures.0 place.second-mask.ensures second.mark2.ensures.0
+    let a = c.args in
+    row_put a.rows.now a.out.now a.k c.byte_at-kind.ensures.0 c.byte_at-role.ensures.0 c.byte_at-left.ensures.0
+    c.byte_at-right.ensures.0 c.put.ensures c.mark.ensures.0 c.second_mask.ensures c.mark-2.ensures.0

@@ -18,11 +18,10 @@ row_byte-right-requires c = (draft-parted c.requires.0, c.requires.1, omega arit
 
 pub returns-then-kind-le-NEGATED : goal.returns-then-kind-le-NEGATED
 returns-then-kind-le-NEGATED c =
-    let row_read : let begun : tie.Start = c in let left = c.row_byte-left in RowRead begun.args.draft.now begun.args.k begun.args.sign c.row_byte-kind.result c.row_byte-role.result left.result c.row_byte-right.result c.written_kind-written.result = let begun : tie.Start = c in
-    record {
-      draft = begun.requires.0;
-      row = begun.requires.1;
-      idle = begun.requires.2;
+    let row_read : let left = c.row_byte-left in RowRead c.args.draft.now c.args.k c.args.sign c.row_byte-kind.result c.row_byte-role.result left.result c.row_byte-right.result c.written_kind-written.result = record {
+      draft = c.requires.0;
+      row = c.requires.1;
+      idle = c.requires.2;
       kind-is = c.row_byte-kind.ensures;
       role-is = c.row_byte-role.ensures;
       left_is = c.row_byte-left.ensures;
@@ -33,11 +32,10 @@ returns-then-kind-le-NEGATED c =
 
 pub returns-then-kind : goal.returns-then-kind
 returns-then-kind c =
-    let row_read : let begun : tie.Start = c in let left = c.row_byte-left in RowRead begun.args.draft.now begun.args.k begun.args.sign c.row_byte-kind.result c.row_byte-role.result left.result c.row_byte-right.result c.written_kind-written.result = let begun : tie.Start = c in
-    record {
-      draft = begun.requires.0;
-      row = begun.requires.1;
-      idle = begun.requires.2;
+    let row_read : let left = c.row_byte-left in RowRead c.args.draft.now c.args.k c.args.sign c.row_byte-kind.result c.row_byte-role.result left.result c.row_byte-right.result c.written_kind-written.result = record {
+      draft = c.requires.0;
+      row = c.requires.1;
+      idle = c.requires.2;
       kind-is = c.row_byte-kind.ensures;
       role-is = c.row_byte-role.ensures;
       left_is = c.row_byte-left.ensures;
@@ -48,11 +46,10 @@ returns-then-kind c =
 
 pub returns-then-kind-eq-NEG : goal.returns-then-kind-eq-NEG
 returns-then-kind-eq-NEG c =
-    let row_read : let begun : tie.Start = c in let left = c.row_byte-left in RowRead begun.args.draft.now begun.args.k begun.args.sign c.row_byte-kind.result c.row_byte-role.result left.result c.row_byte-right.result c.written_kind-written.result = let begun : tie.Start = c in
-    record {
-      draft = begun.requires.0;
-      row = begun.requires.1;
-      idle = begun.requires.2;
+    let row_read : let left = c.row_byte-left in RowRead c.args.draft.now c.args.k c.args.sign c.row_byte-kind.result c.row_byte-role.result left.result c.row_byte-right.result c.written_kind-written.result = record {
+      draft = c.requires.0;
+      row = c.requires.1;
+      idle = c.requires.2;
       kind-is = c.row_byte-kind.ensures;
       role-is = c.row_byte-role.ensures;
       left_is = c.row_byte-left.ensures;
@@ -63,11 +60,10 @@ returns-then-kind-eq-NEG c =
 
 pub returns-then-kind-eq-IMPL : goal.returns-then-kind-eq-IMPL
 returns-then-kind-eq-IMPL c =
-    let row_read : let begun : tie.Start = c in let left = c.row_byte-left in RowRead begun.args.draft.now begun.args.k begun.args.sign c.row_byte-kind.result c.row_byte-role.result left.result c.row_byte-right.result c.written_kind-written.result = let begun : tie.Start = c in
-    record {
-      draft = begun.requires.0;
-      row = begun.requires.1;
-      idle = begun.requires.2;
+    let row_read : let left = c.row_byte-left in RowRead c.args.draft.now c.args.k c.args.sign c.row_byte-kind.result c.row_byte-role.result left.result c.row_byte-right.result c.written_kind-written.result = record {
+      draft = c.requires.0;
+      row = c.requires.1;
+      idle = c.requires.2;
       kind-is = c.row_byte-kind.ensures;
       role-is = c.row_byte-role.ensures;
       left_is = c.row_byte-left.ensures;
@@ -78,11 +74,10 @@ returns-then-kind-eq-IMPL c =
 
 pub returns : goal.returns
 returns c =
-    let row_read : let begun : tie.Start = c in let left = c.row_byte-left in RowRead begun.args.draft.now begun.args.k begun.args.sign c.row_byte-kind.result c.row_byte-role.result left.result c.row_byte-right.result c.written_kind-written.result = let begun : tie.Start = c in
-    record {
-      draft = begun.requires.0;
-      row = begun.requires.1;
-      idle = begun.requires.2;
+    let row_read : let left = c.row_byte-left in RowRead c.args.draft.now c.args.k c.args.sign c.row_byte-kind.result c.row_byte-role.result left.result c.row_byte-right.result c.written_kind-written.result = record {
+      draft = c.requires.0;
+      row = c.requires.1;
+      idle = c.requires.2;
       kind-is = c.row_byte-kind.ensures;
       role-is = c.row_byte-role.ensures;
       left_is = c.row_byte-left.ensures;
