@@ -6,8 +6,9 @@
 ghost use Rattle.convert.specs.Output.{Outputs};
 
 use converter::convert;
-use libc::{STDIN_FILENO, STDOUT_FILENO};
 use printing::line_of_one;
+use std::io;
+use std::io::{Cursor, Read};
 
 // One byte more than a draft that may pass: a longer draft is refused by its length, whatever comes after these bytes (`output-take`).
 const DRAFT: usize = 4097;
@@ -26,10 +27,13 @@ fn output(draft: &[u8], area: &mut [u8; AREA]) -> usize
     line_of_one(area, 0, b"REFUSED", conversion.refusal)
 }
 
-fn main() {
+fn main(rt: HostRuntime) -> io::Result<()> {
     let mut draft = [0u8; DRAFT];
     let mut area = [0u8; AREA];
-    let length = io::read_full(STDIN_FILENO, &mut draft);
+    let mut input = Cursor::new(&mut draft[..]);
+    io::copy(&mut rt.stdin().take(DRAFT as u64), &mut input)?;
+    // No more than the room's size is copied: the smaller of the two is how much.
+    let length = DRAFT.min(input.position() as usize);
     let count = output(&draft[..length], &mut area);
-    io::write_all(STDOUT_FILENO, &area[..count]);
+    rt.write_all(&area[..count])
 }
