@@ -11,7 +11,7 @@ pub rules_of-rules-requires : goal.rules_of-rules-requires
 rules_of-rules-requires c = laid-placed c.requires.0
 
 pub decode-requires : goal.decode-requires
-decode-requires c = let (rows, rules, wanted) = file-parts c.requires.0 c.rows_of_lem.ensures c.rules_of-rules.ensures in (rows, rules, wanted, c.requires.1)
+decode-requires c = let (rows, rules, wanted) = file-parts c.requires.0 c.rows_of-rows.ensures c.rules_of-rules.ensures in (rows, rules, wanted, c.requires.1)
 
 pub returns : goal.returns
-returns c = file-decoded c.requires.0 c.rows_of_lem.ensures c.rules_of-rules.ensures c.decode.ensures
+returns c = file-decoded c.requires.0 c.rows_of-rows.ensures c.rules_of-rules.ensures c.decode.ensures

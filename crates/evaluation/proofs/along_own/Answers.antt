@@ -32,5 +32,5 @@ returns c =
     let l = c.loop-i in
     followed-all c.fill.ensures
     (subst (λ (τ : ℕ). Followed c.args.size c.args.links.now c.args.k (alone c.args.role) (alone τ) c.args.left c.args.all
-    c.fill.last.0 l.i l.elements)
+    c.fill.new.elements l.i l.elements)
     l.invariant.0 l.invariant.2) (omega arith)

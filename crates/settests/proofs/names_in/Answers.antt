@@ -1,5 +1,5 @@
 use mathlib.Core.Path.{◌≡◌, ap, ◌∙◌}
-use Prim.Native.Nat.{ℕ, ◌*◌, ◌-◌, ◌%◌, ◌^◌}
+use Prim.Native.Nat.{ℕ, ◌*◌, ◌-◌, ◌%◌, ◌^◌, ◌<◌}
 use native.Mathlib.Nat.{one-mul}
 use native.Mathlib.Omega.{arith}
 use lib.Bits.{bit_or}
@@ -61,13 +61,15 @@ loop-m-smaller c =
     next.lowest.less
 
 pub loop-m-preserved : goal.loop-m-preserved
-unfolding single union
+unfolding single union of_kind
 loop-m-preserved c =
     let next : NextRow c.loop-m.invariant = next_row c.loop-m.invariant (omega arith) c.loop-m-test.true in
     let name = c.left_at-left.result in
-    let bit : (1 * 2 ^ name) % 2 ^ 64 ≡ 2 ^ name = shl_exact 1 name 64 (omega arith) (omega (arith, shl-names c)) ∙ one-mul (2 ^ name) in
-    let l = c.loop-m in
     let t = next in
+    let low : name < 64 =
+        omega (arith, c.left_at-left.ensures.0, name-lt c.requires.0.rows _ t.below (omega (arith, eqb-true _ c.args.kind t.passes, c.requires.1))) in
+    let bit : (1 * 2 ^ name) % 2 ^ 64 ≡ 2 ^ name = shl_exact 1 name 64 (omega arith) (omega arith) ∙ one-mul (2 ^ name) in
+    let l = c.loop-m in
     loop-after l.invariant t
     (gather-more (table_of c.args.problem.now) t.lowest.low t.inside c.left_at-left.ensures.0 l.names (ap (λ (x : ℕ). bit_or x l.names) bit)
     ∙ l.invariant.midway.holds)

@@ -17,38 +17,38 @@ unfolding NextExist
 returns-in_default c =
     let set : RowSet = set_of c.args.s.now c.args.at in
     let Is : Next → Type 0 = IsNext (common set (mask_of c.args.problem.now c.of_kind-mask.result)) c.args.from in
-    let next : {r : Next} → c.next_row.result ≡ r → Is r = λ e. let a = c.args in
+    let next : (r : Next) → c.next_row.result ≡ r → Is r = λ r e. let a = c.args in
     let mask = c.of_kind-mask in
     let used = ap (λ (n : ℕ). common (set_at a.s.now a.at n) (mask_at a.problem.now mask.result n)) c.words_used-n.ensures in
     let all = mask-in-use mask.ensures c.requires.0 (λ i. omega (arith, c.shared_slice_known-1.given i)) a.s.now
     (λ i. omega (arith, c.shared_slice_known-2-1.given i)) a.at in
     subst Is e (subst (λ (m : RowSet). IsNext m a.from c.next_row.result) (used ∙ all) c.next_row.ensures) in
-    next-none set c.args.from c.of_kind-mask.ensures.picked (next c.in_default.is)
+    next-none set c.args.from c.of_kind-mask.ensures.picked (next _ c.in_default.is)
 
 pub role_at-requires : goal.role_at-requires
 role_at-requires c =
     let set : RowSet = set_of c.args.s.now c.args.at in
     let Is : Next → Type 0 = IsNext (common set (mask_of c.args.problem.now c.of_kind-mask.result)) c.args.from in
-    let next : {r : Next} → c.next_row.result ≡ r → Is r = λ e. let a = c.args in
+    let next : (r : Next) → c.next_row.result ≡ r → Is r = λ r e. let a = c.args in
     let mask = c.of_kind-mask in
     let used = ap (λ (n : ℕ). common (set_at a.s.now a.at n) (mask_at a.problem.now mask.result n)) c.words_used-n.ensures in
     let all = mask-in-use mask.ensures c.requires.0 (λ i. omega (arith, c.shared_slice_known-1.given i)) a.s.now
     (λ i. omega (arith, c.shared_slice_known-2-1.given i)) a.at in
     subst Is e (subst (λ (m : RowSet). IsNext m a.from c.next_row.result) (used ∙ all) c.next_row.ensures) in
-    let below : c.in-At.row < count_of c.args.problem.now = (common-row c.of_kind-mask.ensures set c.in-At.row (next c.in-At.is).0).0 in
+    let below : c.in-At.row < count_of c.args.problem.now = (common-row c.of_kind-mask.ensures set c.in-At.row (next _ c.in-At.is).0).0 in
     (c.requires.0, below)
 
 pub left_at-requires : goal.left_at-requires
 left_at-requires c =
     let set : RowSet = set_of c.args.s.now c.args.at in
     let Is : Next → Type 0 = IsNext (common set (mask_of c.args.problem.now c.of_kind-mask.result)) c.args.from in
-    let next : {r : Next} → c.next_row.result ≡ r → Is r = λ e. let a = c.args in
+    let next : (r : Next) → c.next_row.result ≡ r → Is r = λ r e. let a = c.args in
     let mask = c.of_kind-mask in
     let used = ap (λ (n : ℕ). common (set_at a.s.now a.at n) (mask_at a.problem.now mask.result n)) c.words_used-n.ensures in
     let all = mask-in-use mask.ensures c.requires.0 (λ i. omega (arith, c.shared_slice_known-1.given i)) a.s.now
     (λ i. omega (arith, c.shared_slice_known-2-1.given i)) a.at in
     subst Is e (subst (λ (m : RowSet). IsNext m a.from c.next_row.result) (used ∙ all) c.next_row.ensures) in
-    let below : c.in-At.row < count_of c.args.problem.now = (common-row c.of_kind-mask.ensures set c.in-At.row (next c.in-At.is).0).0 in
+    let below : c.in-At.row < count_of c.args.problem.now = (common-row c.of_kind-mask.ensures set c.in-At.row (next _ c.in-At.is).0).0 in
     (c.requires.0, below)
 
 pub returns : goal.returns
@@ -56,11 +56,11 @@ unfolding NextExist
 returns c =
     let set : RowSet = set_of c.args.s.now c.args.at in
     let Is : Next → Type 0 = IsNext (common set (mask_of c.args.problem.now c.of_kind-mask.result)) c.args.from in
-    let next : {r : Next} → c.next_row.result ≡ r → Is r = λ e. let a = c.args in
+    let next : (r : Next) → c.next_row.result ≡ r → Is r = λ r e. let a = c.args in
     let mask = c.of_kind-mask in
     let used = ap (λ (n : ℕ). common (set_at a.s.now a.at n) (mask_at a.problem.now mask.result n)) c.words_used-n.ensures in
     let all = mask-in-use mask.ensures c.requires.0 (λ i. omega (arith, c.shared_slice_known-1.given i)) a.s.now
     (λ i. omega (arith, c.shared_slice_known-2-1.given i)) a.at in
     subst Is e (subst (λ (m : RowSet). IsNext m a.from c.next_row.result) (used ∙ all) c.next_row.ensures) in
-    let is = next c.in-At.is in
+    let is = next _ c.in-At.is in
     next-found set c.args.from c.of_kind-mask.ensures.picked _ is c.role_at.ensures c.left_at.ensures.0

@@ -38,7 +38,7 @@ returns-then-row c =
     let k = c.args.k in
     let w = c.args.out.now in
     inclusion-row {w = w} {k = k} (eq-eqb (part_of w k 0) 7 (omega (arith, c.if-row.true))) c.chain.ensures
-    (subst₂ (λ (x y : ℕ). Chains x y c.chain.last.0 c.chain-then-row.last.0)
+    (subst₂ (λ (x y : ℕ). Chains x y c.chain.new.out c.chain-then-row.new.out)
     (c.inverse.ensures.role (omega (arith, p))) (c.inverse-then-row.ensures.role (omega (arith, q))) c.chain-then-row.ensures)
 
 pub returns-else-row : goal.returns-else-row
