@@ -19,7 +19,7 @@ overflow_add-p-then-last-i c =
 pub put2-requires-then-last-i : goal.put2-requires-then-last-i
 put2-requires-then-last-i c =
     let there : (v : ℕ) → v < c.args.i → Fits c.args.p.size c.args.area.now v = λ v l. last_fits c.requires l in
-    omega (arith, there _ c.if-last-i.true, c.requires.sits.in-next, c.put2-2.kept)
+    omega (arith, there _ c.if-last-i.true, c.requires.sits.in-next, c.put2-2.auto.b)
 
 pub returns-then-last-i : goal.returns-then-last-i
 returns-then-last-i c = appended-some c.requires c.get2-last.ensures c.if-last-i.true c.put2.ensures (cc (c.put2-2.ensures, c.put2-then-last-i.ensures))

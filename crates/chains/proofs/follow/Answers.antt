@@ -10,7 +10,6 @@ use Rattle.chains.specs.Places.{next_in, first_in}
 use Rattle.chains.proofs.follow.Goals as goal
 
 pub returns-then-from-eq0 : goal.returns-then-from-eq0
-unfolding at
 returns-then-from-eq0 c =
     let at : ℕ → ℕ = λ k. following (next_in c.args.p c.args.area.now) (first_in c.args.p c.args.nodes.now) c.args.x k in
     c.get2.ensures ∙ sym (ap at c.if-from-eq0.true)
@@ -31,7 +30,6 @@ get2-requires-2 c =
     omega (arith, before (omega (arith, c.if-from-eq0.false)), c.requires.0.in-next)
 
 pub returns : goal.returns
-unfolding at
 returns c =
     let at : ℕ → ℕ = λ k. following (next_in c.args.p c.args.area.now) (first_in c.args.p c.args.nodes.now) c.args.x k in
     let e : c.args.from ≡ suc (c.args.from - 1) = omega (arith, c.if-from-eq0.false) in

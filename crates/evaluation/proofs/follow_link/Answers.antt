@@ -9,8 +9,8 @@ use Rattle.listing.specs.Layout.{link_at}
 use Rattle.evaluation.specs.Clauses.{codes}
 use Rattle.evaluation.specs.LinkCases.{Taken, CodeRead, code_read, way-followed, way-passed, link-taken, link-passed}
 use Rattle.evaluation.proofs.follow_link.Goals as goal
+use Rattle.evaluation.proofs.follow_link.Goals.{then-onward, else-onward}
 
-] : 
 
 
 -- none does
@@ -28,8 +28,9 @@ returns-then-not-has c =
 pub follow-requires-then-backward : goal.follow-requires-then-backward
 follow-requires-then-backward c =
     let onward : Taken c.has-onward.result c.args.elements.now c.get2-from.result c.get2-to.result c.args.k c.args.left c.args.all c.if-onward.elements = elim c.if-onward.branch [
-  | inl (if2, arg, follow, rest, known, e) ↦ way-followed if2.taken follow.kept.0 follow.ensures e
-  | inr (if2, e) ↦ way-passed if2.left e in
+          then-onward w ↦ way-followed w.if-onward.true w.follow.auto.elements w.follow.ensures w.elements-is
+        | else-onward w ↦ way-passed w.if-onward.false w.elements-is
+        ] in
     let size = onward.size in record {
       from = omega (arith, c.requires.to, c.get2-to.ensures, size);
       to = omega (arith, c.requires.from, c.get2-from.ensures, size);
@@ -40,8 +41,9 @@ follow-requires-then-backward c =
 pub shape_of-elements-then-backward : goal.shape_of-elements-then-backward
 shape_of-elements-then-backward c =
     let onward : Taken c.has-onward.result c.args.elements.now c.get2-from.result c.get2-to.result c.args.k c.args.left c.args.all c.if-onward.elements = elim c.if-onward.branch [
-  | inl (if2, arg, follow, rest, known, e) ↦ way-followed if2.taken follow.kept.0 follow.ensures e
-  | inr (if2, e) ↦ way-passed if2.left e in
+          then-onward w ↦ way-followed w.if-onward.true w.follow.auto.elements w.follow.ensures w.elements-is
+        | else-onward w ↦ way-passed w.if-onward.false w.elements-is
+        ] in
     c.follow-then-backward.auto.elements ∙ onward.size
 
 pub returns-then-backward : goal.returns-then-backward
@@ -52,16 +54,18 @@ returns-then-backward c =
       back_is = c.has-backward.ensures ∙ ap (codes c.args.ways.backward) code;
     } in
     let onward : Taken c.has-onward.result c.args.elements.now c.get2-from.result c.get2-to.result c.args.k c.args.left c.args.all c.if-onward.elements = elim c.if-onward.branch [
-  | inl (if2, arg, follow, rest, known, e) ↦ way-followed if2.taken follow.kept.0 follow.ensures e
-  | inr (if2, e) ↦ way-passed if2.left e in
+          then-onward w ↦ way-followed w.if-onward.true w.follow.auto.elements w.follow.ensures w.elements-is
+        | else-onward w ↦ way-passed w.if-onward.false w.elements-is
+        ] in
     link-taken c.requires.argument read c.get2-from.ensures c.get2-to.ensures onward
     (way-followed c.if-backward.true c.follow-then-backward.auto.elements c.follow-then-backward.ensures refl)
 
 pub shape_of-elements-else-backward : goal.shape_of-elements-else-backward
 shape_of-elements-else-backward c =
     let onward : Taken c.has-onward.result c.args.elements.now c.get2-from.result c.get2-to.result c.args.k c.args.left c.args.all c.if-onward.elements = elim c.if-onward.branch [
-  | inl (if2, arg, follow, rest, known, e) ↦ way-followed if2.taken follow.kept.0 follow.ensures e
-  | inr (if2, e) ↦ way-passed if2.left e in
+          then-onward w ↦ way-followed w.if-onward.true w.follow.auto.elements w.follow.ensures w.elements-is
+        | else-onward w ↦ way-passed w.if-onward.false w.elements-is
+        ] in
     onward.size
 
 pub returns-else-backward : goal.returns-else-backward
@@ -72,7 +76,8 @@ returns-else-backward c =
       back_is = c.has-backward.ensures ∙ ap (codes c.args.ways.backward) code;
     } in
     let onward : Taken c.has-onward.result c.args.elements.now c.get2-from.result c.get2-to.result c.args.k c.args.left c.args.all c.if-onward.elements = elim c.if-onward.branch [
-  | inl (if2, arg, follow, rest, known, e) ↦ way-followed if2.taken follow.kept.0 follow.ensures e
-  | inr (if2, e) ↦ way-passed if2.left e in
+          then-onward w ↦ way-followed w.if-onward.true w.follow.auto.elements w.follow.ensures w.elements-is
+        | else-onward w ↦ way-passed w.if-onward.false w.elements-is
+        ] in
     link-taken c.requires.argument read c.get2-from.ensures c.get2-to.ensures onward
     (way-passed c.if-backward.false refl)

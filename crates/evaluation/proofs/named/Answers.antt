@@ -15,6 +15,7 @@ use Rattle.problem.specs.Decoded.{table_of}
 use Rattle.evaluation.specs.Clauses.{is_named}
 use Rattle.evaluation.specs.LiteralCases.{asking-none, asking-in, asking-out, asking-all}
 use Rattle.evaluation.proofs.named.Goals as goal
+use Rattle.evaluation.proofs.named.Goals.{then-has_bit, else-has_bit}
 
 -- (1u64 << i) | passed
 inserted : (i s : ℕ) → i < 64 → bit_or ((1 * 2 ^ i) % 2 ^ 64) s ≡ insert i s
@@ -90,8 +91,8 @@ loop-m-preserved c =
     let (first, small) = low in (
       omega (arith, and_le_l l.m (l.m - 1), l.invariant.0),
       elim c.if-has_bit.branch [
-        | inl (taken, e) ↦ asking-in l.invariant.1 first (rest-lowest l.m) asked taken.taken (e ∙ inserted lowest l.passed small)
-        | inr (other, e) ↦ asking-out l.invariant.1 first (rest-lowest l.m) asked other.left e
+        | then-has_bit w ↦ asking-in l.invariant.1 first (rest-lowest l.m) asked w.if-has_bit.true (w.passed-is ∙ inserted lowest l.passed small)
+        | else-has_bit w ↦ asking-out l.invariant.1 first (rest-lowest l.m) asked w.if-has_bit.false w.passed-is
       ],
     )
 

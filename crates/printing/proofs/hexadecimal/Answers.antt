@@ -18,7 +18,7 @@ pub loop-i-preserved : goal.loop-i-preserved
 loop-i-preserved c =
     let a = c.args in
     let p : ℕ = a.from + (a.n - (c.loop-i.i + 1)) in
-    let small : get_or a.area.now p 0 < 256 = omega (arith, c.byte_of.ensures, c.byte_of.ok) in
+    let small : get_or a.area.now p 0 < 256 = omega (arith, c.byte_of.ensures, c.byte_of.type_inv) in
     pieces_more c.loop-i.invariant c.loop-i-test.true
     (highest-more a.area.now a.from a.n c.loop-i.i c.loop-i-test.true small)
     (wrote_as c.byte_digits-next.ensures (ap (hexadecimal 2) c.byte_of.ensures) (omega arith))

@@ -3,16 +3,21 @@
 use mathlib.Core.Path.{sym, ◌∙◌}
 use native.Mathlib.Omega.{arith}
 use Rattle.answers.specs.Numbers.{numbers_of}
-use Rattle.run.specs.PrintedLaws.{refusal_counts-long, refusal_counts-short}
+use Rattle.run.specs.PrintedLaws.{refusal_counts-long, refusal_counts-short, refusal_counts-none}
 use Rattle.printing.specs.PrintingLaws.{wrote-refused}
 use Rattle.printing.proofs.refused.Goals as goal
 
-pub is_short-requires : goal.is_short-requires
-is_short-requires c =
+pub returns-then-answer-eq-TOO_LONG : goal.returns-then-answer-eq-TOO_LONG
+returns-then-answer-eq-TOO_LONG c =
     let n = numbers_of c.args.answer in
     wrote-refused n (refusal_counts-long n c.if-answer-eq-TOO_LONG.true) (omega arith) c.line_of_three.ensures
 
-pub shape_of-out : goal.shape_of-out
-shape_of-out c =
+pub returns-then-is_short : goal.returns-then-is_short
+returns-then-is_short c =
     let n = numbers_of c.args.answer in
     wrote-refused n (refusal_counts-short n c.if-answer-eq-TOO_LONG.false (sym c.is_short.ensures ∙ c.if-is_short.true)) (omega arith) c.line_of_two.ensures
+
+pub returns : goal.returns
+returns c =
+    let n = numbers_of c.args.answer in
+    wrote-refused n (refusal_counts-none n c.if-answer-eq-TOO_LONG.false (sym c.is_short.ensures ∙ c.if-is_short.false)) (omega arith) c.line_of_one.ensures

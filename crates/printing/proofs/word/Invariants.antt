@@ -5,7 +5,7 @@ use Rattle.printing.specs.Printing.{Pieces}
 use Rattle.printing.proofs.word.Given as goal
 
 abbrev pub invariant-loop-i : goal.invariant-loop-i
-invariant-loop-i l = Pieces (λ (l.i : ℕ). take l.i l.w) 1 (length l.w) l.initial.out l.at l.out l.next l.i
+invariant-loop-i l = Pieces (λ (k : ℕ). take k l.w) 1 (length l.w) l.initial.out l.at l.out l.next l.i
 
 abbrev pub decreases-loop-i : goal.decreases-loop-i
 decreases-loop-i l = length l.w - l.i

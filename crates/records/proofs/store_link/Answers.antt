@@ -7,5 +7,5 @@ use Rattle.records.proofs.store_link.Goals as goal
 
 pub returns : goal.returns
 returns c =
-    let number : link_number c.args.link < 65536 = omega (arith, c.link_number.ensures, c.link_number.ok) in
+    let number : link_number c.args.link < 65536 = omega (arith, c.link_number.ensures, c.link_number.type_inv) in
     link-stored _ _ c.args.x c.args.link c.requires number (cc)

@@ -18,7 +18,7 @@ returns c =
     let apart : rows < 256 ^ set_size → link_number c.args.n.link < 65536 → Apart 0 node_extent (node_fields rows c.args.n) = λ small number. node-apart rows c.args.n small (search rules) (search rules) number in
     let z : node_size * c.args.x + 0 ≡ node_size * c.args.x = omega arith in
     let l = c.link_number in
-    node-stored _ c.put2-2.new.b c.args.x rows c.args.n c.requires (apart c.put_set.ensures.1 (omega (arith, l.ensures, l.ok)))
+    node-stored _ c.put2-2.new.b c.args.x rows c.args.n c.requires (apart c.put_set.ensures.1 (omega (arith, l.ensures, l.type_inv)))
     (cc (
       z,
       c.put_set.ensures.0,
