@@ -35,7 +35,5 @@ returns c =
     let the-areas : Areas = let a = c.args in areas_of a.nodes.now a.edges.now a.alternatives.now a.table.now in
     let whole : c.listed-list.result.count - 0 ≡ c.listed-list.result.count = omega arith in
     let the-file : FileDecoded (wanted_rows c.args.file.now) c.args.file.now c.decode_file.new.out = own-decoded c.requires c.wanted_of.ensures.0 c.decode_file.ensures in
-    let w = the-words
-    c in
-    page-filled (begun w).requires (the-file w) c.listed-list.ensures (the-areas w) refl c.if-table-count.false (rw whole at c.fill.ensures)
+    page-filled c.requires the-file c.listed-list.ensures the-areas refl c.if-table-count.false (rw whole at c.fill.ensures)
     c.clear.ensures c.fill.auto.nodes c.clear-2.ensures c.fill.auto.edges c.clear-3.ensures c.fill.auto.alternatives

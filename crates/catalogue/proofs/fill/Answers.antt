@@ -19,7 +19,7 @@ pub fill_row-requires : goal.fill_row-requires
 fill_row-requires c = fill-asks c.requires _ _ c.loop-i.invariant c.loop-i-test.true
 
 pub overflow_add-i : goal.overflow_add-i
-overflow_add-i c = omega (arith, c.loop-i-test.true, c.good.1.0.0)
+overflow_add-i c = omega (arith, c.loop-i-test.true)
 
 pub loop-i-smaller : goal.loop-i-smaller
 loop-i-smaller c = omega (arith, c.loop-i-test.true)

@@ -13,7 +13,7 @@ pub bounds-row-j : goal.bounds-row-j
 bounds-row-j c = omega (arith, row-size c.requires _ _ c.loop-j.invariant, c.requires.room, c.loop-j-test.true)
 
 pub overflow_add-j : goal.overflow_add-j
-overflow_add-j c = omega (arith, c.loop-j-test.true, c.good.1.1.0.0)
+overflow_add-j c = omega (arith, c.loop-j-test.true)
 
 pub loop-j-smaller : goal.loop-j-smaller
 loop-j-smaller c = omega (arith, c.loop-j-test.true)

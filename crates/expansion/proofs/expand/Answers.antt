@@ -105,4 +105,4 @@ returns-else-is_open c =
     let after-judge : Work = work c.judge.new.nodes c.judge.new.edges c.judge.new.alternatives in
     let with-children : WithChildren c.requires after-children c.in-Done.d = children-done c.requires c.expand_conj.ensures c.in-Done.is in
     let judged : WithStatus c.requires after-judge c.in-Done-judge.b = judge-done with-children c.judge.ensures c.in-Done-judge.is in
-    parents-gives judged
+    parents-gives judged (search)

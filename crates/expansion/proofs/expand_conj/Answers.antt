@@ -31,7 +31,7 @@ expand_disj-requires c =
 pub returns-in_default : goal.returns-in_default
 returns-in_default c =
     let none : let a = c.args in DisjAsks a.problem.now (work a.nodes.now a.edges.now a.alternatives.now) a.c a.x = both-none c.requires c.load_node-node.result c.load_node-node.ensures c.node_set-set.ensures c.lowest_conj.ensures c.in_default.is in
-    conj-gives none
+    conj-gives none (search)
 
 pub with_rows-requires : goal.with_rows-requires
 with_rows-requires c =
