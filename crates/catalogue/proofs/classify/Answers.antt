@@ -8,7 +8,8 @@ use Rattle.catalogue.specs.PageCases.{promised, refused-answered}
 use Rattle.catalogue.proofs.classify.Goals as goal
 
 pub classify_accepted-requires : goal.classify_accepted-requires
-classify_accepted-requires c = reads-accepted rule_kinds (wanted_rows c.args.file.now) c.args.file.now c.in-Accepted.layout (sym c.in-Accepted.is ∙ c.read.ensures)
+classify_accepted-requires c = reads-accepted rule_kinds (wanted_rows c.args.file.now) c.args.file.now c.in-Accepted.layout
+    (sym c.in-Accepted.is ∙ c.read.ensures)
 
 pub returns-in-Refused : goal.returns-in-Refused
 returns-in-Refused c =

@@ -8,7 +8,8 @@ use Rattle.catalogue.specs.FillCases.{table_up_to}
 use Rattle.catalogue.proofs.fill.Given as goal
 
 abbrev pub invariant-loop-i : goal.invariant-loop-i
-invariant-loop-i l = PiecesWritten with_wanted (table_up_to l.initial.problem (work l.initial.nodes l.initial.edges l.initial.alternatives) l.positives l.negatives) (length l.positives)
+invariant-loop-i l = PiecesWritten with_wanted (table_up_to l.initial.problem (work l.initial.nodes l.initial.edges l.initial.alternatives) l.positives
+    l.negatives) (length l.positives)
     l.initial.problem (work l.initial.nodes l.initial.edges l.initial.alternatives) l.initial.table l.i l.problem (work l.nodes l.edges l.alternatives) l.table
 
 abbrev pub decreases-loop-i : goal.decreases-loop-i

@@ -8,7 +8,8 @@ use Rattle.catalogue.specs.FillCases.{row_up_to}
 use Rattle.catalogue.proofs.fill_row.Given as goal
 
 abbrev pub invariant-loop-j : goal.invariant-loop-j
-invariant-loop-j l = PiecesWritten with_wanted (row_up_to l.initial.problem (work l.initial.nodes l.initial.edges l.initial.alternatives) l.positive l.negatives) (length l.negatives)
+invariant-loop-j l = PiecesWritten with_wanted (row_up_to l.initial.problem (work l.initial.nodes l.initial.edges l.initial.alternatives) l.positive
+    l.negatives) (length l.negatives)
     l.initial.problem (work l.initial.nodes l.initial.edges l.initial.alternatives) l.initial.row l.j l.problem (work l.nodes l.edges l.alternatives) l.row
 
 abbrev pub decreases-loop-j : goal.decreases-loop-j

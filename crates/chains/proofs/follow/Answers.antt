@@ -16,17 +16,20 @@ returns-then-from-eq0 c =
 
 pub overflow_mul-p : goal.overflow_mul-p
 overflow_mul-p c =
-    let before : 0 < c.args.from → Fits c.args.p.size c.args.area.now (c.args.from - 1) = λ l. room_fits c.args.p.size c.args.area.now c.requires.2 (omega (arith, l)) in
+    let before : 0 < c.args.from → Fits c.args.p.size c.args.area.now (c.args.from - 1) =
+    λ l. room_fits c.args.p.size c.args.area.now c.requires.2 (omega (arith, l)) in
     omega (arith, before (omega (arith, c.if-from-eq0.false)))
 
 pub overflow_add-p : goal.overflow_add-p
 overflow_add-p c =
-    let before : 0 < c.args.from → Fits c.args.p.size c.args.area.now (c.args.from - 1) = λ l. room_fits c.args.p.size c.args.area.now c.requires.2 (omega (arith, l)) in
+    let before : 0 < c.args.from → Fits c.args.p.size c.args.area.now (c.args.from - 1) =
+    λ l. room_fits c.args.p.size c.args.area.now c.requires.2 (omega (arith, l)) in
     omega (arith, before (omega (arith, c.if-from-eq0.false)), c.requires.0.in-next)
 
 pub get2-requires-2 : goal.get2-requires-2
 get2-requires-2 c =
-    let before : 0 < c.args.from → Fits c.args.p.size c.args.area.now (c.args.from - 1) = λ l. room_fits c.args.p.size c.args.area.now c.requires.2 (omega (arith, l)) in
+    let before : 0 < c.args.from → Fits c.args.p.size c.args.area.now (c.args.from - 1) =
+    λ l. room_fits c.args.p.size c.args.area.now c.requires.2 (omega (arith, l)) in
     omega (arith, before (omega (arith, c.if-from-eq0.false)), c.requires.0.in-next)
 
 pub returns : goal.returns

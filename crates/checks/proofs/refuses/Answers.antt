@@ -9,7 +9,8 @@ use Rattle.checks.specs.Findings.{extent, found_at}
 use Rattle.checks.proofs.refuses.Goals as goal
 
 -- the last arm is that of the last check
-last_arm : (i : ℕ) → i < check_count → (((((((Unit {0} × (i ≡ 0 → ⊥)) × (i ≡ 1 → ⊥)) × (i ≡ 2 → ⊥)) × (i ≡ 3 → ⊥)) × (i ≡ 4 → ⊥)) × (i ≡ 5 → ⊥)) × (i ≡ 6 → ⊥)) × (i ≡ 7 → ⊥) → i ≡ 8
+last_arm : (i : ℕ) → i < check_count → (((((((Unit {0} × (i ≡ 0 → ⊥)) × (i ≡ 1 → ⊥)) × (i ≡ 2 → ⊥)) × (i ≡ 3 → ⊥)) × (i ≡ 4 → ⊥)) × (i ≡ 5 → ⊥)) ×
+    (i ≡ 6 → ⊥)) × (i ≡ 7 → ⊥) → i ≡ 8
 last_arm i l r =
     last (past_three r.0.0.0.0.0.0.0.1 r.0.0.0.0.0.0.1 r.0.0.0.0.0.1 r.0.0.0.0.1) r.0.0.0.1 r.0.0.1 r.0.1
     r.1
@@ -46,7 +47,8 @@ bad_rule-requires c =
     (omega arith)
 
 pub inclusion_serves-requires : goal.inclusion_serves-requires
-inclusion_serves-requires c = parted c.args.kinds c.args.wanted.now c.args.file.now c.requires.1 (omega (arith, last_arm c.args.i c.requires.0 c.in_default.in_default-own.rest))
+inclusion_serves-requires c = parted c.args.kinds c.args.wanted.now c.args.file.now c.requires.1
+    (omega (arith, last_arm c.args.i c.requires.0 c.in_default.in_default-own.rest))
 
 pub returns-in-0 : goal.returns-in-0
 unfolding checks extent found_at

@@ -8,10 +8,12 @@ status_of-status-requires c =
     c.in-Done.is
 
 pub returns-then-says_can : goal.returns-then-says_can
-returns-then-says_can c = verdict-can c.run.ensures c.requires c.in-Done.is c.status_of-status.result c.status_of-status.ensures c.says_can.ensures c.if-says_can.true
+returns-then-says_can c = verdict-can c.run.ensures c.requires c.in-Done.is c.status_of-status.result c.status_of-status.ensures c.says_can.ensures
+    c.if-says_can.true
 
 pub returns-in-Full : goal.returns-in-Full
 returns-in-Full c = verdict-short c.run.ensures c.in-Full.is
 
 pub returns-else-says_can : goal.returns-else-says_can
-returns-else-says_can c = verdict-cannot c.run.ensures c.requires c.in-Done.is c.status_of-status.result c.status_of-status.ensures c.says_can.ensures c.if-says_can.false
+returns-else-says_can c = verdict-cannot c.run.ensures c.requires c.in-Done.is c.status_of-status.result c.status_of-status.ensures c.says_can.ensures
+    c.if-says_can.false

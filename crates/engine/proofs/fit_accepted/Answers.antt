@@ -16,6 +16,7 @@ answer_of-requires c = c.decide-d.ensures.small
 
 pub returns : goal.returns
 returns c =
-    let settled : Settled c.requires c.decode_file.ensures (areas_of c.args.nodes.now c.args.edges.now c.args.alternatives.now c.args.elements.now c.args.links.now) c.decide-d.result c.decide-d.new.elements c.decide-d.new.links = file-settled _ _ _ c.decide-d.ensures in
+    let settled : Settled c.requires c.decode_file.ensures (areas_of c.args.nodes.now c.args.edges.now c.args.alternatives.now c.args.elements.now
+    c.args.links.now) c.decide-d.result c.decide-d.new.elements c.decide-d.new.links = file-settled _ _ _ c.decide-d.ensures in
     file-answered settled c.answer_of.ensures c.clear.ensures c.decide-d.auto.nodes c.clear-2.ensures c.decide-d.auto.edges
     c.clear-3.ensures c.decide-d.auto.alternatives

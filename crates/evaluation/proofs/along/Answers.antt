@@ -11,7 +11,8 @@ pub loop-i-init : goal.loop-i-init
 loop-i-init c = (omega arith, followed-none)
 
 pub follow_link-requires : goal.follow_link-requires
-follow_link-requires c = followed-asks c.requires.linked c.loop-i.invariant.1 (omega arith) (omega (arith, c.requires.room, c.fill.auto.elements)) c.requires.row c.requires.argument
+follow_link-requires c = followed-asks c.requires.linked c.loop-i.invariant.1 (omega arith) (omega (arith, c.requires.room, c.fill.auto.elements))
+    c.requires.row c.requires.argument
 
 pub loop-i-preserved : goal.loop-i-preserved
 loop-i-preserved c = (omega arith, followed-more c.requires.linked c.loop-i.invariant.1 (omega arith) c.follow_link.auto.elements c.follow_link.ensures)

@@ -7,7 +7,8 @@ use Rattle.evaluation.specs.LinkCases.{Followed}
 use Rattle.evaluation.proofs.along_own.Given as goal
 
 abbrev pub invariant-loop-i : goal.invariant-loop-i
-invariant-loop-i l = (l.turned ≡ inverse l.role) × (l.i ≤ l.count) × Followed l.size l.links l.k (alone l.role) (alone l.turned) l.left l.all l.initial.elements l.i l.elements
+invariant-loop-i l = (l.turned ≡ inverse l.role) × (l.i ≤ l.count) × Followed l.size l.links l.k (alone l.role) (alone l.turned) l.left l.all
+    l.initial.elements l.i l.elements
 
 abbrev pub decreases-loop-i : goal.decreases-loop-i
 decreases-loop-i l = l.count - l.i

@@ -15,7 +15,8 @@ abbrev pub word : List ℕ → ℕ → ℕ → ℕ
 word problem names = word_of (literal_rows (table_of problem) names)
 
 abbrev pub invariant-loop-j : goal.invariant-loop-j
-invariant-loop-j l = (l.j ≤ set_words) × (length l.elements ≡ length l.initial.elements) × (l.elements ≡ put_words l.initial.elements l.at (word l.problem l.names) l.j)
+invariant-loop-j l = (l.j ≤ set_words) × (length l.elements ≡ length l.initial.elements) ×
+    (l.elements ≡ put_words l.initial.elements l.at (word l.problem l.names) l.j)
 
 abbrev pub decreases-loop-j : goal.decreases-loop-j
 decreases-loop-j l = set_words - l.j

@@ -21,7 +21,8 @@ pub local-requires : goal.local-requires
 local-requires c = (c.requires.0.room, omega (arith, c.requires.0.decoded.rows.few), c.left_at-left.ensures.1, c.right_at-right.ensures.1)
 
 pub returns-then-kind : goal.returns-then-kind
-returns-then-kind c = row-local c.requires.0.decoded c.requires.1 c.kind_at-kind.ensures c.left_at-left.ensures.0 c.if-kind.true c.right_at-right.ensures.0 c.local.ensures
+returns-then-kind c = row-local c.requires.0.decoded c.requires.1 c.kind_at-kind.ensures c.left_at-left.ensures.0 c.if-kind.true c.right_at-right.ensures.0
+    c.local.ensures
 
 pub role_at-role-requires : goal.role_at-role-requires
 role_at-role-requires c = (c.requires.0.decoded, c.requires.1)

@@ -11,8 +11,6 @@ use Rattle.evaluation.specs.LinkCases.{Taken, CodeRead, code_read, way-followed,
 use Rattle.evaluation.proofs.follow_link.Goals as goal
 use Rattle.evaluation.proofs.follow_link.Goals.{then-onward, else-onward}
 
-
-
 -- none does
 pub returns-then-not-has : goal.returns-then-not-has
 unfolding union
@@ -27,10 +25,11 @@ returns-then-not-has c =
 
 pub follow-requires-then-backward : goal.follow-requires-then-backward
 follow-requires-then-backward c =
-    let onward : Taken c.has-onward.result c.args.elements.now c.get2-from.result c.get2-to.result c.args.k c.args.left c.args.all c.if-onward.elements = elim c.if-onward.branch [
-          then-onward w ↦ way-followed w.if-onward.true w.follow.auto.elements w.follow.ensures w.elements-is
-        | else-onward w ↦ way-passed w.if-onward.false w.elements-is
-        ] in
+    let onward : Taken c.has-onward.result c.args.elements.now c.get2-from.result c.get2-to.result c.args.k c.args.left c.args.all c.if-onward.elements =
+    elim c.if-onward.branch [
+      | then-onward w ↦ way-followed w.if-onward.true w.follow.auto.elements w.follow.ensures w.elements-is
+      | else-onward w ↦ way-passed w.if-onward.false w.elements-is
+    ] in
     let size = onward.size in record {
       from = omega (arith, c.requires.to, c.get2-to.ensures, size);
       to = omega (arith, c.requires.from, c.get2-from.ensures, size);
@@ -40,44 +39,50 @@ follow-requires-then-backward c =
 
 pub shape_of-elements-then-backward : goal.shape_of-elements-then-backward
 shape_of-elements-then-backward c =
-    let onward : Taken c.has-onward.result c.args.elements.now c.get2-from.result c.get2-to.result c.args.k c.args.left c.args.all c.if-onward.elements = elim c.if-onward.branch [
-          then-onward w ↦ way-followed w.if-onward.true w.follow.auto.elements w.follow.ensures w.elements-is
-        | else-onward w ↦ way-passed w.if-onward.false w.elements-is
-        ] in
+    let onward : Taken c.has-onward.result c.args.elements.now c.get2-from.result c.get2-to.result c.args.k c.args.left c.args.all c.if-onward.elements =
+    elim c.if-onward.branch [
+      | then-onward w ↦ way-followed w.if-onward.true w.follow.auto.elements w.follow.ensures w.elements-is
+      | else-onward w ↦ way-passed w.if-onward.false w.elements-is
+    ] in
     c.follow-then-backward.auto.elements ∙ onward.size
 
 pub returns-then-backward : goal.returns-then-backward
 returns-then-backward c =
-    let read : CodeRead c.args.links.now c.args.i (codes c.args.ways.onward) (codes c.args.ways.backward) c.has-onward.result c.has-backward.result = let code = c.get2-code.ensures in
+    let read : CodeRead c.args.links.now c.args.i (codes c.args.ways.onward) (codes c.args.ways.backward) c.has-onward.result c.has-backward.result =
+    let code = c.get2-code.ensures in
     record {
       on-is = c.has-onward.ensures ∙ ap (codes c.args.ways.onward) code;
       back_is = c.has-backward.ensures ∙ ap (codes c.args.ways.backward) code;
     } in
-    let onward : Taken c.has-onward.result c.args.elements.now c.get2-from.result c.get2-to.result c.args.k c.args.left c.args.all c.if-onward.elements = elim c.if-onward.branch [
-          then-onward w ↦ way-followed w.if-onward.true w.follow.auto.elements w.follow.ensures w.elements-is
-        | else-onward w ↦ way-passed w.if-onward.false w.elements-is
-        ] in
+    let onward : Taken c.has-onward.result c.args.elements.now c.get2-from.result c.get2-to.result c.args.k c.args.left c.args.all c.if-onward.elements =
+    elim c.if-onward.branch [
+      | then-onward w ↦ way-followed w.if-onward.true w.follow.auto.elements w.follow.ensures w.elements-is
+      | else-onward w ↦ way-passed w.if-onward.false w.elements-is
+    ] in
     link-taken c.requires.argument read c.get2-from.ensures c.get2-to.ensures onward
     (way-followed c.if-backward.true c.follow-then-backward.auto.elements c.follow-then-backward.ensures refl)
 
 pub shape_of-elements-else-backward : goal.shape_of-elements-else-backward
 shape_of-elements-else-backward c =
-    let onward : Taken c.has-onward.result c.args.elements.now c.get2-from.result c.get2-to.result c.args.k c.args.left c.args.all c.if-onward.elements = elim c.if-onward.branch [
-          then-onward w ↦ way-followed w.if-onward.true w.follow.auto.elements w.follow.ensures w.elements-is
-        | else-onward w ↦ way-passed w.if-onward.false w.elements-is
-        ] in
+    let onward : Taken c.has-onward.result c.args.elements.now c.get2-from.result c.get2-to.result c.args.k c.args.left c.args.all c.if-onward.elements =
+    elim c.if-onward.branch [
+      | then-onward w ↦ way-followed w.if-onward.true w.follow.auto.elements w.follow.ensures w.elements-is
+      | else-onward w ↦ way-passed w.if-onward.false w.elements-is
+    ] in
     onward.size
 
 pub returns-else-backward : goal.returns-else-backward
 returns-else-backward c =
-    let read : CodeRead c.args.links.now c.args.i (codes c.args.ways.onward) (codes c.args.ways.backward) c.has-onward.result c.has-backward.result = let code = c.get2-code.ensures in
+    let read : CodeRead c.args.links.now c.args.i (codes c.args.ways.onward) (codes c.args.ways.backward) c.has-onward.result c.has-backward.result =
+    let code = c.get2-code.ensures in
     record {
       on-is = c.has-onward.ensures ∙ ap (codes c.args.ways.onward) code;
       back_is = c.has-backward.ensures ∙ ap (codes c.args.ways.backward) code;
     } in
-    let onward : Taken c.has-onward.result c.args.elements.now c.get2-from.result c.get2-to.result c.args.k c.args.left c.args.all c.if-onward.elements = elim c.if-onward.branch [
-          then-onward w ↦ way-followed w.if-onward.true w.follow.auto.elements w.follow.ensures w.elements-is
-        | else-onward w ↦ way-passed w.if-onward.false w.elements-is
-        ] in
+    let onward : Taken c.has-onward.result c.args.elements.now c.get2-from.result c.get2-to.result c.args.k c.args.left c.args.all c.if-onward.elements =
+    elim c.if-onward.branch [
+      | then-onward w ↦ way-followed w.if-onward.true w.follow.auto.elements w.follow.ensures w.elements-is
+      | else-onward w ↦ way-passed w.if-onward.false w.elements-is
+    ] in
     link-taken c.requires.argument read c.get2-from.ensures c.get2-to.ensures onward
     (way-passed c.if-backward.false refl)

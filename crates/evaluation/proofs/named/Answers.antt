@@ -86,7 +86,9 @@ loop-m-preserved c =
     let lowest : ℕ = count_trailing_zeros 64 c.loop-m.m in
     let some : 0 < c.loop-m.m = elim (ℕ_discrete c.loop-m.m 0) [ yes e ↦ absurd (c.loop-m-test.true e) | no d ↦ omega arith ] in
     let low : Lowest c.loop-m.m lowest × (lowest < 64) = trailing-lowest 64 c.loop-m.m some c.loop-m.invariant.0 in
-    let asked : let a = c.args in c.has_bit.result ≡ is_named (table_of a.problem.now) a.j a.names lowest = let a = c.args in c.has_bit.ensures ∙ ap (λ (x : ℕ). mem x a.names) c.left_at.ensures.0 in
+    let asked : let a =
+    c.args in c.has_bit.result ≡ is_named (table_of a.problem.now) a.j a.names lowest = let a = c.args in c.has_bit.ensures ∙ ap
+    (λ (x : ℕ). mem x a.names) c.left_at.ensures.0 in
     let l = c.loop-m in
     let (first, small) = low in (
       omega (arith, and_le_l l.m (l.m - 1), l.invariant.0),

@@ -7,7 +7,12 @@ use Rattle.problem.specs.Decoded.{table_of, Narrows}
 use Rattle.evaluation.proofs.ways_of.Goals as goal
 
 pub narrower-requires-2 : goal.narrower-requires-2
-narrower-requires-2 c = (c.requires.0, c.requires.1, subst (λ (ρ : ℕ). ρ < 32) (sym (c.inverse.ensures.role c.requires.2)) (inverse-low c.args.role c.requires.2))
+narrower-requires-2 c = (
+  c.requires.0,
+  c.requires.1,
+  subst (λ (ρ : ℕ). ρ < 32) (sym (c.inverse.ensures.role c.requires.2))
+      (inverse-low c.args.role c.requires.2),
+)
 
 pub returns : goal.returns
 returns c =

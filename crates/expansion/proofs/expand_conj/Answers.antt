@@ -25,31 +25,40 @@ lowest_conj-requires c =
 
 pub expand_disj-requires : goal.expand_disj-requires
 expand_disj-requires c =
-    let none : let a = c.args in DisjAsks a.problem.now (work a.nodes.now a.edges.now a.alternatives.now) a.c a.x = both-none c.requires c.load_node-node.result c.load_node-node.ensures c.node_set-set.ensures c.lowest_conj.ensures c.in_default.is in
+    let none : let a =
+    c.args in DisjAsks a.problem.now (work a.nodes.now a.edges.now a.alternatives.now) a.c a.x = both-none c.requires c.load_node-node.result
+    c.load_node-node.ensures c.node_set-set.ensures c.lowest_conj.ensures c.in_default.is in
     none
 
 pub returns-in_default : goal.returns-in_default
 returns-in_default c =
-    let none : let a = c.args in DisjAsks a.problem.now (work a.nodes.now a.edges.now a.alternatives.now) a.c a.x = both-none c.requires c.load_node-node.result c.load_node-node.ensures c.node_set-set.ensures c.lowest_conj.ensures c.in_default.is in
+    let none : let a =
+    c.args in DisjAsks a.problem.now (work a.nodes.now a.edges.now a.alternatives.now) a.c a.x = both-none c.requires c.load_node-node.result
+    c.load_node-node.ensures c.node_set-set.ensures c.lowest_conj.ensures c.in_default.is in
     conj-gives none (search)
 
 pub with_rows-requires : goal.with_rows-requires
 with_rows-requires c =
     let inside : c.node_set-set.result + set_size ≤ length c.args.nodes.now = omega (arith, c.node_set-set.ensures, expand-inside c.requires) in
-    let both : Both c.requires c.load_node-node.result c.in-Rows.left c.in-Rows.right = both_found c.requires c.load_node-node.result c.load_node-node.ensures c.node_set-set.ensures c.lowest_conj.ensures c.in-Rows.is in
+    let both : Both c.requires c.load_node-node.result c.in-Rows.left c.in-Rows.right =
+    both_found c.requires c.load_node-node.result c.load_node-node.ensures c.node_set-set.ensures c.lowest_conj.ensures c.in-Rows.is in
     (inside, both_left both, both_right both)
 
 pub put-requires : goal.put-requires
 put-requires c =
-    let both : Both c.requires c.load_node-node.result c.in-Rows.left c.in-Rows.right = both_found c.requires c.load_node-node.result c.load_node-node.ensures c.node_set-set.ensures c.lowest_conj.ensures c.in-Rows.is in
-    let made : let s = c.args in set_of c.with_rows.new.out 0 ≡ insert c.in-Rows.left (insert c.in-Rows.right (set_of s.nodes.now (node_size * s.x))) = c.with_rows.ensures
+    let both : Both c.requires c.load_node-node.result c.in-Rows.left c.in-Rows.right =
+    both_found c.requires c.load_node-node.result c.load_node-node.ensures c.node_set-set.ensures c.lowest_conj.ensures c.in-Rows.is in
+    let made : let s =
+    c.args in set_of c.with_rows.new.out 0 ≡ insert c.in-Rows.left (insert c.in-Rows.right (set_of s.nodes.now (node_size * s.x))) = c.with_rows.ensures
     ∙ ap (λ (q : ℕ). insert c.in-Rows.left (insert c.in-Rows.right (set_of c.args.nodes.now q))) c.node_set-set.ensures in
     both-asks both made
 
 pub returns : goal.returns
 returns c =
-    let both : Both c.requires c.load_node-node.result c.in-Rows.left c.in-Rows.right = both_found c.requires c.load_node-node.result c.load_node-node.ensures c.node_set-set.ensures c.lowest_conj.ensures c.in-Rows.is in
-    let made : let s = c.args in set_of c.with_rows.new.out 0 ≡ insert c.in-Rows.left (insert c.in-Rows.right (set_of s.nodes.now (node_size * s.x))) = c.with_rows.ensures
+    let both : Both c.requires c.load_node-node.result c.in-Rows.left c.in-Rows.right =
+    both_found c.requires c.load_node-node.result c.load_node-node.ensures c.node_set-set.ensures c.lowest_conj.ensures c.in-Rows.is in
+    let made : let s =
+    c.args in set_of c.with_rows.new.out 0 ≡ insert c.in-Rows.left (insert c.in-Rows.right (set_of s.nodes.now (node_size * s.x))) = c.with_rows.ensures
     ∙ ap (λ (q : ℕ). insert c.in-Rows.left (insert c.in-Rows.right (set_of c.args.nodes.now q))) c.node_set-set.ensures in
     let after : Work = work c.put.new.nodes c.put.new.edges c.put.new.alternatives in
     both-gives both made {w' = after} (search)

@@ -25,7 +25,8 @@ returns-in_default c = turn_end c.loop-row.invariant c.node_set-set.result c.nex
 
 pub overflow_add-k : goal.overflow_add-k
 overflow_add-k c =
-    let chosen : SuccessorFound c.loop-row.invariant c.in-At.row c.in-At.role c.in-At.argument = turn-next c.loop-row.invariant c.node_set-set.result c.next_exist.ensures c.node_set-set.ensures c.in-At.is in
+    let chosen : SuccessorFound c.loop-row.invariant c.in-At.row c.in-At.role c.in-At.argument =
+    turn-next c.loop-row.invariant c.node_set-set.result c.next_exist.ensures c.node_set-set.ensures c.in-At.is in
     omega (arith, turn-row chosen)
 
 pub slice_bounds-successor-end : goal.slice_bounds-successor-end
@@ -34,12 +35,14 @@ slice_bounds-successor-end c = refl
 pub successor-requires : goal.successor-requires
 successor-requires c =
     let inside : c.node_set-set.result + set_size ≤ length c.loop-row.nodes = rw c.node_set-set.ensures (turn_inside c.loop-row.invariant) in
-    let chosen : SuccessorFound c.loop-row.invariant c.in-At.row c.in-At.role c.in-At.argument = turn-next c.loop-row.invariant c.node_set-set.result c.next_exist.ensures c.node_set-set.ensures c.in-At.is in
+    let chosen : SuccessorFound c.loop-row.invariant c.in-At.row c.in-At.role c.in-At.argument =
+    turn-next c.loop-row.invariant c.node_set-set.result c.next_exist.ensures c.node_set-set.ensures c.in-At.is in
     (c.loop-row.invariant.asks.disj.node.decoded, inside, turn-argument chosen, omega arith, zeros-empty)
 
 pub put-requires : goal.put-requires
 put-requires c =
-    let chosen : SuccessorFound c.loop-row.invariant c.in-At.row c.in-At.role c.in-At.argument = turn-next c.loop-row.invariant c.node_set-set.result c.next_exist.ensures c.node_set-set.ensures c.in-At.is in
+    let chosen : SuccessorFound c.loop-row.invariant c.in-At.row c.in-At.role c.in-At.argument =
+    turn-next c.loop-row.invariant c.node_set-set.result c.next_exist.ensures c.node_set-set.ensures c.in-At.is in
     let made : Made chosen (set_of c.successor.new.out 0) = turn-successor chosen c.node_set-set.result c.successor.ensures.1 c.node_set-set.ensures in
     turn-asks chosen made
 
@@ -54,19 +57,22 @@ shape_of-alternatives-in-Full c = search (c.loop-row.invariant.course.sized.alte
 
 pub returns-in-Full : goal.returns-in-Full
 returns-in-Full c =
-    let chosen : SuccessorFound c.loop-row.invariant c.in-At.row c.in-At.role c.in-At.argument = turn-next c.loop-row.invariant c.node_set-set.result c.next_exist.ensures c.node_set-set.ensures c.in-At.is in
+    let chosen : SuccessorFound c.loop-row.invariant c.in-At.row c.in-At.role c.in-At.argument =
+    turn-next c.loop-row.invariant c.node_set-set.result c.next_exist.ensures c.node_set-set.ensures c.in-At.is in
     let made : Made chosen (set_of c.successor.new.out 0) = turn-successor chosen c.node_set-set.result c.successor.ensures.1 c.node_set-set.ensures in
     let after : Work = work c.put.new.nodes c.put.new.edges c.put.new.alternatives in
     turn-short chosen made {w'' = after} c.put.ensures (search)
 
 pub loop-row-smaller : goal.loop-row-smaller
 loop-row-smaller c =
-    let chosen : SuccessorFound c.loop-row.invariant c.in-At.row c.in-At.role c.in-At.argument = turn-next c.loop-row.invariant c.node_set-set.result c.next_exist.ensures c.node_set-set.ensures c.in-At.is in
+    let chosen : SuccessorFound c.loop-row.invariant c.in-At.row c.in-At.role c.in-At.argument =
+    turn-next c.loop-row.invariant c.node_set-set.result c.next_exist.ensures c.node_set-set.ensures c.in-At.is in
     turn-less chosen
 
 pub loop-row-preserved : goal.loop-row-preserved
 loop-row-preserved c =
-    let chosen : SuccessorFound c.loop-row.invariant c.in-At.row c.in-At.role c.in-At.argument = turn-next c.loop-row.invariant c.node_set-set.result c.next_exist.ensures c.node_set-set.ensures c.in-At.is in
+    let chosen : SuccessorFound c.loop-row.invariant c.in-At.row c.in-At.role c.in-At.argument =
+    turn-next c.loop-row.invariant c.node_set-set.result c.next_exist.ensures c.node_set-set.ensures c.in-At.is in
     let made : Made chosen (set_of c.successor.new.out 0) = turn-successor chosen c.node_set-set.result c.successor.ensures.1 c.node_set-set.ensures in
     let after : Work = work c.put.new.nodes c.put.new.edges c.put.new.alternatives in
     turn-put chosen made {w'' = after} c.put.ensures (search)

@@ -8,7 +8,8 @@ use Rattle.expansion.specs.SuccessorCases.{SuccessorsPut}
 use Rattle.expansion.proofs.put_successors.Given as goal
 
 abbrev pub invariant-loop-row : goal.invariant-loop-row
-invariant-loop-row l = SuccessorsPut l.problem (work l.initial.nodes l.initial.edges l.initial.alternatives) l.initial.cur l.x (work l.nodes l.edges l.alternatives) l.cur l.k
+invariant-loop-row l = SuccessorsPut l.problem (work l.initial.nodes l.initial.edges l.initial.alternatives) l.initial.cur l.x
+    (work l.nodes l.edges l.alternatives) l.cur l.k
 
 abbrev pub decreases-loop-row : goal.decreases-loop-row
 decreases-loop-row l = count_of l.problem - l.k

@@ -21,37 +21,54 @@ returns-in_default c = sought-end c.requires c.loop-index.invariant c.next_alter
 
 pub alternative_set-requires : goal.alternative_set-requires
 alternative_set-requires c =
-    let found : let a = c.args in SoughtAt a.nodes.now a.alternatives.now a.c a.owner (set_of a.s.now 0) c.loop-index.i c.in-At.index = sought-at c.requires c.loop-index.invariant c.next_alternative.ensures c.in-At.is in
-    let inside : Fits alternative_size c.args.alternatives.now c.in-At.index = room_fits alternative_size c.args.alternatives.now c.requires.held.alternatives found.below in
+    let found : let a =
+    c.args in SoughtAt a.nodes.now a.alternatives.now a.c a.owner (set_of a.s.now 0) c.loop-index.i c.in-At.index = sought-at c.requires
+    c.loop-index.invariant c.next_alternative.ensures c.in-At.is in
+    let inside : Fits alternative_size c.args.alternatives.now c.in-At.index =
+    room_fits alternative_size c.args.alternatives.now c.requires.held.alternatives found.below in
     inside.0
 
 pub same-requires : goal.same-requires
 same-requires c =
-    let found : let a = c.args in SoughtAt a.nodes.now a.alternatives.now a.c a.owner (set_of a.s.now 0) c.loop-index.i c.in-At.index = sought-at c.requires c.loop-index.invariant c.next_alternative.ensures c.in-At.is in
-    let inside : Fits alternative_size c.args.alternatives.now c.in-At.index = room_fits alternative_size c.args.alternatives.now c.requires.held.alternatives found.below in
+    let found : let a =
+    c.args in SoughtAt a.nodes.now a.alternatives.now a.c a.owner (set_of a.s.now 0) c.loop-index.i c.in-At.index = sought-at c.requires
+    c.loop-index.invariant c.next_alternative.ensures c.in-At.is in
+    let inside : Fits alternative_size c.args.alternatives.now c.in-At.index =
+    room_fits alternative_size c.args.alternatives.now c.requires.held.alternatives found.below in
     (omega (arith, inside.1, c.alternative_set.ensures), search rules)
 
 pub returns-then-same : goal.returns-then-same
 returns-then-same c =
-    let found : let a = c.args in SoughtAt a.nodes.now a.alternatives.now a.c a.owner (set_of a.s.now 0) c.loop-index.i c.in-At.index = sought-at c.requires c.loop-index.invariant c.next_alternative.ensures c.in-At.is in
-    let told : c.same.result ≡ eqb (set_of c.args.alternatives.now (alternative_size * c.in-At.index)) (set_of c.args.s.now 0) = c.same.ensures ∙ ap (λ (at : ℕ). eqb (set_of c.args.alternatives.now at) (set_of c.args.s.now 0))
+    let found : let a =
+    c.args in SoughtAt a.nodes.now a.alternatives.now a.c a.owner (set_of a.s.now 0) c.loop-index.i c.in-At.index = sought-at c.requires
+    c.loop-index.invariant c.next_alternative.ensures c.in-At.is in
+    let told : c.same.result ≡ eqb (set_of c.args.alternatives.now (alternative_size * c.in-At.index)) (set_of c.args.s.now 0) =
+    c.same.ensures ∙ ap (λ (at : ℕ). eqb (set_of c.args.alternatives.now at) (set_of c.args.s.now 0))
     c.alternative_set.ensures in
     found.here (sym told ∙ c.if-same.true)
 
 pub overflow_add-i : goal.overflow_add-i
 overflow_add-i c =
-    let found : let a = c.args in SoughtAt a.nodes.now a.alternatives.now a.c a.owner (set_of a.s.now 0) c.loop-index.i c.in-At.index = sought-at c.requires c.loop-index.invariant c.next_alternative.ensures c.in-At.is in
-    let inside : Fits alternative_size c.args.alternatives.now c.in-At.index = room_fits alternative_size c.args.alternatives.now c.requires.held.alternatives found.below in
+    let found : let a =
+    c.args in SoughtAt a.nodes.now a.alternatives.now a.c a.owner (set_of a.s.now 0) c.loop-index.i c.in-At.index = sought-at c.requires
+    c.loop-index.invariant c.next_alternative.ensures c.in-At.is in
+    let inside : Fits alternative_size c.args.alternatives.now c.in-At.index =
+    room_fits alternative_size c.args.alternatives.now c.requires.held.alternatives found.below in
     omega (arith, inside.0)
 
 pub loop-index-smaller : goal.loop-index-smaller
 loop-index-smaller c =
-    let found : let a = c.args in SoughtAt a.nodes.now a.alternatives.now a.c a.owner (set_of a.s.now 0) c.loop-index.i c.in-At.index = sought-at c.requires c.loop-index.invariant c.next_alternative.ensures c.in-At.is in
+    let found : let a =
+    c.args in SoughtAt a.nodes.now a.alternatives.now a.c a.owner (set_of a.s.now 0) c.loop-index.i c.in-At.index = sought-at c.requires
+    c.loop-index.invariant c.next_alternative.ensures c.in-At.is in
     omega (arith, found.from, found.below)
 
 pub loop-index-preserved : goal.loop-index-preserved
 loop-index-preserved c =
-    let found : let a = c.args in SoughtAt a.nodes.now a.alternatives.now a.c a.owner (set_of a.s.now 0) c.loop-index.i c.in-At.index = sought-at c.requires c.loop-index.invariant c.next_alternative.ensures c.in-At.is in
-    let told : c.same.result ≡ eqb (set_of c.args.alternatives.now (alternative_size * c.in-At.index)) (set_of c.args.s.now 0) = c.same.ensures ∙ ap (λ (at : ℕ). eqb (set_of c.args.alternatives.now at) (set_of c.args.s.now 0))
+    let found : let a =
+    c.args in SoughtAt a.nodes.now a.alternatives.now a.c a.owner (set_of a.s.now 0) c.loop-index.i c.in-At.index = sought-at c.requires
+    c.loop-index.invariant c.next_alternative.ensures c.in-At.is in
+    let told : c.same.result ≡ eqb (set_of c.args.alternatives.now (alternative_size * c.in-At.index)) (set_of c.args.s.now 0) =
+    c.same.ensures ∙ ap (λ (at : ℕ). eqb (set_of c.args.alternatives.now at) (set_of c.args.s.now 0))
     c.alternative_set.ensures in
     found.more (sym told ∙ c.if-same.false)

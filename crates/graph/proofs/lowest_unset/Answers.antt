@@ -16,12 +16,11 @@ pub overflow_cast-result : goal.overflow_cast-result
 overflow_cast-result c = omega (arith, c.requires)
 
 pub returns-then-is_unset : goal.returns-then-is_unset
-returns-then-is_unset c =
-    (
-      λ e a h. sym (unset-found (work _ e a) _ _ (omega (arith, c.loop-x-test.true)) c.loop-x.invariant.1
-          (sym c.is_unset.ensures ∙ c.if-is_unset.true)),
-      c.loop-x.invariant.1,
-    )
+returns-then-is_unset c = (
+  λ e a h. sym (unset-found (work _ e a) _ _ (omega (arith, c.loop-x-test.true)) c.loop-x.invariant.1
+      (sym c.is_unset.ensures ∙ c.if-is_unset.true)),
+  c.loop-x.invariant.1,
+)
 
 pub loop-x-preserved : goal.loop-x-preserved
 loop-x-preserved c = (omega arith, below_more _ _ c.loop-x.invariant.1 (sym c.is_unset.ensures ∙ c.if-is_unset.false))

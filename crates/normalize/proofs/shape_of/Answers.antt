@@ -18,7 +18,9 @@ row_byte-right-requires c = (draft-parted c.requires.0, c.requires.1, omega arit
 
 pub returns-then-kind-le-NEGATED : goal.returns-then-kind-le-NEGATED
 returns-then-kind-le-NEGATED c =
-    let row_read : let left = c.row_byte-left in RowRead c.args.draft.now c.args.k c.args.sign c.row_byte-kind.result c.row_byte-role.result left.result c.row_byte-right.result c.written_kind-written.result = record {
+    let row_read : let left =
+    c.row_byte-left in RowRead c.args.draft.now c.args.k c.args.sign c.row_byte-kind.result c.row_byte-role.result left.result c.row_byte-right.result
+    c.written_kind-written.result = record {
       draft = c.requires.0;
       row = c.requires.1;
       idle = c.requires.2;
@@ -32,7 +34,9 @@ returns-then-kind-le-NEGATED c =
 
 pub returns-then-kind : goal.returns-then-kind
 returns-then-kind c =
-    let row_read : let left = c.row_byte-left in RowRead c.args.draft.now c.args.k c.args.sign c.row_byte-kind.result c.row_byte-role.result left.result c.row_byte-right.result c.written_kind-written.result = record {
+    let row_read : let left =
+    c.row_byte-left in RowRead c.args.draft.now c.args.k c.args.sign c.row_byte-kind.result c.row_byte-role.result left.result c.row_byte-right.result
+    c.written_kind-written.result = record {
       draft = c.requires.0;
       row = c.requires.1;
       idle = c.requires.2;
@@ -46,7 +50,9 @@ returns-then-kind c =
 
 pub returns-then-kind-eq-NEG : goal.returns-then-kind-eq-NEG
 returns-then-kind-eq-NEG c =
-    let row_read : let left = c.row_byte-left in RowRead c.args.draft.now c.args.k c.args.sign c.row_byte-kind.result c.row_byte-role.result left.result c.row_byte-right.result c.written_kind-written.result = record {
+    let row_read : let left =
+    c.row_byte-left in RowRead c.args.draft.now c.args.k c.args.sign c.row_byte-kind.result c.row_byte-role.result left.result c.row_byte-right.result
+    c.written_kind-written.result = record {
       draft = c.requires.0;
       row = c.requires.1;
       idle = c.requires.2;
@@ -60,7 +66,9 @@ returns-then-kind-eq-NEG c =
 
 pub returns-then-kind-eq-IMPL : goal.returns-then-kind-eq-IMPL
 returns-then-kind-eq-IMPL c =
-    let row_read : let left = c.row_byte-left in RowRead c.args.draft.now c.args.k c.args.sign c.row_byte-kind.result c.row_byte-role.result left.result c.row_byte-right.result c.written_kind-written.result = record {
+    let row_read : let left =
+    c.row_byte-left in RowRead c.args.draft.now c.args.k c.args.sign c.row_byte-kind.result c.row_byte-role.result left.result c.row_byte-right.result
+    c.written_kind-written.result = record {
       draft = c.requires.0;
       row = c.requires.1;
       idle = c.requires.2;
@@ -74,7 +82,9 @@ returns-then-kind-eq-IMPL c =
 
 pub returns : goal.returns
 returns c =
-    let row_read : let left = c.row_byte-left in RowRead c.args.draft.now c.args.k c.args.sign c.row_byte-kind.result c.row_byte-role.result left.result c.row_byte-right.result c.written_kind-written.result = record {
+    let row_read : let left =
+    c.row_byte-left in RowRead c.args.draft.now c.args.k c.args.sign c.row_byte-kind.result c.row_byte-role.result left.result c.row_byte-right.result
+    c.written_kind-written.result = record {
       draft = c.requires.0;
       row = c.requires.1;
       idle = c.requires.2;

@@ -15,7 +15,8 @@ use Rattle.records.proofs.store_node.Goals as goal
 pub returns : goal.returns
 returns c =
     let rows : ℕ = set_of c.args.s.now 0 in
-    let apart : rows < 256 ^ set_size → link_number c.args.n.link < 65536 → Apart 0 node_extent (node_fields rows c.args.n) = λ small number. node-apart rows c.args.n small (search rules) (search rules) number in
+    let apart : rows < 256 ^ set_size → link_number c.args.n.link < 65536 → Apart 0 node_extent (node_fields rows c.args.n) =
+    λ small number. node-apart rows c.args.n small (search rules) (search rules) number in
     let z : node_size * c.args.x + 0 ≡ node_size * c.args.x = omega arith in
     let l = c.link_number in
     node-stored _ c.put2-2.new.b c.args.x rows c.args.n c.requires (apart c.put_set.ensures.1 (omega (arith, l.ensures, l.type_inv)))

@@ -22,20 +22,24 @@ returns-in_default c = turn-done c.loop-cur.invariant (search (root_live, not-fa
 
 pub expand-requires : goal.expand-requires
 expand-requires c =
-    let fresh : NextToExpand c.loop-cur.invariant c.in-At.x = turn-fresh c.loop-cur.invariant (search (root_live, not-false, rules)) c.lowest_unset.ensures c.in-At.is in
+    let fresh : NextToExpand c.loop-cur.invariant c.in-At.x =
+    turn-fresh c.loop-cur.invariant (search (root_live, not-false, rules)) c.lowest_unset.ensures c.in-At.is in
     turn-asks fresh
 
 pub returns-in-Full : goal.returns-in-Full
 returns-in-Full c =
-    let fresh : NextToExpand c.loop-cur.invariant c.in-At.x = turn-fresh c.loop-cur.invariant (search (root_live, not-false, rules)) c.lowest_unset.ensures c.in-At.is in
+    let fresh : NextToExpand c.loop-cur.invariant c.in-At.x =
+    turn-fresh c.loop-cur.invariant (search (root_live, not-false, rules)) c.lowest_unset.ensures c.in-At.is in
     turn-short fresh c.expand.ensures (search)
 
 pub loop-cur-smaller : goal.loop-cur-smaller
 loop-cur-smaller c =
-    let fresh : NextToExpand c.loop-cur.invariant c.in-At.x = turn-fresh c.loop-cur.invariant (search (root_live, not-false, rules)) c.lowest_unset.ensures c.in-At.is in
+    let fresh : NextToExpand c.loop-cur.invariant c.in-At.x =
+    turn-fresh c.loop-cur.invariant (search (root_live, not-false, rules)) c.lowest_unset.ensures c.in-At.is in
     turn-less fresh c.expand.ensures c.in-Done.is
 
 pub loop-cur-preserved : goal.loop-cur-preserved
 loop-cur-preserved c =
-    let fresh : NextToExpand c.loop-cur.invariant c.in-At.x = turn-fresh c.loop-cur.invariant (search (root_live, not-false, rules)) c.lowest_unset.ensures c.in-At.is in
+    let fresh : NextToExpand c.loop-cur.invariant c.in-At.x =
+    turn-fresh c.loop-cur.invariant (search (root_live, not-false, rules)) c.lowest_unset.ensures c.in-At.is in
     turn-expanded fresh c.expand.ensures c.in-Done.is

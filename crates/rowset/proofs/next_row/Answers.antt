@@ -17,7 +17,8 @@ use Rattle.rowset.specs.NextLaws.{Words, picked, picked_fits, picked_all, Passed
 use Rattle.rowset.proofs.next_row.Goals as goal
 
 -- what holds of the joined words holds of the common rows
-whole : (b : List ℕ) (at : ℕ) (ws : List ℕ) (mask n from : ℕ) → AreBytes b → Words ws → (r : Next) → IsNext (joined 64 (picked b at ws mask) n) from r → IsNext (common (set_at b at n) (mask_at ws mask n)) from r
+whole : (b : List ℕ) (at : ℕ) (ws : List ℕ) (mask n from : ℕ) → AreBytes b → Words ws → (r : Next) → IsNext (joined 64 (picked b at ws mask) n) from r →
+    IsNext (common (set_at b at n) (mask_at ws mask n)) from r
 whole b at ws mask n from hb hw r h = subst (λ (s : RowSet). IsNext s from r) (picked_all b at ws mask n hb hw) h
 
 pub returns-then-n-start : goal.returns-then-n-start

@@ -9,7 +9,8 @@ use Rattle.settests.specs.AnswerLaws.{clash-only, clash-none}
 use Rattle.settests.proofs.clash.Goals as goal
 
 pub returns-then-negated-eq0 : goal.returns-then-negated-eq0
-returns-then-negated-eq0 c = clash-none (problem_of c.args.problem.now) (λ j k. refl) (set_of c.args.s.now c.args.at) (sym c.names_in-negated.ensures ∙ c.if-negated-eq0.true)
+returns-then-negated-eq0 c = clash-none (problem_of c.args.problem.now) (λ j k. refl) (set_of c.args.s.now c.args.at)
+    (sym c.names_in-negated.ensures ∙ c.if-negated-eq0.true)
 
 pub returns : goal.returns
 unfolding common

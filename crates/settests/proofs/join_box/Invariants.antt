@@ -23,13 +23,15 @@ Gathered problem out₀ to joined out x = (length out ≡ length out₀) ×
     (union (set_of out to) (left_parts (table_of problem) x) ≡ union (set_of out₀ to) joined)
 
 abbrev pub invariant-loop-m : goal.invariant-loop-m
-invariant-loop-m l = Along l.problem l.mask l.s l.at l.role (Gathered l.problem l.initial.out l.to (left_parts (table_of l.problem) (left_over l.problem l.mask l.s l.at l.j l.initial.m)) l.out) l.j l.m
+invariant-loop-m l = Along l.problem l.mask l.s l.at l.role (Gathered l.problem l.initial.out l.to
+    (left_parts (table_of l.problem) (left_over l.problem l.mask l.s l.at l.j l.initial.m)) l.out) l.j l.m
 
 abbrev pub decreases-loop-m : goal.decreases-loop-m
 decreases-loop-m l = l.m
 
 abbrev pub invariant-loop-j : goal.invariant-loop-j
-invariant-loop-j l = Along l.problem l.mask l.s l.at l.role (Gathered l.problem l.initial.out l.to (from_list (box (problem_of l.problem) (set_of l.s l.at) l.role)) l.out) l.j (common_word l.problem l.mask l.s l.at l.j)
+invariant-loop-j l = Along l.problem l.mask l.s l.at l.role (Gathered l.problem l.initial.out l.to
+    (from_list (box (problem_of l.problem) (set_of l.s l.at) l.role)) l.out) l.j (common_word l.problem l.mask l.s l.at l.j)
 
 abbrev pub decreases-loop-j : goal.decreases-loop-j
 decreases-loop-j l = l.n - l.j

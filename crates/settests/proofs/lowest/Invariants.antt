@@ -23,7 +23,8 @@ abbrev pub decreases-loop-m : goal.decreases-loop-m
 decreases-loop-m l = l.m
 
 abbrev pub invariant-loop-j : goal.invariant-loop-j
-invariant-loop-j l = Loop l.problem (of_kind l.kind) l.mask l.s l.at (First (table_of l.problem) l.kind (set_of l.s l.at)) l.j (common_word l.problem l.mask l.s l.at l.j)
+invariant-loop-j l = Loop l.problem (of_kind l.kind) l.mask l.s l.at (First (table_of l.problem) l.kind (set_of l.s l.at)) l.j
+    (common_word l.problem l.mask l.s l.at l.j)
 
 abbrev pub decreases-loop-j : goal.decreases-loop-j
 decreases-loop-j l = l.n - l.j

@@ -67,7 +67,7 @@ loop-m-preserved c =
     let name = c.left_at-left.result in
     let t = next in
     let low : name < 64 =
-        omega (arith, c.left_at-left.ensures.0, name-lt c.requires.0.rows _ t.below (omega (arith, eqb-true _ c.args.kind t.passes, c.requires.1))) in
+    omega (arith, c.left_at-left.ensures.0, name-lt c.requires.0.rows _ t.below (omega (arith, eqb-true _ c.args.kind t.passes, c.requires.1))) in
     let bit : (1 * 2 ^ name) % 2 ^ 64 ≡ 2 ^ name = shl_exact 1 name 64 (omega arith) (omega arith) ∙ one-mul (2 ^ name) in
     let l = c.loop-m in
     loop-after l.invariant t

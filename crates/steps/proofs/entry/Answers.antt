@@ -27,8 +27,10 @@ of_state =
 
 pub returns-in-Branch : goal.returns-in-Branch
 unfolding branch_table
-returns-in-Branch c = rw c.in-Branch.is (entry_at branch branch_table refl (status_of c.args.a) (status_of c.args.b) c.rank-i.result c.rank-j.result c.rank-i.ensures.0 c.rank-j.ensures.0)
+returns-in-Branch c = rw c.in-Branch.is (entry_at branch branch_table refl (status_of c.args.a) (status_of c.args.b) c.rank-i.result c.rank-j.result
+    c.rank-i.ensures.0 c.rank-j.ensures.0)
 
 pub returns-in-State : goal.returns-in-State
 unfolding state_table
-returns-in-State c = rw c.in-State.is (entry_at of_state state_table refl (status_of c.args.a) (status_of c.args.b) c.rank-i.result c.rank-j.result c.rank-i.ensures.0 c.rank-j.ensures.0)
+returns-in-State c = rw c.in-State.is (entry_at of_state state_table refl (status_of c.args.a) (status_of c.args.b) c.rank-i.result c.rank-j.result
+    c.rank-i.ensures.0 c.rank-j.ensures.0)

@@ -19,21 +19,29 @@ returns-in_default c = folds-end c.loop-index.invariant (next-end c.requires _ c
 
 pub status_of-status-requires : goal.status_of-status-requires
 status_of-status-requires c =
-    let next : let a = c.args in NextEnd a.edges.now a.c a.x c.loop-index.i c.in-At.index c.in-At.node = next-at c.requires _ c.loop-index.invariant.among c.next_child.ensures c.in-At.is in
+    let next : let a =
+    c.args in NextEnd a.edges.now a.c a.x c.loop-index.i c.in-At.index c.in-At.node = next-at c.requires _ c.loop-index.invariant.among
+    c.next_child.ensures c.in-At.is in
     held-node c.requires.held (folds-node c.loop-index.invariant next)
 
 pub overflow_add-i : goal.overflow_add-i
 overflow_add-i c =
-    let next : let a = c.args in NextEnd a.edges.now a.c a.x c.loop-index.i c.in-At.index c.in-At.node = next-at c.requires _ c.loop-index.invariant.among c.next_child.ensures c.in-At.is in
+    let next : let a =
+    c.args in NextEnd a.edges.now a.c a.x c.loop-index.i c.in-At.index c.in-At.node = next-at c.requires _ c.loop-index.invariant.among
+    c.next_child.ensures c.in-At.is in
     omega (arith, next.below, c.requires.held.edges)
 
 pub loop-index-smaller : goal.loop-index-smaller
 loop-index-smaller c =
-    let next : let a = c.args in NextEnd a.edges.now a.c a.x c.loop-index.i c.in-At.index c.in-At.node = next-at c.requires _ c.loop-index.invariant.among c.next_child.ensures c.in-At.is in
+    let next : let a =
+    c.args in NextEnd a.edges.now a.c a.x c.loop-index.i c.in-At.index c.in-At.node = next-at c.requires _ c.loop-index.invariant.among
+    c.next_child.ensures c.in-At.is in
     omega (arith, next.from, next.below)
 
 pub loop-index-preserved : goal.loop-index-preserved
 loop-index-preserved c =
-    let next : let a = c.args in NextEnd a.edges.now a.c a.x c.loop-index.i c.in-At.index c.in-At.node = next-at c.requires _ c.loop-index.invariant.among c.next_child.ensures c.in-At.is in
+    let next : let a =
+    c.args in NextEnd a.edges.now a.c a.x c.loop-index.i c.in-At.index c.in-At.node = next-at c.requires _ c.loop-index.invariant.among
+    c.next_child.ensures c.in-At.is in
     folds-more c.loop-index.invariant next (status_of c.entry-v.result)
     (c.entry-v.ensures ∙ ap (Procedure.entry (status_table c.args.by) (status_of c.loop-index.v)) c.status_of-status.ensures)

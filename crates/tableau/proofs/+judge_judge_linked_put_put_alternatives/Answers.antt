@@ -135,7 +135,9 @@ put-judge-requires t c =
     (c.lacks.ensures
     ∙ ap (λ (q : RowSet). not (eqb (lacking (problem_of c.args.problem.now) (set_of c.args.s.now 0) c.inverse-back.result q) empty)) above) in
     let complete : Complete c.requires = put-complete weighed c.if-lacks.false in
-    let linked-special : let l = c.link_special in Linked c.requires (work l.new.nodes l.new.edges c.args.alternatives.now) c.in-Done.d = put-links complete c.link_special.ensures c.in-Done.is in
+    let linked-special : let l =
+    c.link_special in Linked c.requires (work l.new.nodes l.new.edges c.args.alternatives.now) c.in-Done.d = put-links complete c.link_special.ensures
+    c.in-Done.is in
     (omega (arith, put-judge-falls linked-special), put-judge-asks linked-special)
 
 pub put-add_edge-requires : goal.put-add_edge-requires
@@ -146,7 +148,9 @@ put-add_edge-requires t c =
     (c.lacks.ensures
     ∙ ap (λ (q : RowSet). not (eqb (lacking (problem_of c.args.problem.now) (set_of c.args.s.now 0) c.inverse-back.result q) empty)) above) in
     let complete : Complete c.requires = put-complete weighed c.if-lacks.false in
-    let linked-special : let l = c.link_special in Linked c.requires (work l.new.nodes l.new.edges c.args.alternatives.now) c.in-Done.d = put-links complete c.link_special.ensures c.in-Done.is in
+    let linked-special : let l =
+    c.link_special in Linked c.requires (work l.new.nodes l.new.edges c.args.alternatives.now) c.in-Done.d = put-links complete c.link_special.ensures
+    c.in-Done.is in
     put-edge-asks linked-special c.judge.ensures c.in-Done-judge.is
 
 pub put-returns-in-Full : goal.put-returns-in-Full
@@ -167,7 +171,9 @@ put-returns-in-Full-judge t c =
     (c.lacks.ensures
     ∙ ap (λ (q : RowSet). not (eqb (lacking (problem_of c.args.problem.now) (set_of c.args.s.now 0) c.inverse-back.result q) empty)) above) in
     let complete : Complete c.requires = put-complete weighed c.if-lacks.false in
-    let linked-special : let l = c.link_special in Linked c.requires (work l.new.nodes l.new.edges c.args.alternatives.now) c.in-Done.d = put-links complete c.link_special.ensures c.in-Done.is in
+    let linked-special : let l =
+    c.link_special in Linked c.requires (work l.new.nodes l.new.edges c.args.alternatives.now) c.in-Done.d = put-links complete c.link_special.ensures
+    c.in-Done.is in
     put-judge-short linked-special c.judge.ensures (search)
 
 pub put-returns-in-Done-judge : goal.put-returns-in-Done-judge
@@ -178,7 +184,9 @@ put-returns-in-Done-judge t c =
     (c.lacks.ensures
     ∙ ap (λ (q : RowSet). not (eqb (lacking (problem_of c.args.problem.now) (set_of c.args.s.now 0) c.inverse-back.result q) empty)) above) in
     let complete : Complete c.requires = put-complete weighed c.if-lacks.false in
-    let linked-special : let l = c.link_special in Linked c.requires (work l.new.nodes l.new.edges c.args.alternatives.now) c.in-Done.d = put-links complete c.link_special.ensures c.in-Done.is in
+    let linked-special : let l =
+    c.link_special in Linked c.requires (work l.new.nodes l.new.edges c.args.alternatives.now) c.in-Done.d = put-links complete c.link_special.ensures
+    c.in-Done.is in
     put-judged linked-special c.judge.ensures c.in-Done-judge.is (search)
 
 -- ---- put_alternatives
@@ -202,34 +210,45 @@ put_alternatives-returns-in_default t c = turn_end c.loop-index.invariant c.set_
 
 pub put_alternatives-overflow_add-i : goal.put_alternatives-overflow_add-i
 put_alternatives-overflow_add-i t c =
-    let chosen : AlternativeFound c.loop-index.invariant c.in-At.index (set_of c.loop-index.alternatives (alternative_size * c.in-At.index)) = turn-next c.loop-index.invariant c.next_alternative.ensures c.in-At.is in
+    let chosen : AlternativeFound c.loop-index.invariant c.in-At.index (set_of c.loop-index.alternatives (alternative_size * c.in-At.index)) =
+    turn-next c.loop-index.invariant c.next_alternative.ensures c.in-At.is in
     omega (arith, turn-index chosen)
 
 pub put_alternatives-join_alternative-requires : goal.put_alternatives-join_alternative-requires
 put_alternatives-join_alternative-requires t c =
-    let chosen : AlternativeFound c.loop-index.invariant c.in-At.index (set_of c.loop-index.alternatives (alternative_size * c.in-At.index)) = turn-next c.loop-index.invariant c.next_alternative.ensures c.in-At.is in
-    let sets-inside : let l = c.loop-index in (alternative_size * c.in-At.index + set_size ≤ length l.alternatives) × (node_size * c.args.y + set_size ≤ length l.nodes) = turn-sets-inside chosen in
+    let chosen : AlternativeFound c.loop-index.invariant c.in-At.index (set_of c.loop-index.alternatives (alternative_size * c.in-At.index)) =
+    turn-next c.loop-index.invariant c.next_alternative.ensures c.in-At.is in
+    let sets-inside : let l =
+    c.loop-index in (alternative_size * c.in-At.index + set_size ≤ length l.alternatives) × (node_size * c.args.y + set_size ≤ length l.nodes) =
+    turn-sets-inside chosen in
     let (a, n) = sets-inside in (n, omega (arith, turn-index chosen), a)
 
 pub put_alternatives-put-requires : goal.put_alternatives-put-requires
 put_alternatives-put-requires t c =
-    let chosen : AlternativeFound c.loop-index.invariant c.in-At.index (set_of c.loop-index.alternatives (alternative_size * c.in-At.index)) = turn-next c.loop-index.invariant c.next_alternative.ensures c.in-At.is in
-    let joined : AlternativeJoined c.loop-index.invariant c.in-At.index c.load_node-node.result (set_of c.join_alternative.new.out 0) = turn-joined chosen c.load_node-node.result c.load_node-node.ensures c.join_alternative.ensures in
+    let chosen : AlternativeFound c.loop-index.invariant c.in-At.index (set_of c.loop-index.alternatives (alternative_size * c.in-At.index)) =
+    turn-next c.loop-index.invariant c.next_alternative.ensures c.in-At.is in
+    let joined : AlternativeJoined c.loop-index.invariant c.in-At.index c.load_node-node.result (set_of c.join_alternative.new.out 0) =
+    turn-joined chosen c.load_node-node.result c.load_node-node.ensures c.join_alternative.ensures in
     (omega (arith, turn-falls joined), turn-asks joined)
 
 pub put_alternatives-returns-in-Full : goal.put_alternatives-returns-in-Full
 put_alternatives-returns-in-Full t c =
-    let chosen : AlternativeFound c.loop-index.invariant c.in-At.index (set_of c.loop-index.alternatives (alternative_size * c.in-At.index)) = turn-next c.loop-index.invariant c.next_alternative.ensures c.in-At.is in
-    let joined : AlternativeJoined c.loop-index.invariant c.in-At.index c.load_node-node.result (set_of c.join_alternative.new.out 0) = turn-joined chosen c.load_node-node.result c.load_node-node.ensures c.join_alternative.ensures in
+    let chosen : AlternativeFound c.loop-index.invariant c.in-At.index (set_of c.loop-index.alternatives (alternative_size * c.in-At.index)) =
+    turn-next c.loop-index.invariant c.next_alternative.ensures c.in-At.is in
+    let joined : AlternativeJoined c.loop-index.invariant c.in-At.index c.load_node-node.result (set_of c.join_alternative.new.out 0) =
+    turn-joined chosen c.load_node-node.result c.load_node-node.ensures c.join_alternative.ensures in
     turn-short joined c.put.ensures (search)
 
 pub put_alternatives-loop-index-smaller : goal.put_alternatives-loop-index-smaller
 put_alternatives-loop-index-smaller t c =
-    let chosen : AlternativeFound c.loop-index.invariant c.in-At.index (set_of c.loop-index.alternatives (alternative_size * c.in-At.index)) = turn-next c.loop-index.invariant c.next_alternative.ensures c.in-At.is in
+    let chosen : AlternativeFound c.loop-index.invariant c.in-At.index (set_of c.loop-index.alternatives (alternative_size * c.in-At.index)) =
+    turn-next c.loop-index.invariant c.next_alternative.ensures c.in-At.is in
     turn-less chosen
 
 pub put_alternatives-loop-index-preserved : goal.put_alternatives-loop-index-preserved
 put_alternatives-loop-index-preserved t c =
-    let chosen : AlternativeFound c.loop-index.invariant c.in-At.index (set_of c.loop-index.alternatives (alternative_size * c.in-At.index)) = turn-next c.loop-index.invariant c.next_alternative.ensures c.in-At.is in
-    let joined : AlternativeJoined c.loop-index.invariant c.in-At.index c.load_node-node.result (set_of c.join_alternative.new.out 0) = turn-joined chosen c.load_node-node.result c.load_node-node.ensures c.join_alternative.ensures in
+    let chosen : AlternativeFound c.loop-index.invariant c.in-At.index (set_of c.loop-index.alternatives (alternative_size * c.in-At.index)) =
+    turn-next c.loop-index.invariant c.next_alternative.ensures c.in-At.is in
+    let joined : AlternativeJoined c.loop-index.invariant c.in-At.index c.load_node-node.result (set_of c.join_alternative.new.out 0) =
+    turn-joined chosen c.load_node-node.result c.load_node-node.ensures c.join_alternative.ensures in
     turn-put joined c.put.ensures c.in-Done.is

@@ -19,12 +19,14 @@ left_at-requires c = (c.requires.0, place-row c.requires.0 _ c.requires.2)
 
 pub bounds-places-left_at : goal.bounds-places-left_at
 bounds-places-left_at c =
-    let name-here : left_of (concept_at (table_of c.args.problem.now) c.args.k) < 64 = place-name c.requires.0 _ c.requires.2 c.requires.1 (sym c.kind_at.ensures ∙ c.if-kind_at-kind.true) in
+    let name-here : left_of (concept_at (table_of c.args.problem.now) c.args.k) < 64 =
+    place-name c.requires.0 _ c.requires.2 c.requires.1 (sym c.kind_at.ensures ∙ c.if-kind_at-kind.true) in
     omega (arith, c.requires.2.all, c.left_at.ensures.0, name-here)
 
 pub returns-then-kind_at-kind : goal.returns-then-kind_at-kind
 returns-then-kind_at-kind c =
-    let name-here : left_of (concept_at (table_of c.args.problem.now) c.args.k) < 64 = place-name c.requires.0 _ c.requires.2 c.requires.1 (sym c.kind_at.ensures ∙ c.if-kind_at-kind.true) in
+    let name-here : left_of (concept_at (table_of c.args.problem.now) c.args.k) < 64 =
+    place-name c.requires.0 _ c.requires.2 c.requires.1 (sym c.kind_at.ensures ∙ c.if-kind_at-kind.true) in
     place-put c.requires.0 _ c.requires.2 (sym c.kind_at.ensures ∙ c.if-kind_at-kind.true) c.left_at.ensures.0
     (omega (arith, c.left_at.ensures.0, name-here))
 

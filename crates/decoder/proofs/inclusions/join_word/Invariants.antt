@@ -7,7 +7,8 @@ use Rattle.decoder.specs.Chaining.{JoinsWord}
 use Rattle.decoder.proofs.inclusions.join_word.Given as goal
 
 abbrev pub invariant-loop-code : goal.invariant-loop-code
-invariant-loop-code l = (l.narrower ≡ get_or l.initial.out (narrows_at + l.narrow) 0) × (l.reached ≡ get_or l.initial.out (role_place l.wide + l.j) 0) × (l.code ≤ 32)
+invariant-loop-code l = (l.narrower ≡ get_or l.initial.out (narrows_at + l.narrow) 0) × (l.reached ≡ get_or l.initial.out (role_place l.wide + l.j) 0) ×
+    (l.code ≤ 32)
     × JoinsWord l.j l.code l.narrow l.wide l.initial.out l.out
 
 abbrev pub decreases-loop-code : goal.decreases-loop-code
