@@ -15,7 +15,7 @@ use Rattle.decoding.specs.Decoding.{rule_kinds}
 use Rattle.rulefile.specs.Format.{wanted_rows, refused, reading}
 use Rattle.reader.specs.Read.{LaidFor, Laid}
 use Rattle.reader.specs.PartLaws.{laid-placed}
-use Rattle.rulefile.specs.WantedLaws as Wanted
+use Rattle.rulefile.proofs.WantedLaws as Wanted
 use Rattle.reader.specs.declared.Layout.{Layout}
 use Rattle.procedure.specs.Problem.{Problem}
 use Rattle.procedure.specs.Tableau.{run}
@@ -27,7 +27,7 @@ use Rattle.problem.specs.Decoded.{table_of}
 use Rattle.decoder.specs.Want.{with_wanted}
 use Rattle.decoder.specs.FileProblem.{FileDecoded}
 use Rattle.subsumption.specs.Names.{positive, negative, names, row_after_row}
-use Rattle.subsumption.specs.NameLaws.{row_after_row-same}
+use Rattle.subsumption.proofs.NameLaws.{row_after_row-same}
 use Rattle.subsumption.specs.Catalogue.{Areas, areas_of, lent, entry_of, entry, Catalogue, refused_with, listed, listed_in, catalogue}
 use Rattle.subsumption.specs.Catalogue.{CatalogueNumbers, refusal_alone, numbers, areas_after}
 use Rattle.subsumption.specs.Promise.{CataloguePromise}

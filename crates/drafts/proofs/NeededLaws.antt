@@ -11,8 +11,8 @@ use Rattle.concepts.specs.Begins.{Begins, begins-get_or}
 use Rattle.concepts.specs.Concept.{Concept, atomic, Table, concept_at, arguments, Ordered}
 use Rattle.drafts.specs.Normalize.{Sign, Shape, literal, other, unary, binary, shape, Put, put}
 use Rattle.drafts.specs.ShapeLaws.{ShapeWritten, shape-written}
-use Rattle.drafts.specs.ShareLaws.{Shared, share-gives}
-use Rattle.drafts.specs.PutLaws.{GrownStep, put-grown-induction}
+use Rattle.drafts.proofs.ShareLaws.{Shared, share-gives}
+use Rattle.drafts.proofs.PutLaws.{GrownStep, put-grown-induction}
 
 -- ---- rows reached from row j
 
