@@ -15,7 +15,7 @@ use Rattle.decoding.specs.Decoding.{rule_kinds}
 use Rattle.rulefile.specs.Format.{wanted_rows, refused, reading}
 use Rattle.reader.specs.Read.{LaidFor, Laid}
 use Rattle.reader.specs.PartLaws.{laid-placed}
-use Rattle.rulefile.proofs.WantedLaws as Wanted
+use Rattle.rulefile.specs.WantedLaws as Wanted
 use Rattle.reader.specs.declared.Layout.{Layout}
 use Rattle.procedure.specs.Problem.{Problem}
 use Rattle.procedure.specs.Tableau.{run}

@@ -18,7 +18,8 @@ use Rattle.decoding.specs.Decoding.{draft_kinds}
 use Rattle.rulefile.specs.Format.{rule_count, rule, rules, wanted_rows, most_rows, most_rules, RuleFile, contents, refused, accepted}
 use Rattle.reader.specs.Read.{Laid}
 use Rattle.rulefile.specs.CheckLaws.{accepted-contents, accepted-passed}
-use Rattle.rulefile.proofs.FormatLaws.{Admitted, contents-admitted}
+use Rattle.rulefile.specs.FormatLaws.{Admitted}
+use Rattle.rulefile.proofs.FormatLaws.{contents-admitted}
 use Rattle.reader.specs.PartLaws.{laid-placed, whole}
 use Rattle.reader.specs.declared.Layout.{Layout}
 use Rattle.words.specs.Words.{overwrite}

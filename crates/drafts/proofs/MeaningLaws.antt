@@ -11,7 +11,8 @@ use Rattle.meaning.proofs.MeaningLaws.{holds-clause, holds_as}
 use Rattle.meaning.proofs.FiniteLaws.{holds-decided}
 use Rattle.drafts.specs.Normalize.{Sign, Shape, literal, other, unary, binary, shape, Put, put}
 use Rattle.drafts.specs.Sound.{Idle}
-use Rattle.drafts.proofs.ShareLaws.{Shared, share-gives, shared-here}
+use Rattle.drafts.specs.ShareLaws.{Shared}
+use Rattle.drafts.proofs.ShareLaws.{share-gives, shared-here}
 use Rattle.drafts.proofs.PutLaws.{GrownStep, put-idle-induction}
 use Rattle.drafts.specs.ShapeMeaning.{Signed, ShapeMeans, shape-means}
 

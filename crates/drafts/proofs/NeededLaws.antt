@@ -1,7 +1,7 @@
 -- Nothing is written that is not needed: each new row is reached from the row that was put.
 --
 -- In order: rows reached from a row; as the table grows; a row that is shared; a row with all that it needs (`put-reaches`).
-use Rattle.std.specs.Prelude.{◌≡◌, refl, ℕ, ◌≤◌, ◌<◌, length}
+use Rattle.std.specs.Prelude.{◌≡◌, refl, ℕ, ◌<◌, length}
 use Rattle.std.proofs.Common.{sym, ap, subst, inl, inr, arith, length-append}
 use mathlib.Core.List.Memᴰ
 use mathlib.Core.List.{[], ◌∷◌, Memᴰ}
@@ -11,14 +11,10 @@ use Rattle.concepts.specs.Begins.{Begins, begins-get_or}
 use Rattle.concepts.specs.Concept.{Concept, atomic, Table, concept_at, arguments, Ordered}
 use Rattle.drafts.specs.Normalize.{Sign, Shape, literal, other, unary, binary, shape, Put, put}
 use Rattle.drafts.specs.ShapeLaws.{ShapeWritten, shape-written}
-use Rattle.drafts.proofs.ShareLaws.{Shared, share-gives}
+use Rattle.drafts.specs.ShareLaws.{Shared}
+use Rattle.drafts.proofs.ShareLaws.{share-gives}
 use Rattle.drafts.proofs.PutLaws.{GrownStep, put-grown-induction}
-
--- ---- rows reached from row j
-
-pub data Reaches (u : Table) (j : ℕ) : ℕ → Type 0 where
-  itself : Reaches u j j
-  through : {k l : ℕ} → Reaches u j k → Memᴰ l (arguments (concept_at u k)) → Reaches u j l
+use Rattle.drafts.specs.NeededLaws.{Reaches, NewReached}
 
 reaches-on : {u : Table} {i j k : ℕ} → Reaches u i j → Reaches u j k → Reaches u i k
 reaches-on r itself = r
@@ -36,12 +32,6 @@ pub reaches-grown : {u v : Table} {j k : ℕ} → Begins u v → Reaches u j k �
 reaches-grown b itself = itself
 reaches-grown {u} {v} b (through {k} {l} r m) =
     through (reaches-grown b r) (subst (λ (c : Concept). Memᴰ l (arguments c)) (sym (begins-get_or u v k (atomic 0) b (names-inside u k l m))) m)
-
--- ---- a row with all that it needs
-
--- the rows from a length on are reached from row j
-abbrev pub NewReached : ℕ → Table → ℕ → Type 0
-NewReached from u j = (i : ℕ) → from ≤ i → i < length u → Reaches u j i
 
 module _ {c : Concept} {out : Table} {p : Put} (S : Shared c out p) where
   -- the row that is shared is the only new one

@@ -19,7 +19,7 @@ use Rattle.concepts.specs.Concept.{Concept, atomic, Table, concept_at, Ordered, 
 use Rattle.meaning.specs.Meaning.{World}
 use Rattle.decoding.specs.RowParts.{in_range}
 use Rattle.rulefile.specs.Format.{most_rows, RuleFile}
-use Rattle.rulefile.proofs.FormatLaws.{Admitted}
+use Rattle.rulefile.specs.FormatLaws.{Admitted}
 use Rattle.drafts.specs.Normalize.{as_is, stands, Put, put, PutList, put_list, inclusion_rows, normalized}
 use Rattle.drafts.specs.Encoding.{file_bytes}
 use Rattle.drafts.specs.Conversion.{too_large}
@@ -28,7 +28,8 @@ use Rattle.drafts.specs.Sound.{Idle, Sound, Writable}
 use Rattle.drafts.proofs.PutLaws.{put-grown}
 use Rattle.drafts.proofs.SoundLaws.{put-sound}
 use Rattle.drafts.proofs.InclusionRowLaws.{inclusion_rows-sound}
-use Rattle.drafts.proofs.NeededLaws.{Reaches, itself, through, reaches-grown}
+use Rattle.drafts.specs.NeededLaws.{Reaches}
+use Rattle.drafts.proofs.NeededLaws.{itself, through, reaches-grown}
 use Rattle.drafts.proofs.MeaningLaws.{MeansRow, put-means}
 use Rattle.drafts.proofs.PutListLaws.{ListGrown, put_list-grown, put_list-sound}
 

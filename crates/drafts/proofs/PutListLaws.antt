@@ -16,7 +16,8 @@ use Rattle.drafts.specs.Normalize.{as_is, Put, stands, put, PutList, put_list}
 use Rattle.drafts.specs.Sound.{Idle, Sound}
 use Rattle.drafts.proofs.PutLaws.{put-grown}
 use Rattle.drafts.proofs.SoundLaws.{put-sound}
-use Rattle.drafts.proofs.NeededLaws.{Reaches, reaches-grown, put-reaches}
+use Rattle.drafts.specs.NeededLaws.{Reaches}
+use Rattle.drafts.proofs.NeededLaws.{reaches-grown, put-reaches}
 
 module _ (t : Table) (ordered : Ordered t) where
   pub record ListGrown (ks : List ℕ) (out : Table) (q : PutList) : Type 0 where

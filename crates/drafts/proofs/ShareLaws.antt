@@ -2,7 +2,7 @@
 --
 -- In order: rows with the same four bytes are equal; the first equal row (`place_of-at`, `place_of-nowhere`); what sharing a row gives (`Shared`, `share-gives`);
 -- a row that is shared once is found again as the table grows (`shared-settled`).
-use Rattle.std.specs.Prelude.{◌≡◌, refl, Bool, true, ◌&&◌, cond, [], ◌∷◌, ◌++◌, ◌⊎◌, ℕ, ◌+◌, ◌≤◌, ◌<◌, eqb, length}
+use Rattle.std.specs.Prelude.{◌≡◌, refl, Bool, true, ◌&&◌, cond, [], ◌∷◌, ◌++◌, ℕ, ◌+◌, ◌≤◌, ◌<◌, eqb, length}
 use Rattle.std.proofs.Common.{sym, ap, ◌∙◌, subst, inl, inr, eqb→eq, length-append, get_or-append-add}
 use Rattle.std.proofs.Math.Option.{Option, none, some}
 use native.Mathlib.Omega.{arith}
@@ -17,6 +17,7 @@ use Rattle.concepts.specs.Concept.{Concept, atomic, Table, concept_at, role_of}
 use Rattle.decoding.specs.RowParts.{kind_of, left_of, right_of}
 use Rattle.decoding.specs.RowPartLaws.{same_parts_lem}
 use Rattle.drafts.specs.Normalize.{same_row, place_of, Put, stands, share}
+use Rattle.drafts.specs.ShareLaws.{Shared}
 
 -- ---- rows with the same four bytes
 
@@ -69,17 +70,6 @@ module _ (c : Concept) (out : Table) where
   pub share-new : place_of c out ≡ none → share c out ≡ stands (out ++ c ∷ []) (length out)
   unfolding share
   share-new e = rw (e, share)
-
--- ---- what sharing a row gives
-
-pub record Shared (c : Concept) (out : Table) (p : Put) : Type 0 where
-  pub more : Begins out p.rows
-  pub inside : p.at < length p.rows
-  pub here : concept_at p.rows p.at ≡ c
-  -- no lower row is equal to it
-  pub least : NoneBelow (equal_at c p.rows) p.at
-  -- it is there already, or it is the only new row
-  pub which : (p.rows ≡ out) ⊎ ((p.rows ≡ out ++ c ∷ []) × (p.at ≡ length out) × NoneBelow (equal_at c out) (length out))
 
 pub concept_at-last : (c : Concept) (out : Table) → concept_at (out ++ c ∷ []) (length out) ≡ c
 concept_at-last c out =

@@ -10,7 +10,7 @@ use Rattle.decoding.specs.RowParts.{kind_of, left_of, right_of}
 use Rattle.rulefile.specs.Format.{bad_length, bad_mark, bad_counts, bad_place, bad_row, bad_argument, repeated, bad_rule, inclusion_at, inclusion_named}
 use Rattle.rulefile.specs.Format.{inclusion_serves, checks, refusal_for, reading_for}
 use Rattle.rulefile.specs.Format as Format
-use Rattle.run.proofs.KnownRuns.{written}
+use Rattle.run.specs.KnownRuns.{written}
 use Rattle.drafts.specs.Normalize.{shape, same_row, place_of, share, put_shape, put_below, put, put_list, inclusion_rows, normalized}
 use Rattle.drafts.specs.Encoding.{table_bytes, trailer, file_bytes}
 use Rattle.drafts.specs.Conversion.{Conversion, refused_with, too_large, written_or, conversion_of, conversion}

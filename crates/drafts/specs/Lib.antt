@@ -8,3 +8,5 @@ pub mod Sound
 pub mod ShapeLaws
 pub mod ShapeMeaning
 pub mod KnownConversions
+pub mod NeededLaws
+pub mod ShareLaws

@@ -13,7 +13,7 @@ use Rattle.words.specs.Words.{le_at, overwrite}
 use Rattle.words.specs.Sizes.{set_size}
 use Rattle.listing.specs.Layout.{link_at}
 use Rattle.run.specs.Run.{Lengths, Numbers}
-use Rattle.run.proofs.RunLaws.{Room}
+use Rattle.run.specs.RunLaws.{Room}
 use Rattle.run.specs.Printed.{ascii, digit, hexadecimal, decimal, spaced, line, element_line, link_line, element_lines}
 use Rattle.run.specs.Printed.{link_lines, used_line, refusal_counts, refused_line}
 use Rattle.run.specs.Printed.{can_lines, cannot_lines, printed}

@@ -7,7 +7,8 @@ use Rattle.std.proofs.Math.Path.{ap₂}
 use Rattle.concepts.specs.Lists.{Bytes}
 use Rattle.rulefile.specs.Format.{wanted_rows}
 use Rattle.run.specs.Run.{Areas, Lengths, lengths, Numbers}
-use Rattle.run.proofs.RunLaws.{Room, answer-room}
+use Rattle.run.specs.RunLaws.{Room}
+use Rattle.run.proofs.RunLaws.{answer-room}
 use Rattle.run.specs.Promise.{Promise}
 use Rattle.run.specs.Printed.{printed}
 use Rattle.run.specs.Program.{program_areas, program_text}

@@ -16,7 +16,8 @@ use Rattle.meaning.proofs.MeaningLaws.{holds_as}
 use Rattle.decoding.specs.Decoding.{rule_kinds}
 use Rattle.rulefile.specs.Format.{wanted_rows, RuleFile, accepted, reading, reading_for}
 use Rattle.rulefile.proofs.FormatLaws.{accepted-admitted}
-use Rattle.rulefile.proofs.WantedLaws.{wanting, reading-wanting}
+use Rattle.rulefile.specs.WantedLaws.{wanting}
+use Rattle.rulefile.proofs.WantedLaws.{reading-wanting}
 use Rattle.procedure.specs.Graph.{Area, room_for, FindsNoPlace}
 use Rattle.procedure.specs.Example.{Example, world_of}
 use Rattle.run.specs.Run.{Lengths, capacity, Answer, refused_file, short, cannot, can, too_long, undefined, answer_for, answer_result}

@@ -8,7 +8,7 @@ use Prim.Native.Nat.{ℕ}
 use native.Mathlib.Omega.{arith}
 use Rattle.concepts.specs.Lists.{Bytes}
 use Rattle.rulefile.specs.Format.{RuleFile, accepted, reading}
-use Rattle.rulefile.proofs.WantedLaws.{wanting}
+use Rattle.rulefile.specs.WantedLaws.{wanting}
 use Rattle.procedure.specs.Graph.{Area}
 use Rattle.run.specs.Run.{Lengths, Answer, refused_file, short, cannot, can, too_long, undefined, answer_for, numbers}
 use Rattle.run.specs.Promise.{SaysShort}
