@@ -11,8 +11,8 @@ import sys
 
 ROOT = pathlib.Path(__file__).resolve().parent.parent
 ASKED = {"report": {"answers"}}
-LISTED = re.compile(r"^(\w+):(.*)$", re.MULTILINE)
-IN_PROOFS = re.compile(r"Rattle·([a-z_]+)")
+LISTED = re.compile(r"^(\w+)(?: staticlib)?:(.*)$", re.MULTILINE)
+IN_PROOFS = re.compile(r"\bRattle\.([a-z_]+)\.")
 IN_CODE = re.compile(r"\b([a-z_]+)::")
 COMMENT = re.compile(r"^\s*(//|--).*$", re.MULTILINE)
 
