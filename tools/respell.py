@@ -12,7 +12,7 @@ import os
 import re
 import subprocess
 
-WORD = re.compile(r"(?<![A-Za-z0-9_])[a-z][a-z0-9]*(?:[A-Z][a-z0-9]*)+")
+WORD = re.compile(r"(?<![A-Za-z0-9])[a-z][a-z0-9]*(?:[A-Z][a-z0-9]*)+")
 STRING = re.compile(r"b?\"(?:[^\"\\]|\\.)*\"|b?'(?:[^'\\]|\\.)'")
 QUOTED = re.compile(r"\"(?:[^\"\\\n]|\\.)*\"")
 

@@ -1,4 +1,4 @@
--- A catalogue: what its functions give (Contracts), the ways through them, and what the listed names give to whoever fills their table.
+-- A catalogue: what its functions give (Clauses), the ways through them, and what the listed names give to whoever fills their table.
 pub mod Clauses
 pub mod NameCases
 pub mod EntryCases

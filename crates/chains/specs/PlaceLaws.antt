@@ -6,11 +6,10 @@ use Rattle.std.proofs.Common.{sym, subst, ◌∙◌, inl, inr, arith}
 use Rattle.concepts.specs.Lists.{Bytes}
 use Rattle.words.specs.Words.{put_le}
 use Rattle.words.specs.Sizes.{node_size, most_records}
-use Rattle.records.specs.Areas.{Fits, field, Within, Beside}
+use Rattle.records.specs.Areas.{Fits, Within, Beside}
 use Rattle.records.specs.AreaLaws.{fits-before, within-put, within-beside, within_wider, within-then, beside-then, field_put}
-use Rattle.chains.specs.Chain.{Chain, Joined}
 use Rattle.chains.specs.ChainLaws.{chain_same, chain-key, chain-joined}
-use Rattle.chains.specs.Places.{number, key_in, next_in, first_in, last_in, ChainIn, Sits, Appended, Unused, Begun, Has}
+use Rattle.chains.specs.Places.{key_in, next_in, last_in, ChainIn, Sits, Appended, Unused, Begun, Has}
 use Rattle.chains.specs.declared.Places.{Places}
 
 -- ---- a record appended, as the code writes it

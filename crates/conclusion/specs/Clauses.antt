@@ -3,7 +3,7 @@
 -- In order: a decision and the answer that it stands for; what is left in the example areas; the verdict of a run; the example; the decision.
 use Rattle.std.specs.Prelude.{◌≡◌, Bool, true, false, List, ℕ, ◌≤◌, length}
 use Rattle.concepts.specs.Lists.{Bytes}
-use Rattle.procedure.specs.Graph.{Capacity, reached, FindsNoPlace, node_at}
+use Rattle.procedure.specs.Graph.{reached, FindsNoPlace, node_at}
 use Rattle.procedure.specs.Tableau.{run}
 use Rattle.procedure.specs.Example.{Example}
 use Rattle.words.specs.Sizes.{most_records}

@@ -1,4 +1,4 @@
--- What a run decides: verdicts, decisions and what each function gives (Contracts), the cases of each function.
+-- What a run decides: verdicts, decisions and what each function gives (Clauses), the cases of each function.
 pub mod Clauses
 pub mod VerdictCases
 pub mod ShowCases

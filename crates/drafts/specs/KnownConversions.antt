@@ -14,7 +14,6 @@ use Rattle.run.specs.KnownRuns.{written}
 use Rattle.drafts.specs.Normalize.{shape, same_row, place_of, share, put_shape, put_below, put, put_list, inclusion_rows, normalized}
 use Rattle.drafts.specs.Encoding.{table_bytes, trailer, file_bytes}
 use Rattle.drafts.specs.Conversion.{Conversion, refused_with, too_large, written_or, conversion_of, conversion}
-use Rattle.drafts.specs.Conversion as Conversion
 
 pub record KnownConversion : Type 0 where
   pub draft : Bytes

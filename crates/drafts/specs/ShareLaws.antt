@@ -1,7 +1,7 @@
 -- Laws of sharing equal rows.
 --
 -- In order: rows with the same four bytes are equal; the first equal row (`place_of-at`, `place_of-nowhere`); what sharing a row gives (`Shared`, `share-gives`);
--- a row that is shared once is found again as the table grows (`share-settled`).
+-- a row that is shared once is found again as the table grows (`shared-settled`).
 use Rattle.std.specs.Prelude.{◌≡◌, refl, Bool, true, ◌&&◌, cond, [], ◌∷◌, ◌++◌, ◌⊎◌, ℕ, ◌+◌, ◌≤◌, ◌<◌, eqb, length}
 use Rattle.std.proofs.Common.{sym, ap, ◌∙◌, subst, inl, inr, eqb→eq, length-append, get_or-append-add}
 use Rattle.std.proofs.Math.Option.{Option, none, some}

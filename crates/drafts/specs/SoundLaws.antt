@@ -2,7 +2,7 @@
 --
 -- In order: rows that others can name; one row more (`snoc-cases`, `share-sound`); a row with all that it needs (`put-sound`), whose place is no
 -- inclusion either.
-use Rattle.std.specs.Prelude.{◌≡◌, refl, false, not, ℕ, ◌+◌, ◌<◌, T, length}
+use Rattle.std.specs.Prelude.{◌≡◌, refl, false, not, ℕ, ◌<◌, T, length}
 use Rattle.std.proofs.Common.{sym, ◌∙◌, subst, inl, inr, arith, length-append}
 use mathlib.Core.List.Memᴰ
 use mathlib.Core.List.{List, [], ◌∷◌, ◌++◌, Memᴰ}

@@ -1,4 +1,4 @@
--- The engine's call: what its functions give (Contracts), and the answer (AnswerCases); runs with no example, their laws, and what they say (AskingCases).
+-- The engine's call: what its functions give (Clauses), and the answer (AnswerCases); runs with no example, their laws, and what they say (AskingCases).
 pub mod Clauses
 pub mod AnswerCases
 pub mod Asking

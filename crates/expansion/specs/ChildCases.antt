@@ -21,7 +21,6 @@ use Rattle.records.specs.declared.Node as D
 use Rattle.rowset.specs.SetOf.{set_of}
 use Rattle.settests.specs.Answers.{found_of}
 use Rattle.settests.specs.declared.Found.{Found}
-use Rattle.settests.specs.declared.Found.TheVariants as Found
 use Rattle.graph.specs.Graphs.{Work, work, graph_of, capacity_of, Operation, Refines}
 use Rattle.graph.specs.GraphLaws.{sized-refl}
 use Rattle.graph.specs.RefineLaws.{refines-as, refines-then, refines-short}

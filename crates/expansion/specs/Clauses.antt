@@ -1,11 +1,10 @@
 -- What the expansion of a node relies on, and what it gives. Words, areas and counts as in the tableau's contracts.
 --
 -- In order: the node that is expanded; one with no unfinished conjunction; a state; the children, by the definition's functions; the whole expansion.
-use Rattle.std.specs.Prelude.{◌≡◌, List, ℕ, ◌<◌}
+use Rattle.std.specs.Prelude.{◌≡◌, List, ℕ}
 use Rattle.std.proofs.Math.Option.{none}
-use Rattle.procedure.specs.Status.{unset}
 use Rattle.procedure.specs.SetTests.{lowest_conj, lowest_disj}
-use Rattle.procedure.specs.Graph.{node_at, node_count}
+use Rattle.procedure.specs.Graph.{node_at}
 use Rattle.procedure.specs.Tableau.{put_kit, put_successors, expand_state, expand_disj, expand_conj, expand}
 use Rattle.procedure.proofs.ExpandFit.{Expands}
 use Rattle.problem.specs.Decoded.{table_of, problem_of, Decoded}

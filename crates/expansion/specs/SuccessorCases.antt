@@ -18,7 +18,6 @@ use Rattle.rowset.specs.SetOf.{set_of}
 use Rattle.settests.specs.Answers.{exists_from, NextExist}
 use Rattle.settests.specs.ExistLaws.{exists_from-all}
 use Rattle.settests.specs.declared.Exist.{Exist}
-use Rattle.settests.specs.declared.Exist.TheVariants as Exist
 use Rattle.graph.specs.Graphs.{Work, graph_of, Refines}
 use Rattle.graph.specs.RefineLaws.{refines-as, Course, course-start, course-next, course-short, course-end}
 use Rattle.graph.specs.declared.Counts.{Counts}

@@ -14,7 +14,6 @@ use Rattle.drafts.specs.Normalize.{Sign, stands, share, put, PutList, put_list, 
 use Rattle.normalize.specs.declared.Placement.{Placement}
 use Rattle.normalize.specs.declared.Placement.TheVariants.{At, Full}
 use Rattle.normalize.specs.declared.Listed.{Listed}
-use Rattle.normalize.specs.declared.Listed.TheVariants as Listed
 use Rattle.normalize.specs.Words.{Own, row_in, rows_in, Held}
 use Rattle.normalize.specs.Shapes.{table_of, slots, no_place, slot_of}
 

@@ -2,13 +2,13 @@
 --
 -- In order: the set of a node (`SetAt`); states other than the root; the sets of a graph (`States`); a graph whose nodes keep their sets;
 -- a node more.
-use mathlib.Core.Path.{◌≡◌, sym, ap, ◌∙◌, subst}
-use mathlib.Core.Bool.{Bool, true, false, not}
+use mathlib.Core.Path.{◌≡◌, sym, ap, ◌∙◌}
+use mathlib.Core.Bool.{true, not}
 use mathlib.Core.Logic.{◌⊎◌, inl, inr, ◌≢◌}
 use Prim.Native.Nat.{ℕ, ◌<◌}
 use native.Mathlib.Omega.{arith}
 use lib.Dec.{T}
-use Rattle.concepts.specs.RowSet.{RowSet, Subset}
+use Rattle.concepts.specs.RowSet.{Subset}
 use Rattle.procedure.specs.Problem.{Problem}
 use Rattle.procedure.specs.SetTests.{clash, unfinished}
 use Rattle.procedure.specs.Graph.{Node, Graph, append_node, node_at, node_count}

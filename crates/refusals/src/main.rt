@@ -3,8 +3,9 @@
 #![tactic(auto)]
 
 use decoding::RULE_KINDS;
-use libc::{STDIN_FILENO, STDOUT_FILENO};
 use reader::Outcome;
+use std::io;
+use std::io::{ErrorKind, Read};
 
 // Room for one file, above the 4,096 bytes that may pass.
 const ROOM: usize = 8192;
@@ -20,35 +21,27 @@ fn wide(byte: u8) -> u16 {
 // The sum of some bytes, modulo 65,536.
 fn sum(bytes: &[u8]) -> u16 {
     let mut total: u16 = 0;
-    let mut i = 0;
-    while i < bytes.len() {
-        total = std::num::wrapping_add_u16(total, wide(bytes[i]));
-        i += 1;
+    for byte in bytes {
+        total = total.wrapping_add(wide(*byte));
     }
     total
 }
 
 // Writes the refusal of one file, or that it is accepted.
-fn show_refusal(file: &[u8]) {
+fn show_refusal(rt: &impl Print, file: &[u8]) -> io::Result<()> {
     match reader::read(file, RULE_KINDS) {
-        Outcome::Refused(n) => {
-            io::print_decimal(STDOUT_FILENO, n as u64);
-        }
-        Outcome::Accepted(_) => {
-            io::write_all(STDOUT_FILENO, b"ok");
-        }
+        Outcome::Refused(n) => print!(rt; "{n}"),
+        Outcome::Accepted(_) => print!(rt; "ok"),
     }
 }
 
 // Writes the line of one file.
-fn answer(file: &[u8]) {
-    show_refusal(file);
+fn answer(rt: &impl Print, file: &[u8]) -> io::Result<()> {
+    show_refusal(rt, file)?;
     let text = reader::text(file, RULE_KINDS);
-    io::write_all(STDOUT_FILENO, b" ");
-    io::print_decimal(STDOUT_FILENO, text.len() as u64);
-    io::write_all(STDOUT_FILENO, b" ");
-    io::print_decimal(STDOUT_FILENO, sum(text) as u64);
-    io::write_all(STDOUT_FILENO, b"\n");
+    let length = text.len();
+    let total = sum(text);
+    println!(rt; " {length} {total}")
 }
 
 // A number of two bytes.
@@ -56,35 +49,44 @@ fn number(low: u8, high: u8) -> usize {
     low as usize + 256 * high as usize
 }
 
-// Reads a file as long as the slice and writes its line; false where the input ends before.
-fn one_file(file: &mut [u8]) -> bool {
-    if io::read_full(STDIN_FILENO, file) < file.len() {
-        return false;
+// Fills the room with the next bytes of the input; false where the input ends before.
+fn fill(input: &mut impl Read, room: &mut [u8]) -> io::Result<bool> {
+    match input.read_exact(room) {
+        Ok(()) => Ok(true),
+        Err(e) if e.kind() == ErrorKind::UnexpectedEof => Ok(false),
+        Err(e) => Err(e),
     }
-    answer(file);
-    true
+}
+
+// Reads a file as long as the slice and writes its line; false where the input ends before.
+fn one_file(rt: &impl Print, input: &mut impl Read, file: &mut [u8]) -> io::Result<bool> {
+    if !fill(input, file)? {
+        return Ok(false);
+    }
+    answer(rt, file)?;
+    Ok(true)
 }
 
 // Reads one case and writes its line; false at the end of the input, or where a file has no room.
-fn one_case() -> bool {
+fn one_case(rt: &impl Print, input: &mut impl Read) -> io::Result<bool> {
     let mut length = [0u8; 2];
-    if io::read_full(STDIN_FILENO, &mut length) < 2 {
-        return false;
+    if !fill(input, &mut length)? {
+        return Ok(false);
     }
     let n = number(length[0], length[1]);
     if ROOM < n {
-        return false;
+        return Ok(false);
     }
     let mut room = [0u8; ROOM];
-    one_file(&mut room[..n])
+    one_file(rt, input, &mut room[..n])
 }
 
-fn main() {
-    let mut left = MOST_CASES;
-    while 0 < left {
-        if !one_case() {
-            return;
+fn main(rt: HostRuntime) -> io::Result<()> {
+    let mut input = rt.stdin();
+    for _ in 0..MOST_CASES {
+        if !one_case(&rt, &mut input)? {
+            break;
         }
-        left -= 1;
     }
+    Ok(())
 }

@@ -15,7 +15,7 @@ use Rattle.procedure.specs.Graph.{Node, Graph, Capacity, Result, reached, ◌>>=
 use Rattle.procedure.specs.GraphLaws.{lowest_unset-some}
 use Rattle.procedure.specs.Tableau.{expand, loop_within}
 use Rattle.procedure.specs.TableauLaws.{bind-reached, short-bind, short-as, loop-settled, loop-done, loop-round}
-use Rattle.procedure.proofs.Measure.{count-le, with_aStatus}
+use Rattle.procedure.proofs.Measure.{count-le, with_a_status}
 use Rattle.procedure.proofs.ExpandFit.{Still, Expands, still_after, status-stays}
 use Rattle.words.specs.Sizes.{node_size}
 use Rattle.problem.specs.Decoded.{problem_of}
@@ -36,7 +36,7 @@ use Rattle.expansion.specs.Clauses.{ExpandAsks, ExpandGives}
 use Rattle.rounds.specs.Clauses.{RoundsAsks, all_rounds, RoundsGives}
 
 -- there are no more nodes with a status than places
-statuses-fit : (P : Problem) (c : Capacity) (g : Graph) → Still P c g → with_aStatus g ≤ c.node_room
+statuses-fit : (P : Problem) (c : Capacity) (g : Graph) → Still P c g → with_a_status g ≤ c.node_room
 statuses-fit P c g A = omega (arith, A.inv.fits, count-le (λ n. not (is_unset n.status)) g.nodes)
 
 -- the root, as it was loaded, is live or not
@@ -57,7 +57,7 @@ pub record RoundsDone (ws : List ℕ) (w : Work) (c : Counts) (w' : Work) (d : C
   pub place : from ≤ d.nodes
   pub passed : NoneBelow (is_unset_at w'.nodes) from
   pub still : Still (problem_of ws) (capacity_of w) (graph_of w' d)
-  pub rest : (f : ℕ) × (room_of node_size w.nodes < with_aStatus (graph_of w' d) + f)
+  pub rest : (f : ℕ) × (room_of node_size w.nodes < with_a_status (graph_of w' d) + f)
       × (loop_within (problem_of ws) (capacity_of w) f (graph_of w' d) ≡ all_rounds ws (capacity_of w) (graph_of w c))
 
 pub turn-start : {ws : List ℕ} {w : Work} {c : Counts} → RoundsAsks ws w c → RoundsDone ws w c w c 0
@@ -108,11 +108,11 @@ module _ {ws : List ℕ} {w : Work} {c : Counts} {n' e' a' : Bytes} {d : Counts}
   turn-seeks = (T.held.nodes, T.place, T.passed)
 
   -- fuel is left
-  fueled : (f : ℕ) × (cap.node_room < with_aStatus h + suc f) × (loop (suc f) h ≡ all_rounds ws cap g)
+  fueled : (f : ℕ) × (cap.node_room < with_a_status h + suc f) × (loop (suc f) h ≡ all_rounds ws cap g)
   fueled = go T.rest.0 T.rest.1 T.rest.2
     where
-      go : (f : ℕ) → cap.node_room < with_aStatus h + f → loop f h ≡ all_rounds ws cap g
-          → (f : ℕ) × (cap.node_room < with_aStatus h + suc f) × (loop (suc f) h ≡ all_rounds ws cap g)
+      go : (f : ℕ) → cap.node_room < with_a_status h + f → loop f h ≡ all_rounds ws cap g
+          → (f : ℕ) × (cap.node_room < with_a_status h + suc f) × (loop (suc f) h ≡ all_rounds ws cap g)
       go zero few q = absurd (omega (arith, few, statuses-fit P cap h T.still))
       go (suc f) few q = (f, few, q)
 
@@ -182,11 +182,11 @@ module _ {ws : List ℕ} {w : Work} {c : Counts} {n' e' a' : Bytes} {d : Counts}
       expanded : reached (graph_of w'' d₂) ≡ expand (P T) (cap T) x (h T)
       expanded = (refines-answer G er).meets ∙ same-places
 
-      after : Still (P T) (cap T) (graph_of w'' d₂) × (with_aStatus (h T) < with_aStatus (graph_of w'' d₂))
+      after : Still (P T) (cap T) (graph_of w'' d₂) × (with_a_status (h T) < with_a_status (graph_of w'' d₂))
       after = still_after expands (graph_of w'' d₂) (sym expanded)
 
       -- one node more has a status
-      pub turn-less : room_of node_size w.nodes - with_aStatus (graph_of w'' d₂) < room_of node_size w.nodes - with_aStatus (graph_of (work n' e' a') d)
+      pub turn-less : room_of node_size w.nodes - with_a_status (graph_of w'' d₂) < room_of node_size w.nodes - with_a_status (graph_of (work n' e' a') d)
       turn-less = omega (arith, after.1, statuses-fit (P T) (cap T) (graph_of w'' d₂) after.0)
 
       -- nodes never lose a status, so those below x have one still

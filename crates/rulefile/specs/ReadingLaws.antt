@@ -1,5 +1,5 @@
 -- Laws of a reading: the text as a leading part of the file; a file that is too short; files without an inclusion.
-use Rattle.std.specs.Prelude.{◌≡◌, refl, Bool, true, false, eqb, ltb, length, take}
+use Rattle.std.specs.Prelude.{◌≡◌, refl, Bool, false, eqb, ltb, length, take}
 use Rattle.std.proofs.Common.{sym, ap, ◌∙◌, arith, lt→ltb, lt-ltb}
 use Rattle.std.proofs.Math.Path.{ap₂}
 use Rattle.std.proofs.Math.Bool.{◌||◌}

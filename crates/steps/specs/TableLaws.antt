@@ -19,7 +19,6 @@ use Rattle.graph.specs.declared.Counts.{Counts}
 use Rattle.records.specs.declared.Status.{Status}
 use Rattle.records.specs.declared.Status.TheVariants.{Unset}
 use Rattle.graph.specs.declared.Next.{Next}
-use Rattle.graph.specs.declared.Next.TheVariants as Next
 use Rattle.steps.specs.Tables.{Judges, JudgesAs, ends_from, statuses_from}
 
 -- ---- an entry of a table

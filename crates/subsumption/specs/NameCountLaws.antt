@@ -7,7 +7,6 @@ use Rattle.std.proofs.Math.Path.{refl}
 use mathlib.Core.List.Memᴰ
 use mathlib.Core.List.{List, [], ◌∷◌, Memᴰ}
 use Rattle.std.proofs.Math.Logic.{inl, inr}
-use Rattle.std.proofs.Math.Option.{none}
 use Rattle.std.proofs.Common.{arith}
 use Rattle.concepts.specs.Tests.{impossible}
 use Rattle.concepts.specs.Lists.{range, select}

@@ -15,7 +15,6 @@ use Rattle.graph.specs.declared.Counts.{Counts}
 use Rattle.graph.specs.declared.Step.{Step}
 use Rattle.graph.specs.declared.Step.TheVariants.{Done, Full}
 use Rattle.updates.specs.declared.Rejudged.{Rejudged}
-use Rattle.updates.specs.declared.Rejudged.TheVariants as Rejudged
 
 -- ---- what is asked
 

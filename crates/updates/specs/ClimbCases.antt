@@ -9,12 +9,10 @@ use Rattle.graph.specs.Graphs.{Work, work}
 use Rattle.graph.specs.GraphLaws.{held-most}
 use Rattle.graph.specs.declared.Counts.{Counts}
 use Rattle.graph.specs.declared.Next.{Next}
-use Rattle.graph.specs.declared.Next.TheVariants as Next
 use Rattle.graph.specs.declared.Area.{Area}
 use Rattle.graph.specs.declared.Step.{Step}
 use Rattle.graph.specs.declared.Step.TheVariants.{Done, Full}
 use Rattle.updates.specs.declared.Rejudged.{Rejudged}
-use Rattle.updates.specs.declared.Rejudged.TheVariants as Rejudged
 use Rattle.updates.specs.Clauses.{UpdateAsks, unsettled, UpdateGives, ParentsGives, Later, Settles, RejudgedTo, RejudgeGives}
 use Rattle.updates.specs.LaterLaws.{later_refl, later_trans, later-unsettled, update-later}
 use Rattle.updates.specs.ParentCases.{Tells, TellsNone, ParentsTurn, ParentFound, turn-start, turn_end, turn-asks, turn-less, turn-short, turn-updated}

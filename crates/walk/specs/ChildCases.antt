@@ -23,7 +23,6 @@ use Rattle.graph.specs.GraphLaws.{count-nodes, graph-node, held-node, held-most}
 use Rattle.graph.specs.SearchLaws.{children-all}
 use Rattle.graph.specs.declared.Counts.{Counts}
 use Rattle.graph.specs.declared.Next.{Next}
-use Rattle.graph.specs.declared.Next.TheVariants as Next
 use Rattle.graph.specs.declared.FoundNode.{FoundNode}
 use Rattle.graph.specs.declared.FoundNode.TheVariants as Found
 use Rattle.walk.specs.Clauses.{nodes_edges, StatusAt, asked, state_of, ChildAsks, DescendAsks, DescendGives}

@@ -13,7 +13,7 @@ use Rattle.procedure.proofs.Way.{Way}
 use Rattle.words.specs.Sizes.{node_size}
 use Rattle.problem.specs.Decoded.{table_of, problem_of, Decoded}
 use Rattle.records.specs.Areas.{room_of, records_in}
-use Rattle.graph.specs.Graphs.{Work, work, graph_of, Held, EdgesHeld}
+use Rattle.graph.specs.Graphs.{Work, work, graph_of, EdgesHeld}
 use Rattle.graph.specs.declared.Counts.{Counts}
 use Rattle.marks.specs.Marks.{NodesMarked, EdgesMarked, number_in, state_in, role_link_in, example_held}
 use Rattle.marks.specs.declared.Sizes.{Sizes}

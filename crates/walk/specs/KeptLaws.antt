@@ -23,7 +23,6 @@ use Rattle.graph.specs.Graphs.{Work, graph_of, Held, EdgesHeld, WithEdges, child
 use Rattle.graph.specs.GraphLaws.{grown-refl, held-nodes, held-edges, graph-set}
 use Rattle.graph.specs.declared.Counts.{Counts}
 use Rattle.graph.specs.declared.Next.{Next}
-use Rattle.graph.specs.declared.Next.TheVariants as Next
 use Rattle.walk.specs.Clauses.{beside, Kept}
 
 -- ---- areas that differ by marks alone

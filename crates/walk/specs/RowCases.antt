@@ -24,7 +24,6 @@ use Rattle.problem.specs.DecodedLaws.{length-table_of}
 use Rattle.settests.specs.Answers.{exists_from, NextExist}
 use Rattle.settests.specs.ExistLaws.{exists_from-all}
 use Rattle.settests.specs.declared.Exist.{Exist}
-use Rattle.settests.specs.declared.Exist.TheVariants as Exist
 use Rattle.records.specs.Areas.{Fits}
 use Rattle.records.specs.AreaLaws.{length-records}
 use Rattle.graph.specs.Graphs.{Work, graph_of, children_from, AmongChildren, Walks, EdgesHeld}
@@ -32,7 +31,6 @@ use Rattle.graph.specs.GraphLaws.{held-set, held-most}
 use Rattle.graph.specs.SearchLaws.{children-all}
 use Rattle.graph.specs.declared.Counts.{Counts}
 use Rattle.graph.specs.declared.Next.{Next}
-use Rattle.graph.specs.declared.Next.TheVariants as Next
 use Rattle.marks.specs.Marks.{state_in, role_link_in}
 use Rattle.marks.specs.declared.Sizes.{Sizes}
 use Rattle.walk.specs.Clauses.{Kept, DescendAsks, DescendGives, walk_in, Numbered, MeetAsks, MeetGives, element_rows, RowsAsks, RowsGives}

@@ -12,7 +12,7 @@ ghost use Rattle.words.specs.Sizes.{node_size};
 ghost use Rattle.records.specs.Areas.{room_of};
 ghost use Rattle.records.specs.Codes.{status_of, link_of};
 ghost use Rattle.graph.specs.Graphs.{graph_of, found_of};
-ghost use Rattle.walk.specs.Clauses as Contracts;
+ghost use Rattle.walk.specs.Clauses;
 ghost use Rattle.walk.specs.Clauses.{nodes_edges};
 
 use graph::{Counts, FoundNode, Next, next_child};
@@ -38,7 +38,7 @@ fn is_sat(s: Status) -> bool
 
 // Whether a status is the one looked for: yes, or else open.
 fn is_asked(s: Status, sat: bool) -> bool
-    ensures { result ≡ Contracts.asked sat (status_of s) }
+    ensures { result ≡ Clauses.asked sat (status_of s) }
 {
     if sat {
         return is_sat(s);
@@ -49,7 +49,7 @@ fn is_asked(s: Status, sat: bool) -> bool
 // The status of node y; none if there is no such node.
 fn status_at(nodes: &[u8], c: Counts, y: u16) -> Status
     requires { c.nodes ≤ room_of node_size nodes.now }
-    ensures { Contracts.StatusAt nodes.now c y (status_of result) }
+    ensures { Clauses.StatusAt nodes.now c y (status_of result) }
 {
     let x = y as usize;
     if x < c.nodes as usize {
@@ -60,8 +60,8 @@ fn status_at(nodes: &[u8], c: Counts, y: u16) -> Status
 
 // The first child of x that has the status looked for.
 fn first_child(nodes: &[u8], edges: &[u8], c: Counts, x: u16, sat: bool) -> FoundNode
-    requires { Contracts.ChildAsks (nodes_edges nodes.now edges.now) c x }
-    ensures { found_of result ≡ Example.first_child (Contracts.asked sat) (graph_of (nodes_edges nodes.now edges.now) c) x }
+    requires { Clauses.ChildAsks (nodes_edges nodes.now edges.now) c x }
+    ensures { found_of result ≡ Example.first_child (Clauses.asked sat) (graph_of (nodes_edges nodes.now edges.now) c) x }
 {
     let mut i: usize = 0;
     loop {
@@ -77,7 +77,7 @@ fn first_child(nodes: &[u8], edges: &[u8], c: Counts, x: u16, sat: bool) -> Foun
 
 // "The first child that is yes, else the first open".
 fn live_child(nodes: &[u8], edges: &[u8], c: Counts, x: u16) -> FoundNode
-    requires { Contracts.ChildAsks (nodes_edges nodes.now edges.now) c x }
+    requires { Clauses.ChildAsks (nodes_edges nodes.now edges.now) c x }
     ensures { found_of result ≡ Example.live_child (graph_of (nodes_edges nodes.now edges.now) c) x }
 {
     match first_child(nodes, edges, c, x, true) {
@@ -88,7 +88,7 @@ fn live_child(nodes: &[u8], edges: &[u8], c: Counts, x: u16) -> FoundNode
 
 // The state to which a link leads, if it does.
 fn linked_state(link: Link) -> FoundNode
-    ensures { found_of result ≡ Contracts.state_of (link_of link) }
+    ensures { found_of result ≡ Clauses.state_of (link_of link) }
 {
     match link {
         Link::State(y) => FoundNode::At(y),
@@ -99,8 +99,8 @@ fn linked_state(link: Link) -> FoundNode
 
 // The state to which the way down from node `from` leads. The nodes on the way rise.
 fn descend(nodes: &[u8], edges: &[u8], c: Counts, from: u16) -> u16
-    requires { Contracts.DescendAsks (nodes_edges nodes.now edges.now) c from }
-    ensures { Contracts.DescendGives (nodes_edges nodes.now edges.now) c from result }
+    requires { Clauses.DescendAsks (nodes_edges nodes.now edges.now) c from }
+    ensures { Clauses.DescendGives (nodes_edges nodes.now edges.now) c from result }
 {
     let mut x = from;
     loop {
@@ -116,8 +116,8 @@ fn descend(nodes: &[u8], edges: &[u8], c: Counts, from: u16) -> u16
 
 // Meets state y from element d along the role: "a state met first gets the next number, and one link is written".
 fn meet(nodes: &mut [u8], edges: &mut [u8], c: Counts, s: Sizes, d: u16, role: u8, y: u16) -> Sizes
-    requires { Contracts.MeetAsks (nodes_edges nodes.old edges.old) c s d role y }
-    ensures { Contracts.MeetGives (nodes_edges nodes.old edges.old) c s d role y result
+    requires { Clauses.MeetAsks (nodes_edges nodes.old edges.old) c s d role y }
+    ensures { Clauses.MeetGives (nodes_edges nodes.old edges.old) c s d role y result
         (nodes_edges nodes.new edges.new) }
 {
     let number = load_number(nodes, y as usize);
@@ -158,8 +158,8 @@ fn walk_rows(
     s: Sizes,
     d: u16,
 ) -> Sizes
-    requires { Contracts.RowsAsks problem.now (nodes_edges nodes.old edges.old) c s d }
-    ensures { Contracts.RowsGives problem.now (nodes_edges nodes.old edges.old) c s d result
+    requires { Clauses.RowsAsks problem.now (nodes_edges nodes.old edges.old) c s d }
+    ensures { Clauses.RowsGives problem.now (nodes_edges nodes.old edges.old) c s d result
         (nodes_edges nodes.new edges.new) }
 {
     let x = load_state(nodes, d as usize);
@@ -188,8 +188,8 @@ fn walk_rows(
 
 // Begins the walk with state y as element 0.
 fn start(nodes: &mut [u8], c: Counts, y: u16) -> Sizes
-    requires { Contracts.StartAsks nodes.old c y }
-    ensures { Contracts.StartGives nodes.old c y result nodes.new }
+    requires { Clauses.StartAsks nodes.old c y }
+    ensures { Clauses.StartGives nodes.old c y result nodes.new }
 {
     clear_numbers(nodes, c);
     store_number(nodes, y as usize, 1);
@@ -202,8 +202,8 @@ fn start(nodes: &mut [u8], c: Counts, y: u16) -> Sizes
 
 // Walks the example, and keeps it in the marks.
 pub fn walk(problem: &[u64], nodes: &mut [u8], edges: &mut [u8], c: Counts) -> Sizes
-    requires { Contracts.WalkAsks problem.now (nodes_edges nodes.old edges.old) c }
-    ensures { Contracts.WalkGives problem.now (nodes_edges nodes.old edges.old) c result
+    requires { Clauses.WalkAsks problem.now (nodes_edges nodes.old edges.old) c }
+    ensures { Clauses.WalkGives problem.now (nodes_edges nodes.old edges.old) c result
         (nodes_edges nodes.new edges.new) }
 {
     let first = descend(nodes, edges, c, 0);

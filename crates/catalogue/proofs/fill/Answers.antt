@@ -1,4 +1,3 @@
-use Prim.Native.Nat.{◌-◌}
 use native.Mathlib.Omega.{arith}
 use Rattle.catalogue.specs.FillCases.{fill_none, table-size, row-start, row-start-small, fill-asks, fill_more, fill-all}
 use Rattle.catalogue.proofs.fill.Goals as goal

@@ -1,4 +1,3 @@
-use Prim.Native.Nat.{◌-◌}
 use native.Mathlib.Omega.{arith}
 use Rattle.catalogue.specs.FillCases.{row-none, row-size, row-asks, row_more, row-all}
 use Rattle.catalogue.proofs.fill_row.Goals as goal

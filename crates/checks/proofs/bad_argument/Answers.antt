@@ -1,4 +1,4 @@
--- `rulefile::bad_argument` meets its contract: the rows that row k names are the arguments of its concept.
+-- `checks::bad_argument` meets its contract: the rows that row k names are the arguments of its concept.
 use mathlib.Core.Path.{sym, ap, ◌∙◌}
 use lib.Dec.{leb}
 use Rattle.concepts.specs.Lists.{any}

@@ -1,4 +1,4 @@
--- `rulefile::bad_counts` meets its contract: the numbers that it reads are those of the definition.
+-- `checks::bad_counts` meets its contract: the numbers that it reads are those of the definition.
 use Rattle.rulefile.specs.Format.{bad_counts}
 use Rattle.checks.proofs.bad_counts.Goals as goal
 

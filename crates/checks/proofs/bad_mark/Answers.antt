@@ -1,4 +1,4 @@
--- `rulefile::bad_mark` meets its contract: the bytes that it reads are those of the definition.
+-- `checks::bad_mark` meets its contract: the bytes that it reads are those of the definition.
 use Rattle.rulefile.specs.Format.{bad_mark}
 use Rattle.checks.proofs.bad_mark.Goals as goal
 

@@ -1,4 +1,4 @@
--- `rulefile::bad_row` meets its contract: a row is malformed where it is not decoded.
+-- `checks::bad_row` meets its contract: a row is malformed where it is not decoded.
 use mathlib.Core.Path.{sym, ap, ◌∙◌}
 use Rattle.rulefile.specs.Format.{row_byte, bad_row}
 use Rattle.decoding.specs.Named.{is_malformed}

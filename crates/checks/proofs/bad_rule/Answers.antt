@@ -1,4 +1,4 @@
--- `rulefile::bad_rule` meets its contract: the two tests are those of the definition.
+-- `checks::bad_rule` meets its contract: the two tests are those of the definition.
 use Rattle.rulefile.specs.Format.{bad_rule}
 use Rattle.checks.specs.Findings.{extent, found_at}
 use Rattle.checks.proofs.bad_rule.Goals as goal

@@ -1,4 +1,4 @@
--- `rulefile::extent` meets its contract: each variant but `Rule` counts the rows.
+-- `checks::extent` meets its contract: each variant but `Rule` counts the rows.
 use mathlib.Core.Path.{◌≡◌, refl, sym, ◌∙◌}
 use Rattle.concepts.specs.Lists.{Bytes}
 use Rattle.checks.specs.declared.Finding.{Finding}

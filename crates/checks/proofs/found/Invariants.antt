@@ -1,4 +1,4 @@
--- `rulefile::found` meets its contract: the invariant is that no row or rule below `i` is a finding.
+-- `checks::found` meets its contract: the invariant is that no row or rule below `i` is a finding.
 use mathlib.Core.Path.{◌≡◌}
 use Prim.Native.Nat.{◌≤◌, ◌-◌}
 use Rattle.concepts.specs.Lists.{NoneBelow}

@@ -1,4 +1,4 @@
--- `rulefile::found_at` meets its contract: each arm calls the function of its finding.
+-- `checks::found_at` meets its contract: each arm calls the function of its finding.
 use mathlib.Core.Path.{◌≡◌}
 use Prim.Native.Nat.{ℕ, ◌<◌}
 use Rattle.concepts.specs.Lists.{Bytes}

@@ -1,4 +1,4 @@
--- `rulefile::number` meets its contract: the constant has the numbers of the checks, place for place.
+-- `checks::number` meets its contract: the constant has the numbers of the checks, place for place.
 use mathlib.Core.List.{List, [], ◌∷◌}
 use Prim.Native.Nat.{ℕ}
 use native.Mathlib.Omega.{arith}

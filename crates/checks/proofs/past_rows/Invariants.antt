@@ -1,4 +1,4 @@
--- `rulefile::past_rows` meets its contract: the invariant is that each row of the list before place `i` is below the number of rows.
+-- `checks::past_rows` meets its contract: the invariant is that each row of the list before place `i` is below the number of rows.
 use mathlib.Core.Path.{◌≡◌}
 use Prim.Native.Nat.{◌≤◌, ◌-◌}
 use lib.Dec.{leb}

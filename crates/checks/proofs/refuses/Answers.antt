@@ -1,4 +1,4 @@
--- `rulefile::refuses` meets its contract: each arm calls the function of its check, whose `requires` follows from the checks before it.
+-- `checks::refuses` meets its contract: each arm calls the function of its check, whose `requires` follows from the checks before it.
 use mathlib.Core.Path.{◌≡◌}
 use Prim.Native.Nat.{ℕ, ◌<◌}
 use native.Mathlib.Omega.{arith}

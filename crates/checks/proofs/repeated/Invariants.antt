@@ -1,4 +1,4 @@
--- `rulefile::repeated` meets its contract: the invariant is that no row below `j` has the bytes of row `k`.
+-- `checks::repeated` meets its contract: the invariant is that no row below `j` has the bytes of row `k`.
 use Prim.Native.Nat.{◌≤◌, ◌-◌}
 use Rattle.concepts.specs.Lists.{NoneBelow}
 use Rattle.rulefile.specs.Format.{same_row}

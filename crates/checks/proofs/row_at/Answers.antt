@@ -1,4 +1,4 @@
--- `rulefile::row_at` meets its contract: the bytes that it reads are those of the definition.
+-- `checks::row_at` meets its contract: the bytes that it reads are those of the definition.
 use Rattle.checks.proofs.row_at.Goals as goal
 
 pub returns : goal.returns

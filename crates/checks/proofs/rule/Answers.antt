@@ -1,4 +1,4 @@
--- `rulefile::rule` meets its contract: the place that it reads is that of the definition.
+-- `checks::rule` meets its contract: the place that it reads is that of the definition.
 use Rattle.checks.proofs.rule.Goals as goal
 
 pub returns : goal.returns

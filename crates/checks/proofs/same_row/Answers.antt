@@ -1,4 +1,4 @@
--- `rulefile::same_row` meets its contract: the bytes that it reads are those of the definition.
+-- `checks::same_row` meets its contract: the bytes that it reads are those of the definition.
 use Rattle.rulefile.specs.Format.{same_row}
 use Rattle.checks.proofs.same_row.Goals as goal
 

@@ -1,4 +1,4 @@
--- `problem::byte_at` meets its contract, and a byte is below 256.
+-- `decoder::byte_at` meets its contract, and a byte is below 256.
 use mathlib.Core.Path.{refl}
 use Prim.Native.Nat.{◌+◌, ◌*◌}
 use native.Mathlib.Omega.{arith}

@@ -1,4 +1,4 @@
--- `problem::decode` meets its contract: all rows, the counts, the rules and the wanted rows, and any inclusions, make the words of the problem.
+-- `decoder::decode` meets its contract: all rows, the counts, the rules and the wanted rows, and any inclusions, make the words of the problem.
 use mathlib.Core.Path.{◌≡◌, sym, ◌∙◌}
 use mathlib.Core.Bool.{true}
 use mathlib.Core.List.{List}

@@ -1,4 +1,4 @@
--- `problem::decode_file` meets its contract: the parts of the file are what decoding relies on.
+-- `decoder::decode_file` meets its contract: the parts of the file are what decoding relies on.
 use borrow.Author.Rules.{rules}
 use Rattle.reader.specs.PartLaws.{laid-placed}
 use Rattle.decoder.specs.FileProblem.{file-parts, file-decoded}

@@ -1,4 +1,4 @@
--- `problem::impose` meets its contract: the mask of the rules is written anew (`rules-anew`).
+-- `decoder::impose` meets its contract: the mask of the rules is written anew (`rules-anew`).
 use native.Mathlib.Omega.{arith}
 use Rattle.decoder.specs.WantLaws.{serving-below, rules-anew}
 use Rattle.decoder.proofs.impose.Goals as goal

@@ -1,4 +1,4 @@
--- `problem::put_counts` meets its contract, by those of the calls.
+-- `decoder::put_counts` meets its contract, by those of the calls.
 use mathlib.Core.Path.{refl}
 use Rattle.decoder.proofs.put_counts.Goals as goal
 

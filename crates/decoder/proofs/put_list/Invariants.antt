@@ -1,4 +1,4 @@
--- `problem::put_list` meets its contract: the invariant is that the words so far are those of the list's set (`list_put`).
+-- `decoder::put_list` meets its contract: the invariant is that the words so far are those of the list's set (`list_put`).
 use Prim.Native.Nat.{◌+◌, ◌-◌, ◌≤◌}
 use Rattle.concepts.specs.RowSet.{from_list}
 use Rattle.rowset.specs.WordOf.{word_of}

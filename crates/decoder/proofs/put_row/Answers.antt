@@ -1,4 +1,4 @@
--- `problem::put_row` meets its contract: the word and the two marks are those of the definition.
+-- `decoder::put_row` meets its contract: the word and the two marks are those of the definition.
 use mathlib.Core.Path.{◌≡◌}
 use native.Mathlib.Omega.{arith}
 use Rattle.problem.specs.Rows.{row_byte}

@@ -1,5 +1,4 @@
 use mathlib.Core.Path.{◌≡◌, refl, ◌∙◌}
-use Prim.Native.Nat.{◌-◌}
 use native.Mathlib.Omega.{arith}
 use Rattle.problem.specs.Rows.{row_count}
 use Rattle.decoder.specs.WritingLaws.{partly_none, partly_more}

@@ -1,4 +1,4 @@
--- `problem::put_rows` meets its contract: the invariant is that the words hold the rows so far.
+-- `decoder::put_rows` meets its contract: the invariant is that the words hold the rows so far.
 use mathlib.Core.Path.{◌≡◌}
 use Prim.Native.Nat.{◌-◌, ◌≤◌}
 use lib.ListN.{length}

@@ -1,4 +1,4 @@
--- `problem::second_mask` meets its contract, which is the test of the kind.
+-- `decoder::second_mask` meets its contract, which is the test of the kind.
 use native.Mathlib.Omega.{arith}
 use borrow.Author.Tests.{eq-eqb, ne_eqb}
 use Rattle.decoder.specs.Writing.{along}

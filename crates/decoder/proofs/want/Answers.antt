@@ -1,4 +1,4 @@
--- `problem::want` meets its contract: the mask of the wanted rows is written anew (`wanted-anew`).
+-- `decoder::want` meets its contract: the mask of the wanted rows is written anew (`wanted-anew`).
 use native.Mathlib.Omega.{arith}
 use Rattle.decoder.specs.WantLaws.{serving-below, wanted-anew}
 use Rattle.decoder.proofs.want.Goals as goal

@@ -1,4 +1,4 @@
--- `problem::word_of` meets its contract: the invariant is that the word so far and that of what is left of the list make the whole word.
+-- `decoder::word_of` meets its contract: the invariant is that the word so far and that of what is left of the list make the whole word.
 use mathlib.Core.Path.{◌≡◌}
 use Prim.Native.Nat.{◌-◌, ◌≤◌}
 use lib.ListN.{length, drop}

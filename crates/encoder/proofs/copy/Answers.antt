@@ -1,5 +1,4 @@
 use mathlib.Core.Path.{refl}
-use Prim.Native.Nat.{◌-◌}
 use native.Mathlib.Omega.{arith}
 use Rattle.encoder.specs.EncoderLaws.{stored-none, stored-size, stored-byte, stored-copy}
 use Rattle.encoder.proofs.copy.Goals as goal

@@ -1,4 +1,3 @@
-use Prim.Native.Nat.{◌-◌}
 use native.Mathlib.Omega.{arith}
 use Rattle.encoder.specs.EncoderLaws.{words_bytes-none, stored-none, stored-size, stored-all, stored-word}
 use Rattle.encoder.proofs.write_rows.Goals as goal

@@ -1,5 +1,4 @@
 use mathlib.Core.Path.{◌∙◌}
-use Prim.Native.Nat.{◌-◌}
 use native.Mathlib.Omega.{arith}
 use Rattle.evaluation.specs.LinkCases.{followed-none, followed-asks, followed-more, followed-all}
 use Rattle.evaluation.proofs.along.Goals as goal

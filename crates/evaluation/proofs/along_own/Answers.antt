@@ -1,5 +1,5 @@
 use mathlib.Core.Path.{sym, ◌∙◌, subst}
-use Prim.Native.Nat.{ℕ, ◌-◌}
+use Prim.Native.Nat.{ℕ}
 use native.Mathlib.Omega.{arith}
 use Rattle.concepts.specs.Role.{inverse-other}
 use Rattle.evaluation.specs.Clauses.{alone}

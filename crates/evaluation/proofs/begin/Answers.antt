@@ -1,4 +1,3 @@
-use Prim.Native.Nat.{◌-◌}
 use native.Mathlib.Omega.{arith}
 use Rattle.evaluation.specs.ElementCases.{begun-none, begun_more, begun_all}
 use Rattle.evaluation.proofs.begin.Goals as goal

@@ -1,5 +1,4 @@
 use mathlib.Core.Path.{◌∙◌}
-use Prim.Native.Nat.{◌-◌}
 use native.Mathlib.Omega.{arith}
 use Rattle.evaluation.specs.RowCases.{rowed-none, rowed-more, rowed-asks, rowed-all}
 use Rattle.evaluation.proofs.evaluate.Goals as goal

@@ -1,6 +1,5 @@
 -- `evaluation::follow_link` meets its contract: the link is taken onward if its code counts for that, and then backward if it counts for that.
 use mathlib.Core.Path.{refl, sym, ap, ◌∙◌}
-use mathlib.Core.Logic.{inl, inr}
 use native.Mathlib.Omega.{arith}
 use borrow.Author.Tests.{not-true}
 use Rattle.concepts.specs.RowSet.{union}

@@ -1,6 +1,4 @@
 use mathlib.Core.Path.{sym, ◌∙◌}
-use mathlib.Core.Logic.{inl, inr}
-use Prim.Native.Nat.{◌-◌}
 use native.Mathlib.Omega.{arith}
 use Rattle.words.specs.Sizes.{set_words}
 use Rattle.evaluation.specs.ElementCases.{row_put-none, row_put-in, row_put-out, row_put-all}

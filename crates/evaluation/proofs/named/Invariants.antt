@@ -1,5 +1,5 @@
 -- `evaluation::named` meets its contract: the invariant is that all rows but those left have been asked.
-use Prim.Native.Nat.{◌-◌, ◌^◌, ◌<◌}
+use Prim.Native.Nat.{◌^◌, ◌<◌}
 use Rattle.problem.specs.Decoded.{table_of}
 use Rattle.evaluation.specs.LiteralCases.{Asking}
 use Rattle.evaluation.proofs.named.Given as goal

@@ -1,6 +1,4 @@
 -- The whole expansion: children, judgement, and the updates unless the node is merely open.
---
--- In order: the places that later needs speak of; the needs, in the code's order.
 use native.Mathlib.Omega.{arith}
 use borrow.Author.Rules.{rules}
 use Rattle.graph.specs.Graphs.{Work, work}

@@ -1,6 +1,4 @@
 -- The children of a node, by its lowest unfinished conjunction.
---
--- In order: the places that later needs speak of; the needs, in the code's order.
 use mathlib.Core.Path.{◌≡◌, ap, ◌∙◌}
 use Prim.Native.Nat.{ℕ, ◌+◌, ◌*◌, ◌≤◌}
 use native.Mathlib.Omega.{arith}

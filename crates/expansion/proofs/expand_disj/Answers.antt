@@ -1,6 +1,4 @@
 -- The children of a node without an unfinished conjunction, by its lowest unfinished disjunction.
---
--- In order: the places that later needs speak of; the needs, in the code's order.
 use mathlib.Core.Path.{◌≡◌, ap, ◌∙◌}
 use Prim.Native.Nat.{ℕ, ◌+◌, ◌*◌, ◌≤◌}
 use native.Mathlib.Omega.{arith}

@@ -1,6 +1,4 @@
 -- What another state puts: a successor for each existential row, rising.
---
--- In order: the invariant, and what falls; the places that later needs speak of; the needs, in the code's order.
 use Prim.Native.Nat.{◌-◌}
 use Rattle.problem.specs.Decoded.{count_of}
 use Rattle.graph.specs.Graphs.{work}

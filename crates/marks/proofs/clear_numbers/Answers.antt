@@ -1,4 +1,3 @@
-use Prim.Native.Nat.{◌-◌}
 use native.Mathlib.Omega.{arith}
 use Rattle.marks.specs.MarkLaws.{cleared-none, cleared-fits, cleared_more, cleared-all}
 use Rattle.marks.proofs.clear_numbers.Goals as goal

@@ -1,6 +1,6 @@
 -- The proof of the cycle of calls {put, put_new}: the rows that a row stands over are lower.
 --
--- In order: what falls from call to call; the places in each function that others speak of; the needs, in the code's order.
+-- In order: the goals of each function of the cycle, in the code's order; what falls from call to call is in Invariants.antt.
 -- Assumes nothing.
 use mathlib.Core.Path.{refl, ap}
 use Prim.Native.Nat.{ℕ}

@@ -1,4 +1,3 @@
-use Prim.Native.Nat.{◌-◌}
 use native.Mathlib.Omega.{arith}
 use Rattle.run.specs.PrintedLaws.{element_lines-none, element_lines-more}
 use Rattle.printing.specs.PrintingLaws.{wrote-size, pieces_none, pieces_more, pieces-all}

@@ -1,5 +1,4 @@
 use mathlib.Core.Path.{refl}
-use Prim.Native.Nat.{◌-◌}
 use native.Mathlib.Omega.{arith}
 use Rattle.words.specs.WordLaws.{take_more}
 use Rattle.printing.specs.PrintingLaws.{wrote-size, pieces_none, pieces_more, pieces-all, wrote-word}

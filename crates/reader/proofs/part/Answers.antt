@@ -1,4 +1,4 @@
--- `rulefile::part` meets its contract: the part that the code cuts out is that of the definition.
+-- `reader::part` meets its contract: the part that the code cuts out is that of the definition.
 use mathlib.Core.Path.{◌≡◌, ap}
 use Prim.Native.Nat.{ℕ, ◌+◌, ◌-◌}
 use native.Mathlib.Omega.{arith}

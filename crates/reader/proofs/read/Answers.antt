@@ -1,4 +1,4 @@
--- `rulefile::read` meets its contract: it is `read_for` with the file's own wanted row.
+-- `reader::read` meets its contract: it is `read_for` with the file's own wanted row.
 use mathlib.Core.Path.{ap, ◌∙◌}
 use Rattle.reader.specs.Read.{read_of}
 use Rattle.rulefile.specs.ReadingLaws.{reading-own}

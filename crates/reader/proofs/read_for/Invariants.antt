@@ -1,4 +1,4 @@
--- `rulefile::read_for` meets its contract: the invariant is that the file passed the checks before place `i`.
+-- `reader::read_for` meets its contract: the invariant is that the file passed the checks before place `i`.
 use Prim.Native.Nat.{◌≤◌, ◌-◌}
 use Rattle.rulefile.specs.Checks.{check_count, Passed}
 use Rattle.reader.proofs.read_for.Given as goal

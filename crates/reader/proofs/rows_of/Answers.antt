@@ -1,4 +1,4 @@
--- `rulefile::rows_of` meets its contract: the rows stand where the layout says.
+-- `reader::rows_of` meets its contract: the rows stand where the layout says.
 use mathlib.Core.Path.{◌∙◌}
 use native.Mathlib.Omega.{arith}
 use Rattle.reader.specs.PartLaws.{whole, rows-part}

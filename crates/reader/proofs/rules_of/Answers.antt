@@ -1,4 +1,4 @@
--- `rulefile::rules_of` meets its contract: the rules stand where the layout says.
+-- `reader::rules_of` meets its contract: the rules stand where the layout says.
 use mathlib.Core.Path.{◌∙◌}
 use native.Mathlib.Omega.{arith}
 use Rattle.reader.specs.PartLaws.{whole, rules-part}

@@ -1,4 +1,4 @@
--- `rulefile::text` meets its contract: it is `text_for` with the file's own wanted row.
+-- `reader::text` meets its contract: it is `text_for` with the file's own wanted row.
 use mathlib.Core.Path.{◌∙◌}
 use Rattle.rulefile.specs.ReadingLaws.{text-own}
 use Rattle.reader.proofs.text.Goals as goal

@@ -1,4 +1,4 @@
--- `rulefile::text_for` meets its contract: the part that is handed back starts where the file starts, and is as long as the text.
+-- `reader::text_for` meets its contract: the part that is handed back starts where the file starts, and is as long as the text.
 use mathlib.Core.Path.{sym, ◌∙◌}
 use Rattle.rulefile.specs.ReadingLaws.{text-refused}
 use Rattle.reader.specs.PartLaws.{reads-refused, reads-accepted, laid-text, laid-inside}

@@ -1,4 +1,4 @@
--- `rulefile::wanted_of` meets its contract: the wanted row stands four bytes before the end.
+-- `reader::wanted_of` meets its contract: the wanted row stands four bytes before the end.
 use mathlib.Core.Path.{◌∙◌}
 use native.Mathlib.Omega.{arith}
 use Rattle.reader.specs.PartLaws.{wanted-part}

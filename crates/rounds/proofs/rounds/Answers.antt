@@ -1,4 +1,3 @@
-use Prim.Native.Nat.{◌-◌}
 use borrow.Author.Rules.{rules}
 use borrow.Author.Tests.{not-true, not-false}
 use Rattle.rounds.specs.RoundCases.{root_live, NextToExpand, turn-start, turn-fits, turn-seeks, turn-settled, turn-done}

@@ -1,8 +1,6 @@
 -- The rounds: each gives one node more a status.
---
--- In order: the invariant, and what falls; the node to expand; the needs, in the code's order.
 use Prim.Native.Nat.{◌-◌}
-use Rattle.procedure.proofs.Measure.{with_aStatus}
+use Rattle.procedure.proofs.Measure.{with_a_status}
 use Rattle.words.specs.Sizes.{node_size}
 use Rattle.records.specs.Areas.{room_of}
 use Rattle.graph.specs.Graphs.{work, graph_of}
@@ -14,4 +12,4 @@ invariant-loop-cur l = RoundsDone l.problem (work l.initial.nodes l.initial.edge
     l.cur l.from
 
 abbrev pub decreases-loop-cur : goal.decreases-loop-cur
-decreases-loop-cur l = room_of node_size l.initial.nodes - with_aStatus (graph_of (work l.nodes l.edges l.alternatives) l.cur)
+decreases-loop-cur l = room_of node_size l.initial.nodes - with_a_status (graph_of (work l.nodes l.edges l.alternatives) l.cur)

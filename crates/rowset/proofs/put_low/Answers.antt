@@ -1,5 +1,4 @@
 use mathlib.Core.Path.{◌∙◌}
-use Prim.Native.Nat.{◌-◌}
 use native.Mathlib.Omega.{arith}
 use Rattle.rowset.specs.WriteLaws.{put-begins, put-again, put-ends, put_low}
 use Rattle.rowset.proofs.put_low.Goals as goal

@@ -1,5 +1,4 @@
 use mathlib.Core.Path.{◌≡◌, sym, ◌∙◌}
-use Prim.Native.Nat.{◌-◌}
 use native.Mathlib.Omega.{arith}
 use Rattle.rowset.specs.Joined.{word_at}
 use Rattle.rowset.specs.JoinedLaws.{one_more}

@@ -10,7 +10,6 @@ use Rattle.words.specs.Sizes.{set_words}
 use Rattle.words.specs.WordLaws.{length-put_le}
 use Rattle.rowset.specs.SetOf.{set_of}
 use Rattle.problem.specs.Decoded.{problem_of, rules_of, mask_of}
-use borrow.Author.Rules.{rules}
 use Rattle.settests.proofs.successor.Goals as goal
 
 pub returns : goal.returns

@@ -1,9 +1,9 @@
 -- The proof of the cycle of calls {put, judge, judge_linked, put_alternatives}: each alternative adds a row to its state's set.
 --
--- In order: what falls from call to call; the places in each function that others speak of; the needs, in the code's order.
+-- In order: the goals of each function of the cycle, in the code's order; what falls from call to call is in Invariants.antt.
 use mathlib.Core.Path.{refl, ap, ◌∙◌}
 use mathlib.Core.Bool.{not}
-use Prim.Native.Nat.{ℕ, ◌+◌, ◌-◌, ◌*◌, ◌≤◌}
+use Prim.Native.Nat.{ℕ, ◌+◌, ◌*◌, ◌≤◌}
 use native.Mathlib.Omega.{arith}
 use borrow.Author.Rules.{rules}
 use lib.Dec.{eqb}

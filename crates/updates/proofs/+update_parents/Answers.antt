@@ -1,6 +1,4 @@
 -- The parents of a node, updated: a call of itself comes after a parent's status changed, so one place less is unsettled.
---
--- In order: what falls from call to call; the loop; the places that later needs speak of; the needs, in the code's order.
 use native.Mathlib.Omega.{arith}
 use borrow.Author.Rules.{rules}
 use Rattle.graph.specs.Graphs.{Work, work}

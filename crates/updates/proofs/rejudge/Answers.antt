@@ -1,6 +1,4 @@
 -- One node judged again: by its status before, the judgement, and its status after.
---
--- In order: the places that later needs speak of; the needs, in the code's order.
 use borrow.Author.Rules.{rules}
 use borrow.Author.Tests.{not-true, not-false}
 use Rattle.graph.specs.Graphs.{Work, work}

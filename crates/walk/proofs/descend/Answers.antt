@@ -1,4 +1,3 @@
-use Prim.Native.Nat.{◌-◌}
 use native.Mathlib.Omega.{arith}
 use borrow.Author.Rules.{rules}
 use Rattle.walk.specs.ChildCases.{Links, going_start, going-fits, going-asks, going-links, going-lands, going_on, going_less, going-nowhere}

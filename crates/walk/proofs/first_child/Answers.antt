@@ -1,4 +1,3 @@
-use Prim.Native.Nat.{◌-◌}
 use native.Mathlib.Omega.{arith}
 use borrow.Author.Rules.{rules}
 use Rattle.walk.specs.ChildCases.{Follows, looking-start, looking-walks, looking-nodes, looking-next, looking-end}

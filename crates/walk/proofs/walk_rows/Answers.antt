@@ -1,4 +1,3 @@
-use Prim.Native.Nat.{◌-◌}
 use native.Mathlib.Omega.{arith}
 use borrow.Author.Rules.{rules}
 use Rattle.walk.specs.RowCases.{Row, Child, row-element, row-start, row_inside, row-none, row_next, row_count_lem, row-walks}

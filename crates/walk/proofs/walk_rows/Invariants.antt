@@ -1,6 +1,4 @@
 -- `walk::walk_rows` meets its contract: what is left of the rows and children gives what the whole gives from the start.
---
--- In order: the invariant, and what falls; the places that later needs speak of; the needs, in the code's order.
 use Prim.Native.Nat.{◌-◌}
 use Rattle.walk.specs.Clauses.{nodes_edges}
 use Rattle.walk.specs.RowCases.{RowTurn}

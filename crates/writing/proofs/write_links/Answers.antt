@@ -1,4 +1,3 @@
-use Prim.Native.Nat.{◌-◌}
 use native.Mathlib.Omega.{arith}
 use Rattle.writing.specs.WritingLaws.{written_none, written_all, link-written}
 use Rattle.writing.proofs.write_links.Goals as goal

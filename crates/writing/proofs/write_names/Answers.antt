@@ -1,4 +1,3 @@
-use Prim.Native.Nat.{◌-◌}
 use native.Mathlib.Omega.{arith}
 use Rattle.writing.specs.WritingLaws.{element-fits, element-inside, element-set, naming-none, naming-more, naming-all}
 use Rattle.writing.proofs.write_names.Goals as goal

@@ -1,5 +1,4 @@
 use mathlib.Core.Path.{refl}
-use Prim.Native.Nat.{◌-◌}
 use native.Mathlib.Omega.{arith}
 use Rattle.catalogue.specs.NameCases.{places-positive, places-negative, lists-none, names-listed}
 use Rattle.catalogue.proofs.names.listed.Goals as goal

@@ -1,4 +1,4 @@
--- `rulefile::inclusions::inclusion_listed` meets its contract: the invariant is that no row of the list before place `i` is an inclusion.
+-- `checks::inclusions::inclusion_listed` meets its contract: the invariant is that no row of the list before place `i` is an inclusion.
 use Prim.Native.Nat.{◌≤◌, ◌-◌}
 use lib.ListN.{length, get_or}
 use Rattle.concepts.specs.Lists.{NoneBelow}

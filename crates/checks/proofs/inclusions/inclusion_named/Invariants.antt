@@ -1,4 +1,4 @@
--- `rulefile::inclusions::inclusion_named` meets its contract: the invariant is that no row below `k` names an inclusion.
+-- `checks::inclusions::inclusion_named` meets its contract: the invariant is that no row below `k` names an inclusion.
 use mathlib.Core.Path.{◌≡◌}
 use Prim.Native.Nat.{◌≤◌, ◌-◌}
 use Rattle.concepts.specs.Lists.{NoneBelow}

@@ -1,4 +1,4 @@
--- `rulefile::inclusions::inclusion_ruled` meets its contract: the invariant is that no rule below `i` is an inclusion.
+-- `checks::inclusions::inclusion_ruled` meets its contract: the invariant is that no rule below `i` is an inclusion.
 use mathlib.Core.Path.{◌≡◌}
 use Prim.Native.Nat.{◌≤◌, ◌-◌}
 use Rattle.concepts.specs.Lists.{NoneBelow}

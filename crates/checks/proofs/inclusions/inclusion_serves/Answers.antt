@@ -1,4 +1,4 @@
--- `rulefile::inclusions::inclusion_serves` meets its contract: without a row of kind 7 none serves; else the three tests are those of the definition.
+-- `checks::inclusions::inclusion_serves` meets its contract: without a row of kind 7 none serves; else the three tests are those of the definition.
 use mathlib.Core.Path.{sym, ◌∙◌}
 use borrow.Author.Tests.{not-true}
 use Rattle.rulefile.specs.Format.{inclusion_serves}

@@ -1,4 +1,4 @@
--- `rulefile::inclusions::is_inclusion` meets its contract: a row that is there is an inclusion by its kind.
+-- `checks::inclusions::is_inclusion` meets its contract: a row that is there is an inclusion by its kind.
 use mathlib.Core.Path.{sym, ap, ◌∙◌}
 use Prim.Native.Nat.{ℕ}
 use native.Mathlib.Omega.{arith}

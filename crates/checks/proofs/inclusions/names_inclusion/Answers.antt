@@ -1,4 +1,4 @@
--- `rulefile::inclusions::names_inclusion` meets its contract: at each variant the rows that are named are tested one by one.
+-- `checks::inclusions::names_inclusion` meets its contract: at each variant the rows that are named are tested one by one.
 use mathlib.Core.Path.{sym, ap, ap₂, ◌∙◌}
 use mathlib.Core.Bool.{◌||◌}
 use Rattle.concepts.specs.Tests.{or_nothing}

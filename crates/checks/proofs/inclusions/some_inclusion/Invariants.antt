@@ -1,4 +1,4 @@
--- `rulefile::inclusions::some_inclusion` meets its contract: the invariant is that no row below `k` is an inclusion.
+-- `checks::inclusions::some_inclusion` meets its contract: the invariant is that no row below `k` is an inclusion.
 use mathlib.Core.Path.{◌≡◌}
 use Prim.Native.Nat.{◌≤◌, ◌-◌}
 use Rattle.concepts.specs.Lists.{NoneBelow}

@@ -1,4 +1,4 @@
--- `problem::inclusions::chain` meets its contract, by those of the two calls (`pair-chains`).
+-- `decoder::inclusions::chain` meets its contract, by those of the two calls (`pair-chains`).
 use Rattle.decoder.specs.ChainingLaws.{pair-chains}
 use Rattle.decoder.proofs.inclusions.chain.Goals as goal
 

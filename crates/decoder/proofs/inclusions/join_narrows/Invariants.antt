@@ -1,4 +1,4 @@
--- `problem::inclusions::join_narrows` meets its contract: the invariant is that the words so far have joined.
+-- `decoder::inclusions::join_narrows` meets its contract: the invariant is that the words so far have joined.
 use mathlib.Core.Path.{◌≡◌}
 use Prim.Native.Nat.{◌+◌, ◌-◌, ◌≤◌}
 use lib.ListN.{get_or}

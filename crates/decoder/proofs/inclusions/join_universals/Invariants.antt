@@ -1,4 +1,4 @@
--- `problem::inclusions::join_universals` meets its contract: the invariant is that the words so far have joined.
+-- `decoder::inclusions::join_universals` meets its contract: the invariant is that the words so far have joined.
 use mathlib.Core.Path.{◌≡◌}
 use Prim.Native.Nat.{◌-◌, ◌≤◌}
 use Rattle.problem.specs.Decoded.{used_of}

@@ -1,4 +1,4 @@
--- `problem::inclusions::join_word` meets its contract: the invariant is that the masks so far have joined.
+-- `decoder::inclusions::join_word` meets its contract: the invariant is that the masks so far have joined.
 use mathlib.Core.Path.{◌≡◌}
 use Prim.Native.Nat.{◌+◌, ◌-◌, ◌≤◌}
 use lib.ListN.{get_or}

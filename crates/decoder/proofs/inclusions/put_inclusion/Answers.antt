@@ -1,4 +1,4 @@
--- `problem::inclusions::put_inclusion` meets its contract: the two roles are chained, and both turned round (`inclusion-row`);
+-- `decoder::inclusions::put_inclusion` meets its contract: the two roles are chained, and both turned round (`inclusion-row`);
 -- any other row adds nothing (`other_row`).
 use mathlib.Core.Path.{subst₂}
 use Prim.Native.Nat.{ℕ, ◌<◌}

@@ -1,4 +1,4 @@
--- `problem::inclusions::put_inclusions` meets its contract: the invariant is that the inclusions in the rows so far are added.
+-- `decoder::inclusions::put_inclusions` meets its contract: the invariant is that the inclusions in the rows so far are added.
 use mathlib.Core.Path.{◌≡◌}
 use Prim.Native.Nat.{◌-◌, ◌≤◌}
 use Rattle.problem.specs.Decoded.{count_of, RowsDecoded}

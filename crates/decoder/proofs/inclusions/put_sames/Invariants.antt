@@ -1,4 +1,4 @@
--- `problem::inclusions::put_sames` meets its contract: the invariant is that each role so far is narrower than itself.
+-- `decoder::inclusions::put_sames` meets its contract: the invariant is that each role so far is narrower than itself.
 use Prim.Native.Nat.{◌-◌, ◌≤◌}
 use Rattle.decoder.specs.Chaining.{Sames}
 use Rattle.decoder.proofs.inclusions.put_sames.Given as goal
