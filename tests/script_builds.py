@@ -101,6 +101,9 @@ def check_failing(room, copy):
     os.utime(copy.root / "crates.txt")
     room.write("rt fails", "1")
     copy.run("fit: an old program does not answer for a failed build", '"$R/fit" "$F"', 2, "", failure, [run_of("fit")])
+    room.write("a copy, with spaces/crates/fit/out/fit", "an old one")
+    room.write("rt fails", "0")
+    copy.run("fit: nor does an old result of rt", '"$R/fit" "$F"', 2, "", failure, [run_of("fit")])
     (room.folder / "rt fails").unlink()
     (copy.root / "crates.txt").rename(copy.root / "away")
     for setting in ("", "POSIXLY_CORRECT=1 "):
