@@ -19,7 +19,7 @@ use Rattle.decoder.specs.WantLaws.{same-serve, same-all}
 use Rattle.graph.specs.Graphs.{Work, capacity_of, Sized}
 use Rattle.graph.specs.GraphLaws.{sized-places}
 use Rattle.subsumption.specs.Names.{row_after_row}
-use Rattle.subsumption.specs.NameLaws.{length-row_after_row, row_after_row-append, row_after_row-one}
+use Rattle.subsumption.proofs.NameLaws.{length-row_after_row, row_after_row-append, row_after_row-one}
 use Rattle.engine.specs.Asking.{PiecesWritten}
 use Rattle.engine.specs.AskingLaws.{written_none, written-more, written_all}
 use Rattle.catalogue.specs.Clauses.{entry_number, ran_entry, EntryAsks, EntryGives, RowAsks, RowGives, FillAsks, FillGives}

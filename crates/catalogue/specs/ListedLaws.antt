@@ -10,7 +10,7 @@ use Rattle.procedure.specs.Graph.{Capacity}
 use Rattle.words.specs.Words.{overwrite}
 use Rattle.problem.specs.Decoded.{table_of, Decoded}
 use Rattle.subsumption.specs.Names.{positive, negative, names, row_after_row}
-use Rattle.subsumption.specs.NameLaws.{names-positive, names-negative, row_after_row-map}
+use Rattle.subsumption.proofs.NameLaws.{names-positive, names-negative, row_after_row-map}
 use Rattle.decoder.specs.Want.{AllServe}
 use Rattle.catalogue.specs.Clauses.{Lists, ran_entry, FillAsks, FillGives}
 use Rattle.catalogue.specs.declared.Listed.{Listed}

@@ -20,7 +20,7 @@ use Rattle.decoding.specs.RowPartLaws.{views-by-parts}
 use Rattle.problem.specs.Decoded.{count_of, table_of, Decoded}
 use Rattle.problem.specs.DecodedLaws.{length-table_of, name-lt}
 use Rattle.subsumption.specs.Names.{place_of, of_name, positive, negative, has_both, names}
-use Rattle.subsumption.specs.NameLaws.{place_of-none, place_of-drop}
+use Rattle.subsumption.proofs.NameLaws.{place_of-none, place_of-drop}
 use Rattle.catalogue.specs.Clauses.{name_of, PlacesFrom, names_below, Lists, NameAsks}
 use Rattle.catalogue.specs.declared.Listed.{Listed}
 

@@ -27,7 +27,7 @@ use Rattle.problem.specs.Decoded.{table_of}
 use Rattle.decoder.specs.Want.{with_wanted}
 use Rattle.decoder.specs.FileProblem.{FileDecoded}
 use Rattle.subsumption.specs.Names.{positive, negative, names, row_after_row}
-use Rattle.subsumption.specs.NameLaws.{row_after_row-same}
+use Rattle.subsumption.proofs.NameLaws.{row_after_row-same}
 use Rattle.subsumption.specs.Catalogue.{Areas, areas_of, lent, entry_of, entry, Catalogue, refused_with, listed, listed_in, catalogue}
 use Rattle.subsumption.specs.Catalogue.{CatalogueNumbers, refusal_alone, numbers, areas_after}
 use Rattle.subsumption.specs.Promise.{CataloguePromise}

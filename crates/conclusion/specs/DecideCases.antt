@@ -14,7 +14,7 @@ use Rattle.procedure.proofs.Outcome.{finished-at, root-set}
 use Rattle.run.specs.Run.{room_in, Areas, areas_of, Lengths, lengths, capacity, shown, used, Answer, short, cannot, answer_can, answer_root, answer_result}
 use Rattle.run.specs.Run.{areas_after}
 use Rattle.run.specs.Said.{good_root}
-use Rattle.run.specs.ShortLaws.{room_for-most}
+use Rattle.run.proofs.ShortLaws.{room_for-most}
 use Rattle.problem.specs.Decoded.{table_of, problem_of, Decoded}
 use Rattle.problem.specs.DecodedLaws.{decoded-posed}
 use Rattle.graph.specs.Graphs.{work, graph_of, capacity_of, area_of}

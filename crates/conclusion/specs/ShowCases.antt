@@ -16,7 +16,7 @@ use Rattle.words.specs.Sizes.{most_records, set_size, link_size}
 use Rattle.words.specs.Words.{overwrite}
 use Rattle.listing.specs.Layout.{element_bytes, link_bytes}
 use Rattle.run.specs.Run.{Areas, Lengths, lengths, listing, shown, Used, used, Answer, can, too_long, fits, answer_can, areas_after}
-use Rattle.run.specs.ListingLaws.{length-listing, shown-some}
+use Rattle.run.proofs.ListingLaws.{length-listing, shown-some}
 use Rattle.records.specs.Records.{node_in}
 use Rattle.graph.specs.Graphs.{Work, work, graph_of}
 use Rattle.graph.specs.GraphLaws.{held-most, held-room, count-nodes, count-edges, count-alternatives}

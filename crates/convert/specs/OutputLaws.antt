@@ -12,7 +12,7 @@ use Rattle.decoding.specs.Decoding.{draft_kinds}
 use Rattle.rulefile.specs.Format.{wanted_rows, most_rows, RuleFile, Reading, refused, accepted}
 use Rattle.rulefile.specs.CheckLaws.{refused-positive}
 use Rattle.run.specs.Printed.{ascii, line}
-use Rattle.run.specs.ProgramLaws.{reading-take}
+use Rattle.run.proofs.ProgramLaws.{reading-take}
 use Rattle.drafts.specs.Normalize.{normalized}
 use Rattle.drafts.specs.Encoding.{file_bytes}
 use Rattle.drafts.specs.Conversion.{draft_reading, Conversion, refused_with, written, too_large, written_or, conversion_of, conversion, ConversionNumbers, numbers}

@@ -18,14 +18,15 @@ use Rattle.decoding.specs.Decoding.{draft_kinds}
 use Rattle.rulefile.specs.Format.{rule_count, rule, rules, wanted_rows, most_rows, most_rules, RuleFile, contents, refused, accepted}
 use Rattle.reader.specs.Read.{Laid}
 use Rattle.rulefile.specs.CheckLaws.{accepted-contents, accepted-passed}
-use Rattle.rulefile.specs.FormatLaws.{Admitted, contents-admitted}
+use Rattle.rulefile.specs.FormatLaws.{Admitted}
+use Rattle.rulefile.proofs.FormatLaws.{contents-admitted}
 use Rattle.reader.specs.PartLaws.{laid-placed, whole}
 use Rattle.reader.specs.declared.Layout.{Layout}
 use Rattle.words.specs.Words.{overwrite}
 use Rattle.drafts.specs.Normalize.{PutList, put_list, inclusion_rows, normalized}
-use Rattle.drafts.specs.PutListLaws.{put_list-grown}
+use Rattle.drafts.proofs.PutListLaws.{put_list-grown}
 use Rattle.drafts.specs.Encoding.{row_bytes, trailer, file_bytes}
-use Rattle.drafts.specs.EncodingLaws.{length-file_bytes}
+use Rattle.drafts.proofs.EncodingLaws.{length-file_bytes}
 use Rattle.drafts.specs.Conversion.{draft_reading, Conversion, ConversionNumbers, refused_with, written, too_large, written_or, numbers, conversion, area_after}
 use Rattle.drafts.specs.Promise.{ConversionPromise}
 use Rattle.drafts.proofs.Kept.{conversion-refused, conversion-accepted, promise-kept}

@@ -12,7 +12,7 @@ use Rattle.concepts.specs.Role.{inverse}
 use Rattle.concepts.specs.Concept.{as_inclusion, Table, concept_at, role_of}
 use Rattle.concepts.specs.ConceptLaws.{as_inclusion-some}
 use Rattle.concepts.specs.Inclusion.{Relation, chained, including, narrower_by, narrower}
-use Rattle.concepts.specs.InclusionLaws.{by-inclusion, by-other, by-none, narrower-all}
+use Rattle.concepts.proofs.InclusionLaws.{by-inclusion, by-other, by-none, narrower-all}
 use Rattle.concepts.specs.RowSet.{mem, empty, union, single}
 use Rattle.concepts.specs.RowSetLaws.{mem-union, mem-single, union-empty}
 use Rattle.decoding.specs.RowParts.{kind_of}

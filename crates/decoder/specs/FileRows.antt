@@ -11,7 +11,7 @@ use Rattle.rulefile.specs.Format.{rows_part}
 use Rattle.decoding.specs.Decoding.{rule_kinds, concept_of, malformed}
 use Rattle.rulefile.specs.Checks.{Parted, PassedAll}
 use Rattle.rulefile.specs.CheckLaws.{parted, accepted-contents, accepted-passed, accepted-parted}
-use Rattle.rulefile.specs.FormatLaws.{row-formed, contents-admitted, accepted-admitted}
+use Rattle.rulefile.proofs.FormatLaws.{row-formed, contents-admitted, accepted-admitted}
 use Rattle.problem.specs.Rows.{row_byte, row_count, concept_in, table_in, Rows, ListsRows}
 use Rattle.decoder.specs.RowLaws.{length-table_in}
 

@@ -12,11 +12,11 @@ use Rattle.concepts.specs.Lists.{Bytes}
 use Rattle.rulefile.specs.Format.{wanted_rows, RuleFile, Reading, refused, accepted, reading}
 use Rattle.rulefile.specs.Checks.{FileRefusal}
 use Rattle.rulefile.specs.CheckLaws.{refused-number, accepted-contents}
-use Rattle.rulefile.specs.FormatLaws.{accepted-admitted}
+use Rattle.rulefile.proofs.FormatLaws.{accepted-admitted}
 use Rattle.decoding.specs.Decoding.{draft_kinds}
 use Rattle.drafts.specs.Normalize.{normalized}
 use Rattle.drafts.specs.Encoding.{file_bytes}
-use Rattle.drafts.specs.EncodingLaws.{written_back}
+use Rattle.drafts.proofs.EncodingLaws.{written_back}
 use Rattle.drafts.specs.Conversion.{draft_reading, Conversion, refused_with, too_large, written_or, conversion_of, conversion, numbers, area_after}
 use Rattle.drafts.specs.Promise.{ConversionRight, ConversionPromise}
 use Rattle.drafts.proofs.Normalized.{normalized-writable, normalized-keeps}

@@ -2,3 +2,11 @@
 pub mod Normalized
 pub mod Kept
 pub mod Verdict
+pub mod EncodingLaws
+pub mod InclusionRowLaws
+pub mod MeaningLaws
+pub mod NeededLaws
+pub mod PutLaws
+pub mod PutListLaws
+pub mod ShareLaws
+pub mod SoundLaws

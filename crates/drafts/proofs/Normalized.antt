@@ -25,12 +25,13 @@ use Rattle.drafts.specs.Encoding.{file_bytes}
 use Rattle.drafts.specs.Conversion.{too_large}
 use Rattle.drafts.specs.Promise.{Needed, by_rule, by_kit, by_row, Same, Keeps}
 use Rattle.drafts.specs.Sound.{Idle, Sound, Writable}
-use Rattle.drafts.specs.PutLaws.{put-grown}
-use Rattle.drafts.specs.SoundLaws.{put-sound}
-use Rattle.drafts.specs.InclusionRowLaws.{inclusion_rows-sound}
-use Rattle.drafts.specs.NeededLaws.{Reaches, itself, through, reaches-grown}
-use Rattle.drafts.specs.MeaningLaws.{MeansRow, put-means}
-use Rattle.drafts.specs.PutListLaws.{ListGrown, put_list-grown, put_list-sound}
+use Rattle.drafts.proofs.PutLaws.{put-grown}
+use Rattle.drafts.proofs.SoundLaws.{put-sound}
+use Rattle.drafts.proofs.InclusionRowLaws.{inclusion_rows-sound}
+use Rattle.drafts.specs.NeededLaws.{Reaches}
+use Rattle.drafts.proofs.NeededLaws.{itself, through, reaches-grown}
+use Rattle.drafts.proofs.MeaningLaws.{MeansRow, put-means}
+use Rattle.drafts.proofs.PutListLaws.{ListGrown, put_list-grown, put_list-sound}
 
 -- ---- a list of rows at its places in a table that has all of them
 

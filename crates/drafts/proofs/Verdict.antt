@@ -19,7 +19,7 @@ use Rattle.run.specs.Promise as Engine
 use Rattle.run.specs.Promise.{NotShort, SaysCannot, SaysCan}
 use Rattle.drafts.specs.Conversion.{ConversionNumbers, draft_reading}
 use Rattle.drafts.specs.Promise.{Same, Keeps, ConversionPromise}
-use Rattle.drafts.specs.InclusionRowLaws.{obeys-inclusions}
+use Rattle.drafts.proofs.InclusionRowLaws.{obeys-inclusions}
 
 -- ---- what is said of the draft
 

@@ -6,13 +6,7 @@ pub mod Conversion
 pub mod Promise
 pub mod Sound
 pub mod ShapeLaws
-pub mod ShareLaws
-pub mod PutLaws
-pub mod SoundLaws
-pub mod InclusionRowLaws
-pub mod NeededLaws
 pub mod ShapeMeaning
-pub mod MeaningLaws
-pub mod PutListLaws
-pub mod EncodingLaws
 pub mod KnownConversions
+pub mod NeededLaws
+pub mod ShareLaws

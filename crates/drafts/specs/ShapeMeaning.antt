@@ -12,7 +12,7 @@ use Rattle.std.proofs.Common.{inl, inr, ⊎_elim, T_not}
 use Rattle.std.proofs.Math.Dec.{not_T}
 use Rattle.concepts.specs.Concept.{Concept, atomic, negated, conj, disj, univ, exist, inclusion, neg, impl, is_inclusion}
 use Rattle.meaning.specs.Meaning.{leads, Means, World, finite}
-use Rattle.meaning.specs.FiniteLaws.{T-decided, if-decided, all-or-not}
+use Rattle.meaning.proofs.FiniteLaws.{T-decided, if-decided, all-or-not}
 use Rattle.drafts.specs.Normalize.{Sign, Shape, literal, other, unary, binary, shape}
 
 -- ---- parts that mean the same

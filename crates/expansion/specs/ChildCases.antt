@@ -9,7 +9,7 @@ use Prim.Native.Nat.{ℕ, zero, suc, ◌*◌, ◌<◌}
 use Rattle.concepts.specs.Lists.{Bytes}
 use Rattle.concepts.specs.RowSet.{RowSet, insert, union}
 use Rattle.procedure.specs.SetTests.{lowest_conj, lowest_disj}
-use Rattle.procedure.specs.SetTestLaws.{lowest_conj-lt, lowest_disj-lt}
+use Rattle.procedure.proofs.SetTestLaws.{lowest_conj-lt, lowest_disj-lt}
 use Rattle.procedure.specs.Graph.{Node, ◌>>=◌, node_at}
 use Rattle.procedure.specs.Tableau.{no_role, put, put_kit, put_successors, expand_state, expand_disj, expand_conj}
 use Rattle.procedure.specs.TableauLaws.{expand-conj}

@@ -6,7 +6,7 @@ use Rattle.concepts.specs.Lists.{Bytes}
 use Rattle.concepts.specs.Tests.{from-true}
 use Rattle.concepts.specs.RowSetLaws.{missing-all}
 use Rattle.procedure.specs.Status.{«open», is_open}
-use Rattle.procedure.specs.StatusLaws.{is_open_lem}
+use Rattle.procedure.proofs.StatusLaws.{is_open_lem}
 use Rattle.procedure.specs.SetTests.{lowest_conj}
 use Rattle.procedure.specs.Graph.{Graph, Capacity, reached, ◌>>=◌, node_at, node_count}
 use Rattle.procedure.specs.Tableau.{judge, put, update_parents, update, expand_conj}

@@ -7,7 +7,7 @@ use Rattle.std.proofs.Common.{sym, ap, ◌∙◌, arith}
 use mathlib.Core.List.{List, [], ◌∷◌, Memᴰ}
 use Rattle.concepts.specs.RowSet.{RowSet}
 use Rattle.procedure.specs.SetTests.{existentials}
-use Rattle.procedure.specs.SetTestLaws.{existentials-lt}
+use Rattle.procedure.proofs.SetTestLaws.{existentials-lt}
 use Rattle.procedure.specs.Graph.{Graph, Capacity, Result, for_each, node_at}
 use Rattle.procedure.specs.Tableau.{put, successor, put_successors}
 use Rattle.procedure.proofs.ExpandFit.{successor-puts}

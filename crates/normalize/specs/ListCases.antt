@@ -12,7 +12,7 @@ use Rattle.concepts.specs.Concept.{Table}
 use Rattle.rulefile.specs.Format.{most_rows}
 use Rattle.drafts.specs.Normalize as Normalize
 use Rattle.drafts.specs.Normalize.{as_is, put, put_list}
-use Rattle.drafts.specs.PutListLaws.{put_list-grown}
+use Rattle.drafts.proofs.PutListLaws.{put_list-grown}
 use Rattle.normalize.specs.declared.Placement.TheVariants.{At, Full}
 use Rattle.normalize.specs.declared.Listed.TheVariants as Listed
 use Rattle.normalize.specs.Words.{rows_in, Held}

@@ -15,9 +15,9 @@ use Rattle.decoding.specs.RowParts.{of_parts}
 use Rattle.rulefile.specs.Format.{row_count, most_rows}
 use Rattle.drafts.specs.Normalize as Normalize
 use Rattle.drafts.specs.Normalize.{Sign, other, stands, share, put_shape, put}
-use Rattle.drafts.specs.ShareLaws.{place_of-at, place_of-nowhere, share-found, share-new, share-gives}
+use Rattle.drafts.proofs.ShareLaws.{place_of-at, place_of-nowhere, share-found, share-new, share-gives}
 use Rattle.drafts.specs.ShapeLaws.{shape_rows}
-use Rattle.drafts.specs.PutLaws.{rows_named, put_as, put-grown}
+use Rattle.drafts.proofs.PutLaws.{rows_named, put_as, put-grown}
 use Rattle.normalize.specs.declared.Shape.{Shape}
 use Rattle.normalize.specs.declared.Shape.TheVariants.{Literal, Other, Unary, Binary}
 use Rattle.normalize.specs.declared.Placement.{Placement}

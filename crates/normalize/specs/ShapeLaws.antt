@@ -16,7 +16,7 @@ use Rattle.decoding.specs.RowPartLaws.{Parts}
 use Rattle.rulefile.specs.Format.{row_count, wanted_rows, row_byte, concept_in}
 use Rattle.rulefile.specs.Checks.{Parted}
 use Rattle.rulefile.specs.CheckLaws.{parted}
-use Rattle.rulefile.specs.FormatLaws.{contents-parts, contents-admitted}
+use Rattle.rulefile.proofs.FormatLaws.{contents-parts, contents-admitted}
 use Rattle.drafts.specs.Normalize.{Sign, shape}
 use Rattle.drafts.specs.Sound.{Idle}
 use Rattle.normalize.specs.Shapes.{IsLiteral, IsModal, IsPair, table_of, ShapeAt, written_kind, form_of}

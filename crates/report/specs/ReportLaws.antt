@@ -7,11 +7,12 @@ use Rattle.std.proofs.Math.Path.{ap₂}
 use Rattle.concepts.specs.Lists.{Bytes}
 use Rattle.rulefile.specs.Format.{wanted_rows}
 use Rattle.run.specs.Run.{Areas, Lengths, lengths, Numbers}
-use Rattle.run.specs.RunLaws.{Room, answer-room}
+use Rattle.run.specs.RunLaws.{Room}
+use Rattle.run.proofs.RunLaws.{answer-room}
 use Rattle.run.specs.Promise.{Promise}
 use Rattle.run.specs.Printed.{printed}
 use Rattle.run.specs.Program.{program_areas, program_text}
-use Rattle.run.specs.ProgramLaws.{lengths-program_areas}
+use Rattle.run.proofs.ProgramLaws.{lengths-program_areas}
 use Rattle.words.specs.Sizes.{set_size, link_size}
 use Rattle.printing.specs.Printing.{element_most, Prints}
 use Rattle.printing.specs.PrintingLaws.{prints-within, prints-size, prints-text, prints-rest}

@@ -9,7 +9,7 @@ use Rattle.std.proofs.Math.Bool.{false}
 use Rattle.std.proofs.Math.Option.{some}
 use Rattle.concepts.specs.Lists.{Bytes, NoneBelow}
 use Rattle.procedure.specs.Status.{unset, is_unset, is_live}
-use Rattle.procedure.specs.StatusLaws.{is-unset}
+use Rattle.procedure.proofs.StatusLaws.{is-unset}
 use Rattle.procedure.specs.Problem.{Problem}
 use Rattle.procedure.specs.Graph.{Node, Graph, Capacity, Result, reached, ◌>>=◌, node_count, node_at, lowest_unset}
 use Rattle.procedure.specs.GraphLaws.{lowest_unset-some}

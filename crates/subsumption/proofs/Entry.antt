@@ -12,18 +12,19 @@ use lib.ListN.{length}
 use Rattle.concepts.specs.Lists.{Bytes}
 use Rattle.concepts.specs.Concept.{atomic, negated, concept_at, NoInclusion, Ordered}
 use Rattle.meaning.specs.Meaning.{Model, finite, Holds}
-use Rattle.meaning.specs.MeaningLaws.{holds_as}
+use Rattle.meaning.proofs.MeaningLaws.{holds_as}
 use Rattle.decoding.specs.Decoding.{rule_kinds}
 use Rattle.rulefile.specs.Format.{wanted_rows, RuleFile, accepted, reading, reading_for}
-use Rattle.rulefile.specs.FormatLaws.{accepted-admitted}
-use Rattle.rulefile.specs.WantedLaws.{wanting, reading-wanting}
+use Rattle.rulefile.proofs.FormatLaws.{accepted-admitted}
+use Rattle.rulefile.specs.WantedLaws.{wanting}
+use Rattle.rulefile.proofs.WantedLaws.{reading-wanting}
 use Rattle.procedure.specs.Graph.{Area, room_for, FindsNoPlace}
 use Rattle.procedure.specs.Example.{Example, world_of}
 use Rattle.run.specs.Run.{Lengths, capacity, Answer, refused_file, short, cannot, can, too_long, undefined, answer_for, answer_result}
 use Rattle.run.specs.Claim.{Shows}
 use Rattle.run.proofs.Verdict.{Backs, answer-accepted, answer-backed}
 use Rattle.subsumption.specs.Names.{positive, negative, names}
-use Rattle.subsumption.specs.NameLaws.{names-positive, names-negative}
+use Rattle.subsumption.proofs.NameLaws.{names-positive, names-negative}
 use Rattle.subsumption.specs.Catalogue.{entry_of, entry}
 use Rattle.subsumption.specs.Promise.{Counterexample, ran_for, EntryRight}
 

@@ -19,7 +19,7 @@ use Rattle.rulefile.specs.Checks.{FileRefusal}
 use Rattle.rulefile.specs.CheckLaws.{refused-number}
 use Rattle.run.specs.Run.{Lengths}
 use Rattle.subsumption.specs.Names.{names, row_after_row}
-use Rattle.subsumption.specs.NameLaws.{length-row_after_row, get_or-row_after_row}
+use Rattle.subsumption.proofs.NameLaws.{length-row_after_row, get_or-row_after_row}
 use Rattle.subsumption.specs.Catalogue.{Areas, lent, entry, Catalogue, refused_with, listed, listed_in, catalogue_reading, catalogue}
 use Rattle.subsumption.specs.Catalogue.{refusal_alone, numbers, areas_after}
 use Rattle.subsumption.specs.Promise.{EntryRight, entry_at, TableRight, CataloguePromise}

@@ -4,3 +4,5 @@ pub mod Kept
 pub mod Order
 pub mod Most
 pub mod Stays
+pub mod NameCountLaws
+pub mod NameLaws

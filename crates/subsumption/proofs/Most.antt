@@ -9,8 +9,8 @@ use borrow.Author.Tests.{eqb-true, eqb-false}
 use Rattle.concepts.specs.Lists.{Bytes}
 use Rattle.decoding.specs.Decoding.{rule_kinds}
 use Rattle.rulefile.specs.Format.{wanted_rows, RuleFile, Reading, refused, accepted, reading}
-use Rattle.rulefile.specs.FormatLaws.{accepted-admitted}
-use Rattle.subsumption.specs.NameCountLaws.{names-half}
+use Rattle.rulefile.proofs.FormatLaws.{accepted-admitted}
+use Rattle.subsumption.proofs.NameCountLaws.{names-half}
 use Rattle.subsumption.specs.Catalogue.{Areas, CatalogueNumbers}
 use Rattle.subsumption.specs.Promise.{CataloguePromise}
 

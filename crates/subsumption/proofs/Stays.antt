@@ -12,7 +12,7 @@ use Rattle.rulefile.specs.WantedLaws.{wanting}
 use Rattle.procedure.specs.Graph.{Area}
 use Rattle.run.specs.Run.{Lengths, Answer, refused_file, short, cannot, can, too_long, undefined, answer_for, numbers}
 use Rattle.run.specs.Promise.{SaysShort}
-use Rattle.run.specs.ShortLaws.{short_refusal-least}
+use Rattle.run.proofs.ShortLaws.{short_refusal-least}
 use Rattle.run.proofs.Verdict.{Backs, answer-backed}
 use Rattle.run.proofs.Enlarged.{Enlarged}
 use Rattle.run.proofs.Theorem.{only-the-short-area-helps}

@@ -3,5 +3,3 @@
 pub mod Names
 pub mod Catalogue
 pub mod Promise
-pub mod NameLaws
-pub mod NameCountLaws

@@ -13,7 +13,7 @@ use Rattle.concepts.specs.RowSet.{RowSet, empty}
 use Rattle.procedure.specs.Status.{unset, unsat}
 use Rattle.procedure.specs.Problem.{Problem}
 use Rattle.procedure.specs.SetTests.{clash, unfinished, lacking}
-use Rattle.procedure.specs.SetTestLaws.{lacking-no-role}
+use Rattle.procedure.proofs.SetTestLaws.{lacking-no-role}
 use Rattle.procedure.specs.Graph.{Node, Graph, Capacity, Result, ◌>>=◌, add_edge, node_at, node_count}
 use Rattle.procedure.specs.GraphLaws.{Child}
 use Rattle.procedure.proofs.Sure.{Sure}

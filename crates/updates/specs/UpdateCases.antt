@@ -8,7 +8,7 @@ use Rattle.concepts.specs.Lists.{Bytes}
 use Rattle.concepts.specs.Tests.{from-true}
 use Rattle.concepts.specs.RowSetLaws.{missing-all}
 use Rattle.procedure.specs.Status.{«open», is_open}
-use Rattle.procedure.specs.StatusLaws.{is_open_lem}
+use Rattle.procedure.proofs.StatusLaws.{is_open_lem}
 use Rattle.procedure.specs.Problem.{Problem}
 use Rattle.procedure.specs.Graph.{Node, Graph, Capacity, Result, node_at}
 use Rattle.procedure.proofs.Sure.{Sure}

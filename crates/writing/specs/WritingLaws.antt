@@ -23,7 +23,7 @@ use Rattle.words.specs.Sizes.{node_size, set_size, link_size, width}
 use Rattle.rowset.specs.SetOf.{set_of}
 use Rattle.problem.specs.Decoded.{table_of, Decoded}
 use Rattle.listing.specs.Evaluation.{evaluated}
-use Rattle.listing.specs.EvaluationLaws.{length-evaluated}
+use Rattle.listing.proofs.EvaluationLaws.{length-evaluated}
 use Rattle.listing.specs.Layout.{element_at, link_at, element_bytes, link_bytes, links_in, world_in}
 use Rattle.listing.specs.LayoutLaws.{link_record, length-element_bytes, length-link_bytes, link_bytes-snoc, LinkFits, links-back}
 use Rattle.evaluation.specs.Holding.{Holding}

@@ -13,7 +13,7 @@ use Rattle.concepts.specs.Concept.{Table, concept_at, arguments, Ordered, NoIncl
 use Rattle.drafts.specs.Normalize.{Sign, Shape, literal, other, unary, binary, shape, Put, stands, share, put_shape, put_below, put}
 use Rattle.drafts.specs.Sound.{Idle}
 use Rattle.drafts.specs.ShapeLaws.{shape_rows, shape-rows}
-use Rattle.drafts.specs.ShareLaws.{share-gives, shared-settled}
+use Rattle.drafts.proofs.ShareLaws.{share-gives, shared-settled}
 
 -- ---- the clause
 

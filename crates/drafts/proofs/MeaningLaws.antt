@@ -7,12 +7,13 @@ use mathlib.Core.Logic.Iff
 use Rattle.concepts.specs.Begins.{Begins, begins-trans}
 use Rattle.concepts.specs.Concept.{Concept, Table, concept_at, Ordered, NoInclusion}
 use Rattle.meaning.specs.Meaning.{World, finite, Means, Holds}
-use Rattle.meaning.specs.MeaningLaws.{holds-clause, holds_as}
-use Rattle.meaning.specs.FiniteLaws.{holds-decided}
+use Rattle.meaning.proofs.MeaningLaws.{holds-clause, holds_as}
+use Rattle.meaning.proofs.FiniteLaws.{holds-decided}
 use Rattle.drafts.specs.Normalize.{Sign, Shape, literal, other, unary, binary, shape, Put, put}
 use Rattle.drafts.specs.Sound.{Idle}
-use Rattle.drafts.specs.ShareLaws.{Shared, share-gives, shared-here}
-use Rattle.drafts.specs.PutLaws.{GrownStep, put-idle-induction}
+use Rattle.drafts.specs.ShareLaws.{Shared}
+use Rattle.drafts.proofs.ShareLaws.{share-gives, shared-here}
+use Rattle.drafts.proofs.PutLaws.{GrownStep, put-idle-induction}
 use Rattle.drafts.specs.ShapeMeaning.{Signed, ShapeMeans, shape-means}
 
 equal-types : {A B : Type 0} → A ≡ B → A ↔ B

@@ -21,7 +21,7 @@ use Rattle.meaning.specs.Meaning.{Interpretation, ObeysInclusions}
 use Rattle.decoding.specs.RowParts.{in_range}
 use Rattle.drafts.specs.Normalize.{same_row, inclusion_rows}
 use Rattle.drafts.specs.Sound.{Sound}
-use Rattle.drafts.specs.ShareLaws.{same_row-path}
+use Rattle.drafts.proofs.ShareLaws.{same_row-path}
 
 -- ---- a choice of elements
 

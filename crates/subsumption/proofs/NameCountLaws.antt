@@ -14,7 +14,7 @@ use Rattle.concepts.specs.ListLaws.{select-mem, range-mem}
 use Rattle.concepts.specs.Counting.{Distinct, distinct-below}
 use Rattle.concepts.specs.Concept.{atomic, negated, Table, concept_at}
 use Rattle.subsumption.specs.Names.{positive, negative, has_both, names}
-use Rattle.subsumption.specs.NameLaws.{names-positive, names-negative}
+use Rattle.subsumption.proofs.NameLaws.{names-positive, names-negative}
 
 -- ---- no name is listed twice
 

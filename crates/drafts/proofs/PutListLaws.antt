@@ -14,9 +14,10 @@ use Rattle.concepts.specs.Concept.{Table, concept_at, Ordered, NoInclusion}
 use Rattle.decoding.specs.RowParts.{in_range}
 use Rattle.drafts.specs.Normalize.{as_is, Put, stands, put, PutList, put_list}
 use Rattle.drafts.specs.Sound.{Idle, Sound}
-use Rattle.drafts.specs.PutLaws.{put-grown}
-use Rattle.drafts.specs.SoundLaws.{put-sound}
-use Rattle.drafts.specs.NeededLaws.{Reaches, reaches-grown, put-reaches}
+use Rattle.drafts.proofs.PutLaws.{put-grown}
+use Rattle.drafts.proofs.SoundLaws.{put-sound}
+use Rattle.drafts.specs.NeededLaws.{Reaches}
+use Rattle.drafts.proofs.NeededLaws.{reaches-grown, put-reaches}
 
 module _ (t : Table) (ordered : Ordered t) where
   pub record ListGrown (ks : List ℕ) (out : Table) (q : PutList) : Type 0 where

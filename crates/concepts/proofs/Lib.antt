@@ -1,0 +1,2 @@
+-- Theorems on the definitions of specs/ that rest on what a must-fail edit changes (docs/PORT.md, Moved theorems).
+pub mod InclusionLaws
