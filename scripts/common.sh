@@ -1,7 +1,7 @@
 # What the commands in the root of the repository share: ./fit, ./convert, ./catalogue, ./show and ./library begin by sourcing it.
 #
-# A command ends with 0 if it gives what was asked for, 1 with a refusal, 2 if reading, writing or building failed. A Rattle program has no
-# exit status and takes a read error for the end of its input; so input and output go through files, and are judged here.
+# A command ends with 0 if it gives what was asked for, 1 with a refusal, 2 if reading, writing or building failed. A Rattle program says no
+# more by its status than that it read and wrote; so input and output go through files, and are judged here.
 #
 # In order: the shell and its streams; messages; the words of a call; input; judging and handing over an output; building; programs in Rust.
 
@@ -154,10 +154,18 @@ is_rule_file() {
     [ $((trailer[0] + 256 * trailer[1] + 4 * trailer[2] + trailer[3] + 8)) -eq "$(wc -c <"$1")" ]
 }
 
-# Runs the program on what was read; a whole output is a refusal or passes the test that is named.
+# Runs the program on what was read; a whole output is a refusal or passes the test that is named. A program that can't write ends with 1;
+# whether that is for want of room is tried with more than the longest answer.
 run_program() {
-  "$root/target/bin/$1" <"$work/input" >"$work/output" || fail "the program ended with status $?"
-  is_refusal "$work/output" || "$2" "$work/output" || fail "the answer was not written in full: is there room in ${TMPDIR:-/tmp}?"
+  local status
+  "$root/target/bin/$1" <"$work/input" >"$work/output"
+  status=$?
+  if [ "$status" -eq 0 ]; then
+    is_refusal "$work/output" || "$2" "$work/output" && return
+  elif [ "$status" -ne 1 ] || head -c 1048576 /dev/zero >"$work/room" 2>/dev/null; then
+    fail "the program ended with status $status"
+  fi
+  fail "the answer was not written in full: is there room in ${TMPDIR:-/tmp}?"
 }
 
 # Copies the output.
@@ -167,12 +175,29 @@ hand_over() {
 
 # ---- building
 
-# Was the result built after the last change of what it is made of (the crates, and the further files that are named)?
+# The names in each crate's folder, but for out/, where rt has its work: it comes and goes, and the time of the folder with it.
+names_in_crates() (
+  cd -- "$root" && find crates -mindepth 2 -maxdepth 2 ! -name out | LC_ALL=C sort
+)
+
+# Was the result built after the last change of what it is made of (the crates, and the further files that are named)? Of a crate's own folder
+# the names count, and not the time.
 is_built() {
   local stamp=$1 result=$2 newer
+  local out=(-path 'crates/*/out' ! -path 'crates/*/*/out') own=(-type d -path 'crates/*' ! -path 'crates/*/*')
   shift 2
   [ -e "$stamp" ] && [ -e "$result" ] || return 1
-  newer=$(find "$root/crates" "$root/crates.txt" "$@" -newer "$stamp" -print -quit) && [ -z "$newer" ]
+  newer=$(cd -- "$root" && find crates crates.txt "$@" \( "${out[@]}" -prune \) -o -newer "$stamp" ! \( "${own[@]}" \) -print -quit) &&
+    [ -z "$newer" ] && [ "$(names_in_crates)" = "$(<"$stamp")" ]
+}
+
+# Begins what is_built looks at later: the stamp has the time before anything is read, and the names at that time.
+begin() {
+  mkdir -p -- "$root/target/built" && names_in_crates >|"$1.begun" || fail "target/ can't be written"
+}
+
+end() {
+  mv -- "$1.begun" "$1" || fail "target/ can't be written"
 }
 
 # Holds the lock of this folder while a command builds: two at once would spoil each other's work.
@@ -188,22 +213,35 @@ unlock() {
   exec 9<&-
 }
 
-# Builds a result of the crates with `rt`, which proves them, unless that is done: prove NAME RESULT WORDS.., the words being those for rt.
+# Builds a result of a crate with `rt`, which proves it and all below it, unless that is done: prove CRATE RESULT COMMAND. The command is that
+# of rt, lib or run. It leaves the result in the crate's out/, and is called there; here is a copy, since rt takes away what is there.
 prove() {
-  local name=$1 result=$2 stamp=$root/target/built/$1
-  shift 2
+  local crate=$1 result=$2 command=$3 stamp=$root/target/built/$1
   is_built "$stamp" "$result" && return
   command -v rt >/dev/null || fail "the Rattle toolchain, rt, is not installed: README.md, Try it, says where it comes from"
   lock
   if ! is_built "$stamp" "$result"; then
     [ -n "${announced-}" ] || say "proving, 5 to 15 minutes, once (less if it was done before and little has changed since)"
     announced=yes
-    mkdir -p -- "$root/target/built" && touch -- "$stamp.begun" || fail "target/ can't be written"
-    (cd -- "$root" && TMPDIR=$work rt "$@") </dev/null >&2 && [ -e "$result" ] || fail "rt $* failed: its last lines say why"
-    mv -- "$stamp.begun" "$stamp" || fail "target/ can't be written"
+    begin "$stamp"
+    call_rt "$crate" "${result##*/}" "$command" || fail "rt $command in crates/$crate failed: its last lines say why"
+    mkdir -p -- "${result%/*}" && cp -- "$root/crates/$crate/out/${result##*/}" "$stamp.new" && mv -- "$stamp.new" "$result" ||
+      fail "target/ can't be written"
+    end "$stamp"
   fi
   unlock
 }
+
+# Has rt make the file in the crate's out/ anew. What it says goes to standard error; `rt run` speaks there by itself, and also runs the
+# program, on nothing: what that writes is thrown away.
+call_rt() (
+  cd -- "$root/crates/$1" && rm -f -- "out/$2" || exit 1
+  export TMPDIR=$work
+  case $3 in
+    run) rt run </dev/null >/dev/null ;;
+    *) rt "$3" </dev/null >&2 ;;
+  esac && [ -e "out/$2" ]
+)
 
 # ---- programs in Rust
 
@@ -222,10 +260,10 @@ build_rust() {
   need_cargo
   lock
   if ! is_rust_built "$program"; then
-    touch -- "$stamp.begun" || fail "target/ can't be written"
+    begin "$stamp"
     (cd -- "$root/rust" && env -u CARGO_BUILD_TARGET cargo build --release --offline --quiet --target-dir "$root/rust/target" \
       -p prose --bin "$program") </dev/null >&2 || fail "cargo could not build the program; Rust 1.88 or later is needed"
-    mv -- "$stamp.begun" "$stamp" || fail "target/ can't be written"
+    end "$stamp"
   fi
   unlock
 }

@@ -11,20 +11,21 @@ import sys
 
 ROOT = pathlib.Path(__file__).resolve().parent.parent
 ASKED = {"report": {"answers"}}
-LISTED = re.compile(r"^(\w+):(.*)$", re.MULTILINE)
-IN_PROOFS = re.compile(r"Rattle·([a-z_]+)")
+LISTED = re.compile(r"^(\w+)(?: staticlib)?:(.*)$", re.MULTILINE)
+IN_PROOFS = re.compile(r"\bRattle\.([a-z_]+)\.")
 IN_CODE = re.compile(r"\b([a-z_]+)::")
 COMMENT = re.compile(r"^\s*(//|--).*$", re.MULTILINE)
 
 
 def named(crate):
     """The words of a crate's files that may name a crate."""
-    for path in (ROOT / "crates" / crate).rglob("*"):
-        if path.suffix in (".antt", ".rt"):
-            text = COMMENT.sub("", path.read_text())
-            yield from IN_PROOFS.findall(text)
-            if path.suffix == ".rt":
-                yield from IN_CODE.findall(text)
+    for part in ("src", "specs", "proofs"):
+        for path in (ROOT / "crates" / crate / part).rglob("*"):
+            if path.suffix in (".antt", ".rt"):
+                text = COMMENT.sub("", path.read_text())
+                yield from IN_PROOFS.findall(text)
+                if path.suffix == ".rt":
+                    yield from IN_CODE.findall(text)
 
 
 def check():

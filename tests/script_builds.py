@@ -10,7 +10,14 @@ from stand_ins import CAN, RULES, Copy
 
 PROVING = "{}: proving, 5 to 15 minutes, once (less if it was done before and little has changed since)\n"
 SAID = "rt: on standard output\nrt: on standard error\n"
+# Under `rt run` what comes on standard output is the program's, which is not shown.
+RUN = "rt: on standard error\n"
 CANNOT = "CANNOT\nUSED 1 2 3\n"
+
+
+def run_of(crate):
+    """How a program is built."""
+    return f"rt run in crates/{crate}"
 
 
 def check_builds(room):
@@ -30,26 +37,26 @@ def check_once(room, copy):
         copy.run(f"{name}: --version builds nothing", '"$R/$C" --version', 0, version(), "", [])
         copy.run(f"{name}: a wrong call builds nothing", '"$R/$C"', 2, "", None, [])
         copy.run(f"{name}: a missing file builds nothing", '"$R/$C" "$T/none"', 2, "", None, [])
-        copy.run(f"{name}: first run", '"$R/$C" "$F"', 0, answer, PROVING.format(name) + SAID, [f"rt check {name}"])
+        copy.run(f"{name}: first run", '"$R/$C" "$F"', 0, answer, PROVING.format(name) + RUN, [run_of(name)])
         copy.run(f"{name}: second run", '"$R/$C" "$F"', 0, answer, "", [])
         copy.clean()
-        copy.run(f"{name}: builds with standard error closed", '"$R/$C" "$F" 2>&-', 0, answer, "", [f"rt check {name}"])
+        copy.run(f"{name}: builds with standard error closed", '"$R/$C" "$F" 2>&-', 0, answer, "", [run_of(name)])
         copy.clean()
-        copy.run(f"{name}: builds with standard output closed", '"$R/$C" "$F" >&-', 2, "", None, [f"rt check {name}"])
+        copy.run(f"{name}: builds with standard output closed", '"$R/$C" "$F" >&-', 2, "", None, [run_of(name)])
         copy.clean()
-        copy.run(f"{name}: builds with standard input closed", '"$R/$C" "$F" <&-', 0, answer, None, [f"rt check {name}"])
+        copy.run(f"{name}: builds with standard input closed", '"$R/$C" "$F" <&-', 0, answer, None, [run_of(name)])
         copy.clean()
-        copy.run(f"{name}: rt reads nothing", 'echo rest | { "$R/$C" "$F" >/dev/null; cat; }', 0, "rest\n", None, [f"rt check {name}"])
+        copy.run(f"{name}: rt reads nothing", 'echo rest | { "$R/$C" "$F" >/dev/null; cat; }', 0, "rest\n", None, [run_of(name)])
         copy.clean()
         relative = 'cd "$T" && TMPDIR=temporary "$R/$C" file'
-        copy.run(f"{name}: builds with a relative TMPDIR", relative, 0, answer, None, [f"rt check {name}"])
+        copy.run(f"{name}: builds with a relative TMPDIR", relative, 0, answer, None, [run_of(name)])
         copy.clean()
 
 
 def check_old(room, copy):
     """A program that is older than its sources is built anew."""
     room.variables["C"] = "fit"
-    copy.run("fit: built", '"$R/fit" "$F"', 0, CAN, None, ["rt check fit"])
+    copy.run("fit: built", '"$R/fit" "$F"', 0, CAN, None, [run_of("fit")])
     crates = copy.root / "crates"
     source = crates / "fit" / "src" / "main.rt"
     for name, change in (
@@ -59,30 +66,44 @@ def check_old(room, copy):
         ("a crate is added", lambda: (crates / "third").mkdir()),
         ("a crate is removed", lambda: (crates / "third").rmdir()),
         ("a source is renamed", lambda: source.rename(source.with_name("lib.rt"))),
+        ("a folder of sources is added", lambda: (crates / "fit" / "specs").mkdir()),
+        ("a folder of sources is renamed", lambda: (crates / "fit" / "specs").rename(crates / "fit" / "proofs")),
+        ("a folder of sources is removed", lambda: (crates / "fit" / "proofs").rmdir()),
+        ("a folder out of src is added", lambda: (crates / "fit" / "src" / "out").mkdir()),
         ("crates.txt has changed", lambda: (copy.root / "crates.txt").write_text("fit:\n")),
         ("the program is gone", lambda: (copy.root / "target" / "bin" / "fit").unlink()),
     ):
         change()
-        copy.run(f"fit: {name}", '"$R/fit" "$F"', 0, CAN, PROVING.format("fit") + SAID, ["rt check fit"])
+        copy.run(f"fit: {name}", '"$R/fit" "$F"', 0, CAN, PROVING.format("fit") + RUN, [run_of("fit")])
         copy.run(f"fit: {name}, then nothing", '"$R/fit" "$F"', 0, CAN, "", [])
-    (copy.root / "scripts" / "x").write_text("")
-    copy.run("fit: what is no source has changed", '"$R/fit" "$F"', 0, CAN, "", [])
+    # rt puts the results of a crate into its out/, and `rt ci` takes that away.
+    for name, change in (
+        ("what is no source has changed", lambda: (copy.root / "scripts" / "x").write_text("")),
+        ("rt's result is newer", lambda: os.utime(crates / "fit" / "out" / "fit")),
+        ("a crate's out is added", lambda: (crates / "convert" / "out").mkdir()),
+        ("all that rt made is gone", lambda: [shutil.rmtree(made) for made in crates.glob("*/out")]),
+    ):
+        change()
+        copy.run(f"fit: {name}", '"$R/fit" "$F"', 0, CAN, "", [])
 
 
 def check_failing(room, copy):
     """A build that fails gives 2, and is tried again."""
-    failure = Last("fit: rt check fit failed: its last lines say why\n")
+    failure = Last("fit: rt run in crates/fit failed: its last lines say why\n")
     for status in ("1", "2", "127"):
         room.write("rt fails", status)
-        copy.run(f"fit: rt ends with {status}", '"$R/fit" "$F"', 2, "", failure, ["rt check fit"])
-        copy.run(f"fit: rt ends with {status} again", '"$R/fit" "$F"', 2, "", failure, ["rt check fit"])
+        copy.run(f"fit: rt ends with {status}", '"$R/fit" "$F"', 2, "", failure, [run_of("fit")])
+        copy.run(f"fit: rt ends with {status} again", '"$R/fit" "$F"', 2, "", failure, [run_of("fit")])
     room.write("rt fails", "0")
-    copy.run("fit: rt makes no program", '"$R/fit" "$F"', 2, "", failure, ["rt check fit"])
+    copy.run("fit: rt makes no program", '"$R/fit" "$F"', 2, "", failure, [run_of("fit")])
     (room.folder / "rt fails").unlink()
-    copy.run("fit: rt works again", '"$R/fit" "$F"', 0, CAN, None, ["rt check fit"])
+    copy.run("fit: rt works again", '"$R/fit" "$F"', 0, CAN, None, [run_of("fit")])
     os.utime(copy.root / "crates.txt")
     room.write("rt fails", "1")
-    copy.run("fit: an old program does not answer for a failed build", '"$R/fit" "$F"', 2, "", failure, ["rt check fit"])
+    copy.run("fit: an old program does not answer for a failed build", '"$R/fit" "$F"', 2, "", failure, [run_of("fit")])
+    room.write("a copy, with spaces/crates/fit/out/fit", "an old one")
+    room.write("rt fails", "0")
+    copy.run("fit: nor does an old result of rt", '"$R/fit" "$F"', 2, "", failure, [run_of("fit")])
     (room.folder / "rt fails").unlink()
     (copy.root / "crates.txt").rename(copy.root / "away")
     for setting in ("", "POSIXLY_CORRECT=1 "):
@@ -96,7 +117,7 @@ def check_failing(room, copy):
 
 def check_missing(room, copy):
     """Without a tool the sentence says what to do, before anything is built."""
-    tools = "bash env sh realpath mkdir rm head find flock cat cmp wc grep tail od touch mv cp sed cc ar ranlib ln sleep".split()
+    tools = "bash env sh realpath mkdir rm head find flock cat cmp wc grep tail od touch mv cp sed sort cc ar ranlib ln sleep".split()
     toolchain = "the Rattle toolchain, rt, is not installed: README.md, Try it, says where it comes from\n"
     rust = "cargo is not installed: Rust 1.88 or later is needed, for instance from https://rustup.rs\n"
     for lacking, name, sentence in (
@@ -122,7 +143,7 @@ def check_missing(room, copy):
 def check_answers(room, copy):
     """Only a whole answer is handed over."""
     for command in ("fit", "convert"):
-        copy.run(f"{command}: built", f'"$R/{command}" "$F"', 0, None, None, [f"rt check {command}"])
+        copy.run(f"{command}: built", f'"$R/{command}" "$F"', 0, None, None, [run_of(command)])
     cut = f"{{}}: the answer was not written in full: is there room in {room.temporary}?\n"
     halves = [CAN[:length] for length in range(0, len(CAN), 3)] + [CANNOT[:length] for length in (3, 6, 7, 15, 17)]
     garbage = ["REFUSED", "REFUSED 5", "REFUSED \n", "REFUSED x\n", "REFUSED 5\n\n", "REFUSED 5\nREFUSED 5\n", " REFUSED 5\n", "refused 5\n", "CAN x y\n",
@@ -154,7 +175,7 @@ def holding(room, copy, name):
 def check_two(room, copy):
     """Two at once: the second waits, and builds nothing more than it needs."""
     waits = "{}: another command is building here; waiting for it (5 to 15 minutes, if it began just now)\n"
-    for second, answer, calls in (("fit", CAN, ["rt check fit"]), ("convert", RULES, ["rt check fit", "rt check convert"])):
+    for second, answer, calls in (("fit", CAN, [run_of("fit")]), ("convert", RULES, [run_of("fit"), run_of("convert")])):
         copy.clean()
         first = holding(room, copy, "fit")
         other = room.start(f'exec "$R/{second}" "$F"')
@@ -164,14 +185,14 @@ def check_two(room, copy):
         room.same(f"fit and {second} at once: statuses", (room.ended(first), room.ended(other)), (0, 0))
         room.same(f"fit and {second} at once: the first answer", (room.folder / "first").read_text(), CAN)
         room.check(f"fit and {second} at once: the second answer", "" if (room.folder / "stdout").read_bytes() == answer_bytes(answer) else "another")
-        room.same(f"fit and {second} at once: the first says", (room.folder / "first said").read_text(), PROVING.format("fit") + SAID)
+        room.same(f"fit and {second} at once: the first says", (room.folder / "first said").read_text(), PROVING.format("fit") + RUN)
         room.same(f"fit and {second} at once: the calls", copy.calls(), calls)
     room.same("two at once: nothing is left", list(room.temporary.iterdir()), [])
 
 
 def check_two_in_rust(room, copy):
     """./show beside another, while cargo builds; and beside ./catalogue, while the library is proved: each thing is built once."""
-    cargo = "cargo build --release --offline --quiet --target-dir {0}/rust/target -p prose --bin {1}/rust"
+    cargo = "cargo build --release --offline --quiet --target-dir {0}/rust/target -p prose --bin {1} in rust"
     show, catalogue = (cargo.format(copy.root, name) for name in ("show", "catalogue"))
     for name in ("show", "catalogue"):
         room.write(name, "echo done\n")
@@ -208,10 +229,10 @@ def check_interrupted(room, copy):
             room.wait_for(f"building, {name}: the next waits", lambda: "waiting" in (room.folder / "stderr").read_text())
             (room.folder / "hold").unlink()
             room.same(f"building, {name}: the next answers", (room.ended(following), (room.folder / "stdout").read_text()), (0, CAN))
-            room.same(f"building, {name}: the calls", copy.calls(), ["rt check fit", "rt check fit"])
+            room.same(f"building, {name}: the calls", copy.calls(), [run_of("fit")] * 2)
         else:
             (room.folder / "hold").unlink()
-            copy.run(f"building, {name}: the next", '"$R/fit" "$F"', 0, CAN, PROVING.format("fit") + SAID, ["rt check fit", "rt check fit"])
+            copy.run(f"building, {name}: the next", '"$R/fit" "$F"', 0, CAN, PROVING.format("fit") + RUN, [run_of("fit")] * 2)
 
 
 def check_deaf(room, copy):
@@ -224,10 +245,10 @@ def check_deaf(room, copy):
     room.same("building, rt ignores SIGINT: the status", room.ended(process), -signal.SIGINT)
     room.same("building, rt ignores SIGINT: nothing is printed", (room.folder / "first").read_text(), "")
     (room.folder / "deaf").unlink()
-    copy.run("building, rt ignores SIGINT: the next", '"$R/fit" "$F"', 0, CAN, None, ["rt check fit", "rt check fit"])
+    copy.run("building, rt ignores SIGINT: the next", '"$R/fit" "$F"', 0, CAN, None, [run_of("fit")] * 2)
 
 
-ARCHIVES = ["rt staticlib gumbyra", "rt staticlib gumbyra_more"]
+ARCHIVES = ["rt lib in crates/gumbyra", "rt lib in crates/gumbyra_more"]
 LAID_OUT = ["include/gumbyra.h", "lib/libgumbyra.a", "lib/libgumbyra.so", "lib/pkgconfig/gumbyra.pc"]
 
 
@@ -283,11 +304,11 @@ def check_library_anew(room, copy):
 
 def check_rust(room, copy):
     """./catalogue and ./show: the library first, then cargo, then the program with its words and its status."""
-    cargo = "cargo build --release --offline --quiet --target-dir {0}/rust/target -p prose --bin {1} in {0}/rust"
+    cargo = "cargo build --release --offline --quiet --target-dir {0}/rust/target -p prose --bin {1} in rust"
     for name in ("catalogue", "show"):
         copy.clean()
         room.variables["C"] = name
-        build = [cargo.format(copy.root, name).replace(f" in {copy.root}/rust", "/rust")]
+        build = [cargo.format(copy.root, name)]
         room.write(name, 'printf "<%s>" "$@"; echo; pwd; echo told >&2; exit "${STATUS:-0}"\n')
         wrong = f"{name}: a file is to be named\n{usage(name)}"
         copy.run(f"{name}: --help builds nothing", '"$R/$C" --help', 0, usage(name), "", [])
@@ -344,5 +365,5 @@ def check_rust_builds(room, copy, name, build):
     copy.run(f"{name}: cargo fails no more", '"$R/$C" x', 0, "done\n", "", build)
     os.utime(copy.root / "crates.txt")
     room.write("rt fails", "1")
-    copy.run(f"{name}: rt fails", '"$R/$C" x', 2, "", Last("library: rt staticlib gumbyra failed: its last lines say why\n"), ARCHIVES[:1])
+    copy.run(f"{name}: rt fails", '"$R/$C" x', 2, "", Last("library: rt lib in crates/gumbyra failed: its last lines say why\n"), ARCHIVES[:1])
     (room.folder / "rt fails").unlink()

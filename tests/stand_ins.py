@@ -20,10 +20,10 @@ echo "rt: on standard error" >&2 || exit 1
 sleep 0.02
 while [ -e "$T/hold" ]; do sleep 0.02; done
 [ ! -e "$T/rt fails" ] || exit "$(cat "$T/rt fails")"
-mkdir -p target/bin target/staticlib
+mkdir -p out
 case $1 in
-  check) cp "$T/program" "target/bin/$2" ;;
-  staticlib) cp "$T/lib.a" "target/staticlib/lib$2.a" ;;
+  run) cp "$T/program" "out/${PWD##*/}" ;;
+  lib) cp "$T/lib.a" "out/lib${PWD##*/}.a" ;;
 esac
 """
 STAND_IN_CARGO = """#!/bin/sh
@@ -56,8 +56,8 @@ class Copy:
         for name in COPIED:
             (shutil.copytree if (ROOT / name).is_dir() else shutil.copy2)(ROOT / name, self.root / name)
         room.write("a copy, with spaces/crates.txt", "fit:\nconvert:\n")
-        room.write("a copy, with spaces/crates/fit/src/main.rt", "fn main() {}\n")
-        room.write("a copy, with spaces/crates/convert/src/main.rt", "fn main() {}\n")
+        for crate in ("fit/src/main.rt", "convert/src/main.rt", "gumbyra/src/lib.rt", "gumbyra_more/src/lib.rt"):
+            room.write(f"a copy, with spaces/crates/{crate}", "fn main() {}\n")
         for name in ("Cargo.toml", "Cargo.lock", "engine/src/lib.rs", "prose/src/lib.rs"):
             room.write(f"a copy, with spaces/rust/{name}", "")
         self.program("bin/rt", STAND_IN_RT)
@@ -85,15 +85,15 @@ class Copy:
             self.room.write(name, f'cat >/dev/null; cat "$T/{name}.answer"\n')
 
     def calls(self):
-        """How the stand-ins were called since the last look, without the folder if it is the copy's own."""
+        """How the stand-ins were called since the last look, and where in the copy."""
         log = self.room.folder / "calls"
         lines = log.read_text().splitlines() if log.exists() else []
         log.write_text("")
-        return [line.replace(f" in {self.root}", "") for line in lines]
+        return [line.replace(f" in {self.root}/", " in ") for line in lines]
 
     def clean(self):
         """Nothing is built."""
-        for folder in (self.root / "target", self.root / "rust" / "target"):
+        for folder in (self.root / "target", self.root / "rust" / "target", *self.root.glob("crates/*/out")):
             shutil.rmtree(folder, ignore_errors=True)
         self.calls()
 
