@@ -14,7 +14,7 @@ use Rattle.drafts.specs.ShapeLaws.{ShapeWritten, shape-written}
 use Rattle.drafts.specs.ShareLaws.{Shared}
 use Rattle.drafts.proofs.ShareLaws.{share-gives}
 use Rattle.drafts.proofs.PutLaws.{GrownStep, put-grown-induction}
-use Rattle.drafts.specs.NeededLaws.{Reaches, NewReached}
+use Rattle.drafts.specs.NeededLaws.{Reaches, itself, through, NewReached}
 
 reaches-on : {u : Table} {i j k : ℕ} → Reaches u i j → Reaches u j k → Reaches u i k
 reaches-on r itself = r

@@ -28,8 +28,8 @@ use Rattle.drafts.specs.Sound.{Idle, Sound, Writable}
 use Rattle.drafts.proofs.PutLaws.{put-grown}
 use Rattle.drafts.proofs.SoundLaws.{put-sound}
 use Rattle.drafts.proofs.InclusionRowLaws.{inclusion_rows-sound}
-use Rattle.drafts.specs.NeededLaws.{Reaches}
-use Rattle.drafts.proofs.NeededLaws.{itself, through, reaches-grown}
+use Rattle.drafts.specs.NeededLaws.{Reaches, itself, through}
+use Rattle.drafts.proofs.NeededLaws.{reaches-grown}
 use Rattle.drafts.proofs.MeaningLaws.{MeansRow, put-means}
 use Rattle.drafts.proofs.PutListLaws.{ListGrown, put_list-grown, put_list-sound}
 

@@ -2,7 +2,7 @@
 --
 -- In order: rows with the same four bytes are equal; the first equal row (`place_of-at`, `place_of-nowhere`); what sharing a row gives (`Shared`, `share-gives`);
 -- a row that is shared once is found again as the table grows (`shared-settled`).
-use Rattle.std.specs.Prelude.{◌≡◌, refl, Bool, true, ◌&&◌, cond, [], ◌∷◌, ◌++◌, ℕ, ◌+◌, ◌≤◌, ◌<◌, eqb, length}
+use Rattle.std.specs.Prelude.{◌≡◌, refl, true, ◌&&◌, cond, [], ◌∷◌, ◌++◌, ℕ, ◌+◌, ◌≤◌, ◌<◌, eqb, length}
 use Rattle.std.proofs.Common.{sym, ap, ◌∙◌, subst, inl, inr, eqb→eq, length-append, get_or-append-add}
 use Rattle.std.proofs.Math.Option.{Option, none, some}
 use native.Mathlib.Omega.{arith}
@@ -17,7 +17,7 @@ use Rattle.concepts.specs.Concept.{Concept, atomic, Table, concept_at, role_of}
 use Rattle.decoding.specs.RowParts.{kind_of, left_of, right_of}
 use Rattle.decoding.specs.RowPartLaws.{same_parts_lem}
 use Rattle.drafts.specs.Normalize.{same_row, place_of, Put, stands, share}
-use Rattle.drafts.specs.ShareLaws.{Shared}
+use Rattle.drafts.specs.ShareLaws.{equal_at, Shared}
 
 -- ---- rows with the same four bytes
 
@@ -41,25 +41,21 @@ same_row-refl c =
 -- ---- the first equal row
 
 module _ (c : Concept) (out : Table) where
-  -- row k is equal to c
-  abbrev pub equal_at : ℕ → Bool
-  equal_at k = same_row c (concept_at out k)
-
   abbrev answer : ℕ → Option ℕ
-  answer k = cond (equal_at k) (some k) none
+  answer k = cond (equal_at c out k) (some k) none
 
-  passed : (k : ℕ) → k ≤ length out → NoneBelow equal_at k → (j : ℕ) → j < k → answer (get_or (range 0 (length out)) j 0) ≡ none
+  passed : (k : ℕ) → k ≤ length out → NoneBelow (equal_at c out) k → (j : ℕ) → j < k → answer (get_or (range 0 (length out)) j 0) ≡ none
   passed k h n j l =
       let e : get_or (range 0 (length out)) j 0 ≡ j = get_or-range 0 (length out) j 0 (omega arith) ∙ omega arith in
       rw (e, n j l)
 
-  pub place_of-at : (k : ℕ) → k < length out → NoneBelow equal_at k → equal_at k ≡ true → place_of c out ≡ some k
+  pub place_of-at : (k : ℕ) → k < length out → NoneBelow (equal_at c out) k → equal_at c out k ≡ true → place_of c out ≡ some k
   unfolding place_of
   place_of-at k h n e =
       let p : get_or (range 0 (length out)) k 0 ≡ k = get_or-range 0 (length out) k 0 h ∙ omega arith in
       first-at answer (range 0 (length out)) 0 k k (omega (arith, length-range 0 (length out))) (passed k (omega arith) n) (rw (p, e))
 
-  pub place_of-nowhere : NoneBelow equal_at (length out) → place_of c out ≡ none
+  pub place_of-nowhere : NoneBelow (equal_at c out) (length out) → place_of c out ≡ none
   unfolding place_of
   place_of-nowhere n = first-nowhere answer (range 0 (length out)) 0 (λ j l. passed (length out) (omega arith) n j (omega (arith, length-range 0 (length out))))
 

@@ -15,7 +15,8 @@ use Rattle.decoding.specs.RowParts.{in_range}
 use Rattle.drafts.specs.Normalize.{Sign, Shape, literal, other, unary, binary, shape, same_row, Put, share, put}
 use Rattle.drafts.specs.Sound.{Idle, Sound}
 use Rattle.drafts.specs.ShapeLaws.{RowLike, ShapeWritten, shape-written}
-use Rattle.drafts.proofs.ShareLaws.{equal_at, share-gives, concept_at-last}
+use Rattle.drafts.specs.ShareLaws.{equal_at}
+use Rattle.drafts.proofs.ShareLaws.{share-gives, concept_at-last}
 use Rattle.drafts.proofs.PutLaws.{GrownStep, put-idle-induction}
 
 -- a row that others can name: it is there, and no inclusion

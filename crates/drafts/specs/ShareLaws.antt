@@ -1,9 +1,16 @@
 -- A row that is shared. Theorems on them are in proofs/ShareLaws.
-use Rattle.std.specs.Prelude.{◌≡◌, [], ◌∷◌, ◌++◌, ◌⊎◌, ◌+◌, ◌<◌, length}
+use Rattle.std.specs.Prelude.{◌≡◌, Bool, ℕ, [], ◌∷◌, ◌++◌, ◌⊎◌, ◌<◌, length}
 use Rattle.concepts.specs.Lists.{NoneBelow}
 use Rattle.concepts.specs.Begins.{Begins}
 use Rattle.concepts.specs.Concept.{Concept, Table, concept_at}
-use Rattle.drafts.specs.Normalize.{Put}
+use Rattle.drafts.specs.Normalize.{same_row, Put}
+
+-- ---- the first equal row
+
+module _ (c : Concept) (out : Table) where
+  -- row k is equal to c
+  abbrev pub equal_at : ℕ → Bool
+  equal_at k = same_row c (concept_at out k)
 
 -- ---- what sharing a row gives
 

@@ -16,7 +16,8 @@ use Rattle.decoding.specs.RowParts.{kind_of, left_of, right_of, of_parts}
 use Rattle.decoding.specs.RowPartLaws.{kind_of-lt}
 use Rattle.rulefile.specs.Format.{most_rows}
 use Rattle.drafts.specs.Normalize.{same_row}
-use Rattle.drafts.proofs.ShareLaws.{equal_at, same_row-path, same_row-refl}
+use Rattle.drafts.specs.ShareLaws.{equal_at}
+use Rattle.drafts.proofs.ShareLaws.{same_row-path, same_row-refl}
 use Rattle.normalize.specs.Words.{word_of, row_in, Own, rows_in, Held, Finds}
 use Rattle.normalize.specs.Shapes.{IsLiteral, IsModal, IsPair}
 
