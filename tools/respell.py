@@ -12,7 +12,7 @@ import os
 import re
 import subprocess
 
-WORD = re.compile(r"(?<![A-Za-z0-9])[a-z][a-z0-9]*(?:[A-Z][a-z0-9]*)+")
+WORD = re.compile(r"(?<![A-Za-z0-9_])[a-z][a-z0-9]*(?:[A-Z][a-z0-9]*)+")
 STRING = re.compile(r"b?\"(?:[^\"\\]|\\.)*\"|b?'(?:[^'\\]|\\.)'")
 QUOTED = re.compile(r"\"(?:[^\"\\\n]|\\.)*\"")
 
@@ -39,7 +39,7 @@ def snake(word):
     word = word.group(0)
     if word == "getD":
         return "get_or"
-    return re.sub(r"([a-z0-9])([A-Z])", lambda m: m.group(1) + "_" + m.group(2).lower(), word)
+    return re.sub(r"[A-Z]", lambda m: "_" + m.group(0).lower(), word)
 
 
 def turned(path, text):
