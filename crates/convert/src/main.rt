@@ -22,7 +22,8 @@ fn output(draft: &[u8], area: &mut [u8; AREA]) -> usize
     ensures { Outputs draft.now area.new result }
 {
     let conversion = convert(draft, area);
-    if conversion.refusal == 0 {
+    let written = conversion.refusal == 0;
+    if written {
         return conversion.length as usize;
     }
     line_of_one(area, 0, b"REFUSED", conversion.refusal)
