@@ -117,7 +117,7 @@ def check_failing(room, copy):
 
 def check_missing(room, copy):
     """Without a tool the sentence says what to do, before anything is built."""
-    tools = "bash env sh realpath mkdir rm head find flock cat cmp wc grep tail od touch mv cp sed sort cc ar ranlib ln sleep".split()
+    tools = "bash env sh realpath mkdir rm head find flock cat cmp wc grep tail od touch mv cp sed sort cc ar ranlib sleep".split()
     toolchain = "the Rattle toolchain, rt, is not installed: README.md, Try it, says where it comes from\n"
     rust = "cargo is not installed: Rust 1.88 or later is needed, for instance from https://rustup.rs\n"
     for lacking, name, sentence in (
@@ -268,6 +268,7 @@ def check_library(room, copy):
     proving = PROVING.format("library") + SAID * 2
     copy.run("library: the first time", '"$R/library"', 0, "", proving, ARCHIVES)
     room.same("library: what is there", [name for name in LAID_OUT if not (laid_out / name).exists()], [])
+    room.same("library: links, which rt ci refuses", [path.name for path in laid_out.rglob("*") if path.is_symlink()], [])
     copy.run("library: the second time", '"$R/library"', 0, "", "", [])
     copy.run("library: a folder", 'cd "$T" && "$R/library" "new folder"', 0, "", "", [])
     room.same("library: what is in the folder", [name for name in LAID_OUT if not (room.folder / "new folder" / name).exists()], [])
