@@ -2,8 +2,7 @@
 --
 -- In order: the rows of the names; the names; an entry; a row of entries; all rows; the answer.
 -- Laws are in NameCases, EntryCases, FillCases and ListedLaws.
-use Rattle.std.specs.Prelude.{◌≡◌, cond, List, [], ◌∷◌, map, ℕ, ◌+◌, ◌*◌, ◌≤◌, ◌<◌, eqb, length, get_or, take, drop}
-use Rattle.std.proofs.Math.Option.{Option, none, some}
+use Rattle.std.specs.Prelude.{◌≡◌, cond, List, [], ◌∷◌, map, ℕ, ◌+◌, ◌*◌, ◌≤◌, ◌<◌, eqb, length, get_or, take, drop, Option, None, Some}
 use Rattle.concepts.specs.Lists.{Bytes, range, select}
 use Rattle.concepts.specs.Concept.{Concept, Table}
 use Rattle.concepts.specs.RowSet.{from_list}
@@ -23,7 +22,7 @@ use Rattle.catalogue.specs.declared.Page.{Page}
 
 -- the name that a row of this kind has; none of any other kind
 abbrev pub name_of : ℕ → Concept → Option ℕ
-name_of kind c = cond (eqb (kind_of c) kind) (some (left_of c)) none
+name_of kind c = cond (eqb (kind_of c) kind) (Some (left_of c)) None
 
 -- at each name, its first row of this kind from row k on; the number of rows if there is none
 pub record PlacesFrom (kind : ℕ) (t : Table) (k : ℕ) (places : List ℕ) : Type 0 where

@@ -1,11 +1,10 @@
 -- The ways through the functions that list the names, on plain values.
 --
 -- In order: a row of a kind and of a name; the rows of the names, from the last row to the first; a name more, listed or passed over; all names.
-use Rattle.std.specs.Prelude.{◌≡◌, refl, Bool, true, false, ◌&&◌, cond, ℕ, suc, ◌+◌, ◌≤◌, ◌<◌, eqb, ltb, length, get_or, take, drop, set, replicate}
+use Rattle.std.specs.Prelude.{◌≡◌, refl, Bool, true, false, ◌&&◌, cond, ℕ, suc, ◌+◌, ◌≤◌, ◌<◌, eqb, ltb, length, get_or, take, drop, set, replicate, Option, None, Some}
 use Rattle.std.proofs.Common.{sym, ◌∙◌, subst, add-one, arith, length-set, length-append, drop_of_length-le, get_or-set_same, get_or-set_other, take-suc-set, eq-eqb, ne_eqb, lt-ltb, le-ltb}
 use Rattle.std.proofs.Math.Path.{ap}
 use mathlib.Core.List.{List, [], ◌∷◌, ◌++◌, map, map-id, append-nil}
-use Rattle.std.proofs.Math.Option.{Option, none, some}
 use Rattle.std.proofs.Math.Decide.{ℕ_discrete}
 use Rattle.std.proofs.lemmas.List.{length-replicate, get_or-replicate}
 use Rattle.concepts.specs.Tests.{and-nothing}
@@ -30,7 +29,7 @@ named_by : (kind a : ℕ) (c : Concept) → of_name (name_of kind) a c ≡ (eqb 
 unfolding of_name
 named_by kind a c = go (eqb (kind_of c) kind)
   where
-    go : (b : Bool) → same_name (some a) (cond b (some (left_of c)) none) ≡ (b && eqb a (left_of c))
+    go : (b : Bool) → same_name (Some a) (cond b (Some (left_of c)) None) ≡ (b && eqb a (left_of c))
     go true = refl
     go false = refl
 

@@ -1,7 +1,6 @@
 -- Laws of Findings: a row that names an inclusion.
-use Rattle.std.specs.Prelude.{◌≡◌, List, ℕ}
+use Rattle.std.specs.Prelude.{◌≡◌, List, ℕ, Option}
 use Rattle.std.proofs.Common.{ap, ◌∙◌}
-use Rattle.std.proofs.Math.Option.{Option}
 use Rattle.concepts.specs.Lists.{Bytes, any}
 use Rattle.decoding.specs.Decoding.{Kinds}
 use Rattle.decoding.specs.Named.{rows_of}

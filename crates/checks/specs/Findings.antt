@@ -1,6 +1,5 @@
 -- What checks 5 to 8 look for in each row or rule.
-use Rattle.std.specs.Prelude.{Bool, List, ℕ, leb}
-use Rattle.std.proofs.Math.Option.{Option}
+use Rattle.std.specs.Prelude.{Bool, List, ℕ, leb, Option}
 use Rattle.concepts.specs.Lists.{Bytes, range, any}
 use Rattle.decoding.specs.Decoding.{Kinds}
 use Rattle.decoding.specs.Named.{named_rows}

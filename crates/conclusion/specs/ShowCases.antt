@@ -1,10 +1,9 @@
 -- The cases after "can", on plain values: the example does not fit, or it is written.
-use Rattle.std.specs.Prelude.{◌≡◌, Bool, true, false, ℕ, ◌*◌, ◌≤◌, ◌<◌}
+use Rattle.std.specs.Prelude.{◌≡◌, Bool, true, false, ℕ, ◌*◌, ◌≤◌, ◌<◌, Option, Some}
 use Rattle.std.proofs.Math.Path.{sym, ap, ap₂}
 use Rattle.std.proofs.Common.{◌∙◌, arith, leb→le}
 use Rattle.std.proofs.Math.Bool.{◌&&◌}
 use mathlib.Core.List.{List, Memᴰ}
-use Rattle.std.proofs.Math.Option.{Option, some}
 use Rattle.std.proofs.Math.Dec.{leb}
 use Rattle.std.proofs.Math.ListN.{length}
 use Rattle.concepts.specs.Tests.{and_both, from-true}
@@ -34,11 +33,11 @@ use Rattle.conclusion.specs.declared.Decision.TheVariants.{Can, TooLong}
 pub used-counts : (w : Work) (c : Counts) → used (graph_of w c) ≡ used_of c
 used-counts w c = cc (count-nodes w c, count-edges w c, count-alternatives w c)
 
-answer-fits : (l : Lengths) (u : Used) (x : Example) → fits l x ≡ true → answer_can l u (some x) ≡ can u x
+answer-fits : (l : Lengths) (u : Used) (x : Example) → fits l x ≡ true → answer_can l u (Some x) ≡ can u x
 unfolding answer_can
 answer-fits l u x e = rw (e, answer_can)
 
-answer-unfit : (l : Lengths) (u : Used) (x : Example) → fits l x ≡ false → answer_can l u (some x) ≡ too_long x
+answer-unfit : (l : Lengths) (u : Used) (x : Example) → fits l x ≡ false → answer_can l u (Some x) ≡ too_long x
 unfolding answer_can
 answer-unfit l u x e = rw (e, answer_can)
 
@@ -94,7 +93,7 @@ module _ {ws : List ℕ} {n e : Bytes} {c : Counts} {A : WalkAsks ws (nodes_edge
         (ap₂ (λ (m k : ℕ). leb (link_size * m) k) (sizes A W).1 (ap length hl))
         ∙ sym t.test ∙ hv
 
-    found : (a : Bytes) → answer_can l (used (graph_of (work n e a) c)) (shown (table_of ws) (graph_of (work n e a) c)) ≡ answer_can l (used_of c) (some (x A W))
+    found : (a : Bytes) → answer_can l (used (graph_of (work n e a) c)) (shown (table_of ws) (graph_of (work n e a) c)) ≡ answer_can l (used_of c) (Some (x A W))
     found a = ap₂ (λ (u : Used) (o : Option Example). answer_can l u o) (used-counts (work n e a) c)
         (shown-some (table_of ws) (graph_of (work n e a) c) (placed A W) (W.walked a))
 

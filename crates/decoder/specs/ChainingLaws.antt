@@ -2,10 +2,9 @@
 --
 -- In order: words left as they are; each role narrower than itself; rows that join along a role, word by word (`words-joined`); a pair of roles more;
 -- the table, what is said of the rows, and the words in use; row by row; all.
-use Rattle.std.specs.Prelude.{◌≡◌, refl, Bool, true, false, ◌&&◌, ◌||◌, cond, List, ◌⊎◌, ℕ, suc, ◌+◌, ◌-◌, ◌*◌, ◌≤◌, ◌<◌, eqb, ltb, length, get_or}
+use Rattle.std.specs.Prelude.{◌≡◌, refl, Bool, true, false, ◌&&◌, ◌||◌, cond, List, ◌⊎◌, ℕ, suc, ◌+◌, ◌-◌, ◌*◌, ◌≤◌, ◌<◌, eqb, ltb, length, get_or, None, Some}
 use Rattle.std.proofs.Common.{sym, ap₂, ◌∙◌, subst, inl, inr, arith, eq-eqb, ne_eqb, lt-ltb, le-ltb}
 use Rattle.std.proofs.Math.Path.{ap}
-use Rattle.std.proofs.Math.Option.{none, some}
 use Rattle.std.proofs.Math.Decide.{ℕ_discrete}
 use Rattle.concepts.specs.Tests.{impossible, or_nothing, and-nothing, and-all}
 use Rattle.concepts.specs.Role.{inverse}
@@ -163,7 +162,7 @@ module _ {ρ σ : ℕ} (hρ : ρ < 32) (hσ : σ < 32) {w v u : List ℕ} (I : I
       let same : used_of u ≡ used_of w = used-beside pair-kept (omega arith) (omega arith) in
       record {
         few = omega (arith, same, I.few);
-        none = λ c h k l.
+        None = λ c h k l.
             let test = mem c (get_or w (narrows_at + ρ) 0) in
             row-there c h k
             ∙ ap₂ (λ (x y : Bool). x || (test && y)) (I.none c h k (omega (arith, same))) (I.none σ hσ k (omega (arith, same))) ∙ and-nothing test;
@@ -208,7 +207,7 @@ module _ {w v : List ℕ} (K : RowsKept w v) where
       let same : used_of v ≡ used_of w = used-beside K (omega arith) (omega arith) in
       record {
         few = omega (arith, same, ok.used.0);
-        none = λ ρ h k l.
+        None = λ ρ h k l.
             let beyond : length (table_of w) ≤ k = omega (arith, same, ok.used.1, length-table_of w) in
             (reach ρ h).rows k ∙ ap (λ (x : Bool). x && universal R ρ (concept_at (table_of w) k)) (le-ltb k (length (table_of w)) beyond);
       }
@@ -249,12 +248,12 @@ module _ {w : List ℕ} (ok : RowsDecoded w) where
   row-relation : (n : ℕ) → n < count_of w → narrower_by t (n + 1) ≡ with_row w n (narrower_by t n)
   row-relation n h =
       let c = concept_at t n in
-      let view : as_inclusion c ≡ cond (eqb (part_of w n 0) 7) (some (part_of w n 1, part_of w n 2)) none =
+      let view : as_inclusion c ≡ cond (eqb (part_of w n 0) 7) (Some (part_of w n 1, part_of w n 2)) None =
       let parts = word-parts ok n h in
       (views-by-parts c).inclusion-is ∙ rw (parts.kind-is, parts.role-is, parts.left_is) in
       ap (narrower_by t) (omega arith) ∙ by (eqb (part_of w n 0) 7) view
     where
-      by : (x : Bool) → as_inclusion (concept_at t n) ≡ cond x (some (part_of w n 1, part_of w n 2)) none
+      by : (x : Bool) → as_inclusion (concept_at t n) ≡ cond x (Some (part_of w n 1, part_of w n 2)) None
           → narrower_by t (suc n) ≡ cond x (including (narrower_by t n) (part_of w n 1) (part_of w n 2)) (narrower_by t n)
       by true e = by-inclusion t n e
       by false e = by-other t n e
@@ -272,7 +271,7 @@ module _ {w : List ℕ} (ok : RowsDecoded w) where
         let parts = word-parts ok n h in
         let view = (views-by-parts (concept_at t n)).inclusion-is in
         let kind : kind_of (concept_at t n) ≡ 7 = parts.kind-is ∙ sym (part-kept 0) ∙ e in
-        let is : as_inclusion (concept_at t n) ≡ some (part_of w n 1, part_of w n 2) =
+        let is : as_inclusion (concept_at t n) ≡ Some (part_of w n 1, part_of w n 2) =
         view ∙ rw (eq-eqb (kind_of (concept_at t n)) 7 kind, parts.role-is, parts.left_is) in
         let (p, q) = inclusion-roles ok n (part_of w n 1) (part_of w n 2) (as_inclusion-some (concept_at t n) (part_of w n 1, part_of w n 2) is) in
         (omega (arith, part-kept 1), omega (arith, part-kept 2))

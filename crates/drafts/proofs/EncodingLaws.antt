@@ -4,12 +4,11 @@
 -- where each part stands, of any file (`trailer_byte-file_bytes`, `first_row-file_bytes`, `row_bytes-file_bytes`, `rule-file_bytes`);
 -- of a file that is `Writable`: its rows are decoded to themselves (`decode-file_bytes`), each check passes (`bad_length-file_bytes` to `passed-file_bytes`),
 -- the bytes hold the file (`contents-file_bytes`), so it reads as it was written (`written_back`).
-use Rattle.std.specs.Prelude.{◌≡◌, refl, Bool, ℕ, zero, suc, ◌+◌, ◌-◌, ◌*◌, ◌<◌, ltb, take}
+use Rattle.std.specs.Prelude.{◌≡◌, refl, Bool, ℕ, zero, suc, ◌+◌, ◌-◌, ◌*◌, ◌<◌, ltb, take, Some}
 use Rattle.std.proofs.Math.Path.{sym, ap}
 use Rattle.std.proofs.Common.{◌∙◌, not-suc-le-zero, le_of_suc-le-suc, zero-add, arith, length-append, get_or-append-add}
 use Rattle.std.proofs.Math.Bool.{false, not}
 use mathlib.Core.List.{List, [], ◌∷◌, ◌++◌, append_assoc}
-use Rattle.std.proofs.Math.Option.{some}
 use Rattle.std.proofs.Math.Nat.{mod-add-div}
 use Rattle.std.proofs.Math.Decide.{dec_lt}
 use Rattle.std.proofs.Math.Dec.{eqb, leb}
@@ -142,7 +141,7 @@ module _ (f : RuleFile) (W : Writable f) where
 
   decode-file_bytes : (k : ℕ) → k < length f.table
       → decode rule_kinds (row_byte (file_bytes f) k 0) (row_byte (file_bytes f) k 1) (row_byte (file_bytes f) k 2) (row_byte (file_bytes f) k 3)
-      ≡ some (concept_at f.table k)
+      ≡ Some (concept_at f.table k)
   decode-file_bytes k h = cc (row_bytes-file_bytes f k h, decode-own (concept_at f.table k) (W.sound.normal k) (W.sound.ranged k))
 
   concept_in-file_bytes : (k : ℕ) → k < length f.table → concept_in rule_kinds (file_bytes f) k ≡ concept_at f.table k
@@ -211,10 +210,10 @@ module _ (f : RuleFile) (W : Writable f) where
   -- what is no inclusion in the table is none by its bytes
   inclusion_at-file_bytes : (k : ℕ) → NoInclusion f.table k → inclusion_at (file_bytes f) k ≡ false
   unfolding inclusion_at bad_row
-  inclusion_at-file_bytes k none = elim (dec_lt k (length f.table)) [
+  inclusion_at-file_bytes k None = elim (dec_lt k (length f.table)) [
     | yes h ↦
         let parts = row-parts rule_kinds _ _ _ _ (bad_row-file_bytes k h) in
-        let other : eqb (row_byte (file_bytes f) k 0) 7 ≡ false = sym parts.inclusion-is ∙ ap is_inclusion (concept_in-file_bytes k h) ∙ as-false _ none in
+        let other : eqb (row_byte (file_bytes f) k 0) 7 ≡ false = sym parts.inclusion-is ∙ ap is_inclusion (concept_in-file_bytes k h) ∙ as-false _ None in
         rw other (and-nothing (ltb k (row_count (file_bytes f))))
     | no g ↦ rw (le-ltb k (row_count (file_bytes f)) (omega (arith, row_count-file_bytes f)))
   ]

@@ -3,11 +3,10 @@
 -- In order: a choice of elements keeps what holds of each two; each row is an inclusion of the draft; the rows are sound (`inclusion_rows-sound`);
 -- a table that begins with them and has no other inclusions is obeyed by the same worlds in this (`obeys-inclusions`).
 -- Assumes nothing.
-use Rattle.std.specs.Prelude.{◌≡◌, refl, Bool, true, false, not, ◌↔◌, ℕ, zero, suc, ◌≤◌, ◌<◌, get_or}
+use Rattle.std.specs.Prelude.{◌≡◌, refl, Bool, true, false, not, ◌↔◌, ℕ, zero, suc, ◌≤◌, ◌<◌, get_or, Option, None, Some}
 use Rattle.std.proofs.Common.{sym, ◌∙◌, not-suc-le-zero, le_of_suc-le-suc, arith}
 use Rattle.std.proofs.Math.Path.{subst}
 use mathlib.Core.List.{List, [], ◌∷◌, Memᴰ}
-use Rattle.std.proofs.Math.Option.{Option, none, some}
 use Rattle.std.proofs.Math.Decide.{dec_lt}
 use Rattle.std.proofs.Math.Dec.{T, not_T}
 use Rattle.std.proofs.Math.ListN.{length, get_or-eq_default}
@@ -53,9 +52,9 @@ module _ {A : Type 0} (R : A → A → Type 0) (d : A) (f : A → Bool) where
 is-inclusion : (c : Concept) → T (is_inclusion c) → (ρ : ℕ) × (σ : ℕ) × (c ≡ inclusion ρ σ)
 is-inclusion c = by (as_inclusion c) refl
   where
-    by : (o : Option (ℕ × ℕ)) → as_inclusion c ≡ o → T (elim o [ some i ↦ true | none ↦ false ]) → (ρ : ℕ) × (σ : ℕ) × (c ≡ inclusion ρ σ)
-    by (some i) e h = (i.0, i.1, as_inclusion-some c i e)
-    by none e h = absurd h
+    by : (o : Option (ℕ × ℕ)) → as_inclusion c ≡ o → T (elim o [ Some i ↦ true | None ↦ false ]) → (ρ : ℕ) × (σ : ℕ) × (c ≡ inclusion ρ σ)
+    by (Some i) e h = (i.0, i.1, as_inclusion-some c i e)
+    by None e h = absurd h
 
 module _ (t : Table) where
   row-mem : (c : Concept) → Memᴰ c (inclusion_rows t) → Memᴰ c t × T (is_inclusion c)

@@ -2,9 +2,8 @@
 --
 -- In order: rows with the same four bytes are equal; the first equal row (`place_of-at`, `place_of-nowhere`); what sharing a row gives (`Shared`, `share-gives`);
 -- a row that is shared once is found again as the table grows (`shared-settled`).
-use Rattle.std.specs.Prelude.{◌≡◌, refl, true, ◌&&◌, cond, [], ◌∷◌, ◌++◌, ℕ, ◌+◌, ◌≤◌, ◌<◌, eqb, length}
+use Rattle.std.specs.Prelude.{◌≡◌, refl, true, ◌&&◌, cond, [], ◌∷◌, ◌++◌, ℕ, ◌+◌, ◌≤◌, ◌<◌, eqb, length, Option, None, Some}
 use Rattle.std.proofs.Common.{sym, ap, ◌∙◌, subst, inl, inr, eqb→eq, length-append, get_or-append-add}
-use Rattle.std.proofs.Math.Option.{Option, none, some}
 use native.Mathlib.Omega.{arith}
 use Rattle.std.proofs.Math.Dec.{eqb_refl}
 use Rattle.std.proofs.Math.ListN.{get_or}
@@ -42,28 +41,28 @@ same_row-refl c =
 
 module _ (c : Concept) (out : Table) where
   abbrev answer : ℕ → Option ℕ
-  answer k = cond (equal_at c out k) (some k) none
+  answer k = cond (equal_at c out k) (Some k) None
 
-  passed : (k : ℕ) → k ≤ length out → NoneBelow (equal_at c out) k → (j : ℕ) → j < k → answer (get_or (range 0 (length out)) j 0) ≡ none
+  passed : (k : ℕ) → k ≤ length out → NoneBelow (equal_at c out) k → (j : ℕ) → j < k → answer (get_or (range 0 (length out)) j 0) ≡ None
   passed k h n j l =
       let e : get_or (range 0 (length out)) j 0 ≡ j = get_or-range 0 (length out) j 0 (omega arith) ∙ omega arith in
       rw (e, n j l)
 
-  pub place_of-at : (k : ℕ) → k < length out → NoneBelow (equal_at c out) k → equal_at c out k ≡ true → place_of c out ≡ some k
+  pub place_of-at : (k : ℕ) → k < length out → NoneBelow (equal_at c out) k → equal_at c out k ≡ true → place_of c out ≡ Some k
   unfolding place_of
   place_of-at k h n e =
       let p : get_or (range 0 (length out)) k 0 ≡ k = get_or-range 0 (length out) k 0 h ∙ omega arith in
       first-at answer (range 0 (length out)) 0 k k (omega (arith, length-range 0 (length out))) (passed k (omega arith) n) (rw (p, e))
 
-  pub place_of-nowhere : NoneBelow (equal_at c out) (length out) → place_of c out ≡ none
+  pub place_of-nowhere : NoneBelow (equal_at c out) (length out) → place_of c out ≡ None
   unfolding place_of
   place_of-nowhere n = first-nowhere answer (range 0 (length out)) 0 (λ j l. passed (length out) (omega arith) n j (omega (arith, length-range 0 (length out))))
 
-  pub share-found : (k : ℕ) → place_of c out ≡ some k → share c out ≡ stands out k
+  pub share-found : (k : ℕ) → place_of c out ≡ Some k → share c out ≡ stands out k
   unfolding share
   share-found k e = rw (e, share)
 
-  pub share-new : place_of c out ≡ none → share c out ≡ stands (out ++ c ∷ []) (length out)
+  pub share-new : place_of c out ≡ None → share c out ≡ stands (out ++ c ∷ []) (length out)
   unfolding share
   share-new e = rw (e, share)
 

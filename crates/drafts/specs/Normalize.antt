@@ -3,8 +3,7 @@
 -- In order: what becomes of a row; where equal rows are shared; a row with all that it needs; a list of rows; the inclusions; the file.
 -- A row that was written before is found again with all that it needs, so the definition need not remember which rows were written; the code does (`Grown` in PutLaws).
 -- Assumes nothing.
-use Rattle.std.specs.Prelude.{Bool, true, false, not, ◌&&◌, cond, List, [], ◌∷◌, ◌++◌, ℕ, zero, suc, eqb, length}
-use Rattle.std.proofs.Math.Option.{Option, none, some}
+use Rattle.std.specs.Prelude.{Bool, true, false, not, ◌&&◌, cond, List, [], ◌∷◌, ◌++◌, ℕ, zero, suc, eqb, length, Option, None, Some}
 use Rattle.concepts.specs.Lists.{range, select, first}
 use Rattle.concepts.specs.Concept.{Concept, atomic, negated, conj, disj, univ, exist, inclusion, neg, impl, Table, concept_at, role_of, is_inclusion}
 use Rattle.decoding.specs.RowParts.{kind_of, left_of, right_of}
@@ -56,7 +55,7 @@ same_row c d = eqb (kind_of c) (kind_of d) && (eqb (role_of c) (role_of d) && (e
 
 -- the place of the first row that is equal to this one
 unfoldable pub place_of : Concept → Table → Option ℕ
-place_of c out = first (λ k. cond (same_row c (concept_at out k)) (some k) none) (range 0 (length out))
+place_of c out = first (λ k. cond (same_row c (concept_at out k)) (Some k) None) (range 0 (length out))
 
 -- the rows that are written, and where the row stands that was asked for
 pub record Put : Type 0 where
@@ -67,7 +66,7 @@ abbrev pub stands : Table → ℕ → Put
 stands out k = record { rows = out; at = k }
 
 unfoldable pub share : Concept → Table → Put
-share c out = elim (place_of c out) [ some k ↦ stands out k | none ↦ stands (out ++ c ∷ []) (length out) ]
+share c out = elim (place_of c out) [ Some k ↦ stands out k | None ↦ stands (out ++ c ∷ []) (length out) ]
 
 -- ---- "each comes after its arguments, left before right, as first needed"
 

@@ -1,10 +1,9 @@
 -- The ways to put the children of a node, on plain values.
 --
 -- In order: the put of a set made of the node's own; a conjunction (`Both`), or none; a disjunction (`Either`), with two puts, or none; a state; the root.
-use Rattle.std.specs.Prelude.{◌≡◌, List, ◌≢◌}
+use Rattle.std.specs.Prelude.{◌≡◌, List, ◌≢◌, Option, Some}
 use Rattle.std.proofs.Math.Path.{refl, ap}
 use Rattle.std.proofs.Common.{sym, ◌∙◌, subst}
-use Rattle.std.proofs.Math.Option.{Option, some}
 use Prim.Native.Nat.{ℕ, zero, suc, ◌*◌, ◌<◌}
 use Rattle.concepts.specs.Lists.{Bytes}
 use Rattle.concepts.specs.RowSet.{RowSet, insert, union}
@@ -59,7 +58,7 @@ module _ {ws : List ℕ} {n e a : Bytes} {c : Counts} {x : ℕ} (A : ExpandAsks 
   -- the lowest that is unfinished is of l and r
   pub record Both (l r : ℕ) : Type 0 where
     pub loaded : node_at (graph_of (work n e a) c) x ≡ node_of (set_of n (node_size * x)) v
-    pub found : lowest_conj (table_of ws) (node_at (graph_of (work n e a) c) x).rows ≡ some (l, r)
+    pub found : lowest_conj (table_of ws) (node_at (graph_of (work n e a) c) x).rows ≡ Some (l, r)
 
   module _ (hv : IsNode n x v) {q : ℕ} (hq : q ≡ node_size * x) {o : Found} (ho : found_of o ≡ lowest_conj (table_of ws) (set_of n q)) where
     conj-lowest : {b : Found} → o ≡ b → lowest_conj (table_of ws) (node_at (graph_of (work n e a) c) x).rows ≡ found_of b
@@ -110,7 +109,7 @@ module _ {ws : List ℕ} {n e a : Bytes} {c : Counts} {x : ℕ} (A : DisjAsks ws
   -- the lowest that is unfinished is of l and r
   pub record Either (l r : ℕ) : Type 0 where
     pub loaded : node_at (graph_of (work n e a) c) x ≡ node_of (set_of n (node_size * x)) v
-    pub found : lowest_disj (table_of ws) (node_at (graph_of (work n e a) c) x).rows ≡ some (l, r)
+    pub found : lowest_disj (table_of ws) (node_at (graph_of (work n e a) c) x).rows ≡ Some (l, r)
 
   module _ (hv : IsNode n x v) {q : ℕ} (hq : q ≡ node_size * x) {o : Found} (ho : found_of o ≡ lowest_disj (table_of ws) (set_of n q)) where
     disj-lowest : {b : Found} → o ≡ b → lowest_disj (table_of ws) (node_at (graph_of (work n e a) c) x).rows ≡ found_of b

@@ -1,8 +1,7 @@
 -- What the expansion of a node relies on, and what it gives. Words, areas and counts as in the tableau's contracts.
 --
 -- In order: the node that is expanded; one with no unfinished conjunction; a state; the children, by the definition's functions; the whole expansion.
-use Rattle.std.specs.Prelude.{◌≡◌, List, ℕ}
-use Rattle.std.proofs.Math.Option.{none}
+use Rattle.std.specs.Prelude.{◌≡◌, List, ℕ, None}
 use Rattle.procedure.specs.SetTests.{lowest_conj, lowest_disj}
 use Rattle.procedure.specs.Graph.{node_at}
 use Rattle.procedure.specs.Tableau.{put_kit, put_successors, expand_state, expand_disj, expand_conj, expand}
@@ -23,12 +22,12 @@ pub record ExpandAsks (ws : List ℕ) (w : Work) (c : Counts) (x : ℕ) : Type 0
 -- .. and no unfinished conjunction
 pub record DisjAsks (ws : List ℕ) (w : Work) (c : Counts) (x : ℕ) : Type 0 where
   pub node : ExpandAsks ws w c x
-  pub no_conj : lowest_conj (table_of ws) (node_at (graph_of w c) x).rows ≡ none
+  pub no_conj : lowest_conj (table_of ws) (node_at (graph_of w c) x).rows ≡ None
 
 -- .. and nothing unfinished
 pub record StateAsks (ws : List ℕ) (w : Work) (c : Counts) (x : ℕ) : Type 0 where
   pub disj : DisjAsks ws w c x
-  pub no_disj : lowest_disj (table_of ws) (node_at (graph_of w c) x).rows ≡ none
+  pub no_disj : lowest_disj (table_of ws) (node_at (graph_of w c) x).rows ≡ None
 
 -- ---- what is given
 

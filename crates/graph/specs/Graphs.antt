@@ -1,8 +1,7 @@
 -- The graph that the work areas hold, and how code on the areas refines a definition on the graph. Laws are in GraphLaws, AddLaws, SearchLaws and RefineLaws.
 --
 -- In order: the work areas; refinement (`Refines`, `Changes`); some areas, whatever the others hold; searches; the records of a node, from a place on.
-use Rattle.std.specs.Prelude.{◌≡◌, Bool, ◌&&◌, List, [], ◌∷◌, ℕ, ◌+◌, ◌*◌, ◌≤◌, ◌<◌, eqb, ltb, length, get_or}
-use Rattle.std.proofs.Math.Option.{Option, none, some}
+use Rattle.std.specs.Prelude.{◌≡◌, Bool, ◌&&◌, List, [], ◌∷◌, ℕ, ◌+◌, ◌*◌, ◌≤◌, ◌<◌, eqb, ltb, length, get_or, Option, None, Some}
 use Rattle.concepts.specs.Lists.{Bytes, NoneBelow}
 use Rattle.concepts.specs.RowSet.{RowSet, empty}
 use Rattle.procedure.specs.Graph as G
@@ -151,8 +150,8 @@ unfoldable pub is_state_with : Bytes → RowSet → ℕ → Bool
 is_state_with n s x = ltb 0 x && ((node_in n x).is_state && eqb (node_in n x).rows s)
 
 abbrev pub found_of : FoundNode → Option ℕ
-found_of (Found.At x) = some x
-found_of Found.Nothing = none
+found_of (Found.At x) = Some x
+found_of Found.Nothing = None
 
 -- no node below the one that was found passes
 abbrev pub PassedOver : FoundNode → (ℕ → Bool) → Type 0

@@ -1,11 +1,10 @@
 -- Laws of Graphs: what a search through an area finds in the graph that it holds.
 --
 -- In order: searches for a node; the records of a node, from a place on; a step along a chain; a search through the alternatives of a state.
-use Rattle.std.specs.Prelude.{◌≡◌, refl, Bool, true, false, ◌&&◌, ◌||◌, ℕ, suc, ◌+◌, ◌*◌, ◌≤◌, ◌<◌, get_or}
+use Rattle.std.specs.Prelude.{◌≡◌, refl, Bool, true, false, ◌&&◌, ◌||◌, ℕ, suc, ◌+◌, ◌*◌, ◌≤◌, ◌<◌, get_or, Option, None, Some}
 use Rattle.std.proofs.Common.{sym, ◌∙◌, arith}
 use Rattle.std.proofs.Math.Path.{ap, subst}
 use mathlib.Core.List.{List, [], ◌∷◌, ◌++◌}
-use Rattle.std.proofs.Math.Option.{Option, none, some}
 use Rattle.std.proofs.Math.Dec.{eqb, ltb}
 use Rattle.concepts.specs.Tests.{and-nothing, and-all, picks_first, picks_second}
 use Rattle.concepts.specs.Lists.{Bytes, range, NoneBelow, any, select}
@@ -51,27 +50,27 @@ module _ (n : Bytes) (x : ℕ) (s : RowSet) where
 
 -- what `lowest` asks of a node
 abbrev answer : (ℕ → Bool) → ℕ → Option ℕ
-answer f x = elim (f x) as (λ _. Option ℕ) [ true ↦ some x | false ↦ none ]
+answer f x = elim (f x) as (λ _. Option ℕ) [ true ↦ Some x | false ↦ None ]
 
-answer-some : (f : ℕ → Bool) (x : ℕ) → f x ≡ true → answer f x ≡ some x
-answer-some f x e = picks_first (some x) none (f x) e
+answer-some : (f : ℕ → Bool) (x : ℕ) → f x ≡ true → answer f x ≡ Some x
+answer-some f x e = picks_first (Some x) None (f x) e
 
-answer-none : (f : ℕ → Bool) (x : ℕ) → f x ≡ false → answer f x ≡ none
-answer-none f x e = picks_second (some x) none (f x) e
+answer-none : (f : ℕ → Bool) (x : ℕ) → f x ≡ false → answer f x ≡ None
+answer-none f x e = picks_second (Some x) None (f x) e
 
 -- a search over the nodes of a graph by a test that agrees with f on them
 module _ (f test : ℕ → Bool) (g : G.Graph) (agree : (x : ℕ) → x < G.node_count g → f x ≡ test x) where
   number : (j : ℕ) → j < G.node_count g → get_or (range 0 (G.node_count g)) j 0 ≡ j
   number j h = get_or-range 0 (G.node_count g) j 0 h ∙ omega arith
 
-  lowest-found : (x : ℕ) → x < G.node_count g → NoneBelow test x → test x ≡ true → G.lowest f g ≡ some x
+  lowest-found : (x : ℕ) → x < G.node_count g → NoneBelow test x → test x ≡ true → G.lowest f g ≡ Some x
   unfolding G.lowest
   lowest-found x h all t =
       first-at (answer f) (range 0 (G.node_count g)) 0 x x (omega (arith, length-range 0 (G.node_count g)))
       (λ j l. ap (answer f) (number j (omega arith)) ∙ answer-none f j (agree j (omega arith) ∙ all j l))
       (ap (answer f) (number x h) ∙ answer-some f x (agree x h ∙ t))
 
-  lowest-nowhere : NoneBelow test (G.node_count g) → G.lowest f g ≡ none
+  lowest-nowhere : NoneBelow test (G.node_count g) → G.lowest f g ≡ None
   unfolding G.lowest
   lowest-nowhere all =
       first-nowhere (answer f) (range 0 (G.node_count g)) 0
@@ -86,11 +85,11 @@ module _ (w : Work) (c : Counts) where
     states-agree x h = ap (λ (v : G.Node). ltb 0 x && (v.is_state && eqb v.rows s)) (graph-node w c x (omega (arith, count-nodes w c)))
 
     pub state-found : (x : ℕ) → x < c.nodes → NoneBelow (is_state_with w.nodes s) x → is_state_with w.nodes s x ≡ true
-        → G.find_state s (graph_of w c) ≡ some x
+        → G.find_state s (graph_of w c) ≡ Some x
     unfolding G.find_state
     state-found x h all t = lowest-found _ (is_state_with w.nodes s) (graph_of w c) states-agree x (omega (arith, count-nodes w c)) all t
 
-    pub state-nowhere : NoneBelow (is_state_with w.nodes s) c.nodes → G.find_state s (graph_of w c) ≡ none
+    pub state-nowhere : NoneBelow (is_state_with w.nodes s) c.nodes → G.find_state s (graph_of w c) ≡ None
     unfolding G.find_state
     state-nowhere all = lowest-nowhere _ (is_state_with w.nodes s) (graph_of w c) states-agree (λ k l. all k (omega (arith, count-nodes w c)))
 
@@ -99,11 +98,11 @@ module _ (w : Work) (c : Counts) where
   unset-agree x h = ap (λ (v : G.Node). is_unset v.status) (graph-node w c x (omega (arith, count-nodes w c)))
 
   pub unset-found : (x : ℕ) → x < c.nodes → NoneBelow (is_unset_at w.nodes) x → is_unset_at w.nodes x ≡ true
-      → G.lowest_unset (graph_of w c) ≡ some x
+      → G.lowest_unset (graph_of w c) ≡ Some x
   unfolding G.lowest_unset
   unset-found x h all t = lowest-found _ (is_unset_at w.nodes) (graph_of w c) unset-agree x (omega (arith, count-nodes w c)) all t
 
-  pub unset-nowhere : NoneBelow (is_unset_at w.nodes) c.nodes → G.lowest_unset (graph_of w c) ≡ none
+  pub unset-nowhere : NoneBelow (is_unset_at w.nodes) c.nodes → G.lowest_unset (graph_of w c) ≡ None
   unfolding G.lowest_unset
   unset-nowhere all = lowest-nowhere _ (is_unset_at w.nodes) (graph_of w c) unset-agree (λ k l. all k (omega (arith, count-nodes w c)))
 

@@ -2,11 +2,10 @@
 --
 -- In order: the root, loaded; the loop's invariant (`RoundsDone`); its start; the end, by the root's status or for want of a node without status;
 -- the node to expand (`NextToExpand`), and its expansion.
-use Rattle.std.specs.Prelude.{◌≡◌, refl, Bool, true, not, List, ℕ, zero, suc, ◌+◌, ◌-◌, ◌≤◌, ◌<◌}
+use Rattle.std.specs.Prelude.{◌≡◌, refl, Bool, true, not, List, ℕ, zero, suc, ◌+◌, ◌-◌, ◌≤◌, ◌<◌, Some}
 use Rattle.std.proofs.Common.{sym, ◌∙◌, subst, arith}
 use Rattle.std.proofs.Math.Path.{ap}
 use Rattle.std.proofs.Math.Bool.{false}
-use Rattle.std.proofs.Math.Option.{some}
 use Rattle.concepts.specs.Lists.{Bytes, NoneBelow}
 use Rattle.procedure.specs.Status.{unset, is_unset, is_live}
 use Rattle.procedure.proofs.StatusLaws.{is-unset}
@@ -94,7 +93,7 @@ module _ {ws : List ℕ} {w : Work} {c : Counts} {n' e' a' : Bytes} {d : Counts}
   -- the root is live, and x is the lowest node without status
   pub record NextToExpand (x : ℕ) : Type 0 where
     pub live : is_live (node_at h 0).status ≡ true
-    pub found : lowest_unset h ≡ some x
+    pub found : lowest_unset h ≡ Some x
     pub passed : NoneBelow (is_unset_at n') x
 
   root : 0 < d.nodes

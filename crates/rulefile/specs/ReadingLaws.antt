@@ -1,10 +1,9 @@
 -- Laws of a reading: the text as a leading part of the file; a file that is too short; files without an inclusion.
-use Rattle.std.specs.Prelude.{◌≡◌, refl, Bool, false, eqb, ltb, length, take}
+use Rattle.std.specs.Prelude.{◌≡◌, refl, Bool, false, eqb, ltb, length, take, Option, None, Some}
 use Rattle.std.proofs.Common.{sym, ap, ◌∙◌, arith, lt→ltb, lt-ltb}
 use Rattle.std.proofs.Math.Path.{ap₂}
 use Rattle.std.proofs.Math.Bool.{◌||◌}
 use mathlib.Core.List.{List, []}
-use Rattle.std.proofs.Math.Option.{Option, none, some}
 use Prim.Native.Nat.{ℕ, ◌≤◌, ◌<◌}
 use Rattle.std.proofs.Math.Decide.{dec_lt}
 use Rattle.std.proofs.Math.Dec.{ltb→lt, not_T}
@@ -37,14 +36,14 @@ module _ (kinds : Kinds) (wanted : List ℕ) (b : Bytes) where
     where
       text : Option ℕ → Bytes
       text o = elim (elim o as (λ x. Reading) [
-        | some n ↦ refused n
-        | none ↦ accepted
+        | Some n ↦ refused n
+        | None ↦ accepted
             (contents_for kinds wanted b)
       ]) [ refused n ↦ [] | accepted f ↦ f.text ]
 
       of : (o : Option ℕ) → take (length (text o)) b ≡ text o
-      of (some n) = refl
-      of none = take-length-take (first_row b) b
+      of (Some n) = refl
+      of None = take-length-take (first_row b) b
 
 -- ---- a file that is too short
 

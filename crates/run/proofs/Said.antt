@@ -1,9 +1,10 @@
 -- What a run says with no example is what the engine's answer says (`result-said`), of an accepted file.
 --
 -- In order: after "can"; by the root's status; by the result of the run.
+use Rattle.std.specs.Prelude.{}
 use mathlib.Core.Path.{◌≡◌, refl, sym, ◌∙◌}
 use mathlib.Core.Bool.{Bool, true, false}
-use mathlib.Core.Option.{Option, none, some}
+use Rattle.std.specs.Prelude.{Option, None, Some}
 use Rattle.rulefile.specs.Format.{RuleFile}
 use Rattle.procedure.specs.Status.{Status, unset, «open», sat, unsat, toosmall}
 use Rattle.procedure.specs.Graph.{Graph, Result, reached, no_place, out_of_fuel, node_at}
@@ -15,8 +16,8 @@ use Rattle.run.proofs.Verdict.{Backs}
 module _ (f : RuleFile) (l : Lengths) where
   can-said : (g : Graph) (o : Option Example) → Backs f l (answer_can l (used g) o) → said_by (answer_can l (used g) o) ≡ says_can
   unfolding answer_can said_by
-  can-said g none B = absurd B
-  can-said g (some x) B = by (fits l x)
+  can-said g None B = absurd B
+  can-said g (Some x) B = by (fits l x)
     where
       by : (b : Bool) → said_by (elim b [ true ↦ can (used g) x | false ↦ too_long x ]) ≡ says_can
       by true = refl

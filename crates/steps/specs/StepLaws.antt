@@ -1,9 +1,8 @@
 -- Laws of the steps: each is a few of the graph's own steps, one after another.
 --
 -- In order: a node that is added first, and what follows it; a node with the edge to it; a special node that is linked; one that is lapsed.
-use Rattle.std.specs.Prelude.{◌≡◌, refl, true, false, ℕ, ◌+◌, ◌≤◌, ◌<◌}
+use Rattle.std.specs.Prelude.{◌≡◌, refl, true, false, ℕ, ◌+◌, ◌≤◌, ◌<◌, Option}
 use Rattle.std.proofs.Common.{sym, ap, subst, ◌∙◌, arith}
-use Rattle.std.proofs.Math.Option.{Option}
 use Rattle.concepts.specs.Lists.{Bytes}
 use Rattle.concepts.specs.RowSet.{RowSet}
 use Rattle.procedure.specs.Status.{unset, toosmall, is_live}

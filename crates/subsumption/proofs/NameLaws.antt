@@ -3,12 +3,11 @@
 -- In order: the place of the first concept that passes, from a row on (`place_of-drop`), and that it passes, if one does (`place_of-passes`, `passes-place_of`); a concept of a name;
 -- a name is listed if and only if it has both rows (`names-positive`, `names-negative`, `mem-names`); a table row after row: length, entries, rows and columns that stand for others, more rows.
 -- Assumes nothing.
-use Rattle.std.specs.Prelude.{◌≡◌, Bool, ltb, drop}
+use Rattle.std.specs.Prelude.{◌≡◌, Bool, ltb, drop, Option, None, Some}
 use Rattle.std.proofs.Math.Path.{refl, sym, ap, ap₂, subst}
 use Rattle.std.proofs.Common.{◌∙◌, eqb→eq, lt→ltb, length-append, drop-cons}
 use Rattle.std.proofs.Math.Bool.{true, false, cond}
 use mathlib.Core.List.{List, [], ◌∷◌, ◌++◌, map, map-map, append-nil, append_assoc, Memᴰ}
-use Rattle.std.proofs.Math.Option.{Option, none, some}
 use Prim.Native.Nat.{ℕ, zero, suc, ◌+◌, ◌*◌, ◌≤◌, ◌<◌}
 use Rattle.std.proofs.Math.Nat.{zero-mul, suc-mul}
 use native.Mathlib.Omega.{arith}
@@ -67,18 +66,18 @@ module _ (passes : Concept → Bool) where
 
 -- ---- a concept of a name
 
-same_some : (o : Option ℕ) (a : ℕ) → T (same_name (some a) o) → o ≡ some a
-same_some (some b) a h = ap some (sym (eqb→eq a b h))
-same_some none a h = absurd h
+same_some : (o : Option ℕ) (a : ℕ) → T (same_name (Some a) o) → o ≡ Some a
+same_some (Some b) a h = ap Some (sym (eqb→eq a b h))
+same_some None a h = absurd h
 
 module _ (view : Concept → Option ℕ) (a : ℕ) {c : Concept} where
-  pub of_name-view : T (of_name view a c) → view c ≡ some a
+  pub of_name-view : T (of_name view a c) → view c ≡ Some a
   unfolding of_name
   of_name-view h = same_some (view c) a h
 
-  pub view-of_name : view c ≡ some a → T (of_name view a c)
+  pub view-of_name : view c ≡ Some a → T (of_name view a c)
   unfolding of_name
-  view-of_name e = subst (λ (o : Option ℕ). T (same_name (some a) o)) (sym e) (eqb_refl a)
+  view-of_name e = subst (λ (o : Option ℕ). T (same_name (Some a) o)) (sym e) (eqb_refl a)
 
 -- ---- the names
 

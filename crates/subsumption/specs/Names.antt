@@ -2,8 +2,7 @@
 --
 -- In order: where a concept stands in a table; the rows of a name; the names; a table row after row.
 -- Assumes nothing.
-use Rattle.std.specs.Prelude.{Bool, ◌&&◌, cond, List, [], ◌∷◌, ◌++◌, map, ℕ, zero, suc, ltb, length}
-use Rattle.std.proofs.Math.Option.{Option, some}
+use Rattle.std.specs.Prelude.{Bool, ◌&&◌, cond, List, [], ◌∷◌, ◌++◌, map, ℕ, zero, suc, ltb, length, Option, Some}
 use Rattle.concepts.specs.Lists.{range, select}
 use Rattle.concepts.specs.Concept.{Concept, as_atomic, as_negated, Table}
 use Rattle.procedure.specs.Problem.{same_name}
@@ -15,7 +14,7 @@ place_of passes (c ∷ t) = cond (passes c) zero (suc (place_of passes t))
 
 -- a concept of name a, by a view
 unfoldable pub of_name : (Concept → Option ℕ) → ℕ → Concept → Bool
-of_name view a c = same_name (some a) (view c)
+of_name view a c = same_name (Some a) (view c)
 
 -- the kind 1 row of name a, and its kind 2 row; no two rows are equal, so there is one of each or none
 abbrev pub positive : Table → ℕ → ℕ

@@ -1,10 +1,9 @@
 -- The cases of the search for a child and the way down, on plain values.
 --
 -- In order: the status of a node; the first child with a status (`Looking`); the child that the walk goes to; a node on the way down (`Going`).
-use Rattle.std.specs.Prelude.{◌≡◌, Bool, true, false, List, ◌∷◌, ◌≢◌, ℕ, ◌+◌, ◌-◌, ◌≤◌, ◌<◌}
+use Rattle.std.specs.Prelude.{◌≡◌, Bool, true, false, List, ◌∷◌, ◌≢◌, ℕ, ◌+◌, ◌-◌, ◌≤◌, ◌<◌, Option, None, Some}
 use Rattle.std.proofs.Common.{sym, ◌∙◌, subst, arith}
 use Rattle.std.proofs.Math.Path.{ap}
-use Rattle.std.proofs.Math.Option.{Option, none, some}
 use Rattle.std.proofs.Math.ListN.{get_or-eq_default}
 use Rattle.concepts.specs.Tests.{impossible}
 use Rattle.concepts.specs.Lists.{Bytes, first}
@@ -45,9 +44,9 @@ module _ {n : Bytes} {c : Counts} {y : ℕ} where
 
 module _ (f : Status → Bool) (g : Graph) where
   abbrev pub ask : ℕ → Option ℕ
-  ask y = elim (f (node_at g y).status) as (λ _. Option ℕ) [ true ↦ some y | false ↦ none ]
+  ask y = elim (f (node_at g y).status) as (λ _. Option ℕ) [ true ↦ Some y | false ↦ None ]
 
-  first-here : (y : ℕ) (ys : List ℕ) → f (node_at g y).status ≡ true → first ask (y ∷ ys) ≡ some y
+  first-here : (y : ℕ) (ys : List ℕ) → f (node_at g y).status ≡ true → first ask (y ∷ ys) ≡ Some y
   unfolding first
   first-here y ys t = rw (t, first)
 
@@ -86,7 +85,7 @@ module _ {w : Work} {c : Counts} {x : ℕ} {sat : Bool} {i : ℕ} (L : Looking w
     pub looking-next : {k y : ℕ} → r ≡ Next.At k y → Follows k y
     looking-next q = record { next = next-at w L.asks.holds x i L.among all q }
 
-    pub looking-end : r ≡ Next.End → none ≡ first_child (asked sat) (graph_of w c) x
+    pub looking-end : r ≡ Next.End → None ≡ first_child (asked sat) (graph_of w c) x
     unfolding first
     looking-end q = ap (first (ask (asked sat) (graph_of w c))) (sym (next-end w L.asks.holds x i L.among all q)) ∙ L.finds
 
@@ -110,7 +109,7 @@ module _ {n e : Bytes} {c : Counts} {x : ℕ} {sat : Bool} {i : ℕ} {L : Lookin
   status-asked : asked sat (node_at g y).status ≡ b
   status-asked = ap (asked sat) (sym (S.is e)) ∙ sym p
 
-  pub looking-found : b ≡ true → some y ≡ first_child (asked sat) g x
+  pub looking-found : b ≡ true → Some y ≡ first_child (asked sat) g x
   looking-found t = by-child (first-here (asked sat) g y (children_from g x (k + 1)) (status-asked ∙ t))
 
   pub looking-over : b ≡ false → Looking (nodes_edges n e) c x sat (k + 1)
@@ -129,26 +128,26 @@ found_as {f} {k} {o} p q = subst (λ (x : FoundNode). found_of x ≡ o) p q
 
 module _ (g : Graph) (x : ℕ) where
   else-open : (o : Option ℕ) → o ≡ first_child (asked true) g x
-      → elim o as (λ _. Option ℕ) [ some z ↦ some z | none ↦ first_child (asked false) g x ] ≡ live_child g x
+      → elim o as (λ _. Option ℕ) [ Some z ↦ Some z | None ↦ first_child (asked false) g x ] ≡ live_child g x
   unfolding live_child
-  else-open o e = ap (λ (u : Option ℕ). elim u as (λ _. Option ℕ) [ some z ↦ some z | none ↦ first_child is_open g x ]) e
+  else-open o e = ap (λ (u : Option ℕ). elim u as (λ _. Option ℕ) [ Some z ↦ Some z | None ↦ first_child is_open g x ]) e
 
   module _ {f : FoundNode} (p : found_of f ≡ first_child (asked true) g x) where
-    pub live-sat : {y : ℕ} → f ≡ Found.At y → some y ≡ live_child g x
-    live-sat {y} e = else-open (some y) (found_as e p)
+    pub live-sat : {y : ℕ} → f ≡ Found.At y → Some y ≡ live_child g x
+    live-sat {y} e = else-open (Some y) (found_as e p)
 
     pub live-open : {o : Option ℕ} → f ≡ Found.Nothing → o ≡ first_child (asked false) g x → o ≡ live_child g x
-    live-open e q = q ∙ else-open none (found_as e p)
+    live-open e q = q ∙ else-open None (found_as e p)
 
 -- ---- a node on the way down
 
-link-state : (k : Link) (y : ℕ) → some y ≡ state_of k → k ≡ to_state y
+link-state : (k : Link) (y : ℕ) → Some y ≡ state_of k → k ≡ to_state y
 link-state (to_state z) y e = ap to_state (cc)
 link-state unlinked y e = impossible cc
 link-state lapsed y e = impossible cc
 
-link-none : (k : Link) → none ≡ state_of k → (z : ℕ) → k ≢ to_state z
-link-none k e z p = let q : none ≡ some z = e ∙ ap state_of p in let o : ◌≡◌ {A = ℕ} 0 1 = cc in omega arith
+link-none : (k : Link) → None ≡ state_of k → (z : ℕ) → k ≢ to_state z
+link-none k e z p = let q : None ≡ Some z = e ∙ ap state_of p in let o : ◌≡◌ {A = ℕ} 0 1 = cc in omega arith
 
 -- the way down from `start` goes through node x
 pub record Going (w : Work) (c : Counts) (start x : ℕ) : Type 0 where
@@ -184,33 +183,33 @@ module _ {w : Work} {c : Counts} {start x : ℕ} {G : Going w c start x} {f : Fo
   going-lands {y} q =
       let end : G.asks.end ≡ y = way-linked h G.way y (link-state (node_at h x).link y (found_as q S.is)) in
       record {
-        finds = way-descends h G.asks.way ∙ ap some end;
+        finds = way-descends h G.asks.way ∙ ap Some end;
         inside = omega (arith, way-lands h G.asks.way, count-nodes w c);
       }
 
   -- none: the way goes on
   module _ (q : f ≡ Found.Nothing) where
-    goes_on : (b : ℕ) × (live_child h x ≡ some b) × (x < b) × Way h b G.asks.end
+    goes_on : (b : ℕ) × (live_child h x ≡ Some b) × (x < b) × Way h b G.asks.end
     goes_on = way-child h G.way (link-none (node_at h x).link (found_as q S.is))
 
     module _ {r : FoundNode} (l : found_of r ≡ live_child h x) where
       pub going_on : {b : ℕ} → r ≡ Found.At b → Going w c start b
       going_on {b} u =
           let (d, found, up, on) = goes_on in
-          let here : some b ≡ live_child h x = found_as u l in
+          let here : Some b ≡ live_child h x = found_as u l in
           let same : d ≡ b = cc in
           record { asks = G.asks; way = rw same at on }
 
       pub going_less : {b : ℕ} → r ≡ Found.At b → c.nodes - b < c.nodes - x
       going_less {b} u =
           let (d, found, up, on) = goes_on in
-          let here : some b ≡ live_child h x = found_as u l in
+          let here : Some b ≡ live_child h x = found_as u l in
           let same : d ≡ b = cc in
           omega (arith, there G)
 
       pub going-nowhere : r ≡ Found.Nothing → ⊥
       going-nowhere u =
           let (d, found, up, on) = goes_on in
-          let here : none ≡ live_child h x = found_as u l in
+          let here : None ≡ live_child h x = found_as u l in
           let o : ◌≡◌ {A = ℕ} 0 1 = cc in
           omega arith

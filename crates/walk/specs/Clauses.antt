@@ -1,9 +1,8 @@
 -- What the walk of the example relies on, and what it gives.
 --
 -- In order: the areas that it looks at; the way down; the marks; meeting a state; the rows of an element; the walk.
-use Rattle.std.specs.Prelude.{◌≡◌, Bool, cond, ◌≢◌, ℕ, suc, ◌≤◌, ◌<◌, length}
+use Rattle.std.specs.Prelude.{◌≡◌, Bool, cond, ◌≢◌, ℕ, suc, ◌≤◌, ◌<◌, length, Option, None, Some}
 use mathlib.Core.List.{List, [], ◌∷◌, Memᴰ}
-use Rattle.std.proofs.Math.Option.{Option, none, some}
 use Rattle.concepts.specs.Lists.{Bytes}
 use Rattle.procedure.specs.Status.{Status, is_sat, is_open}
 use Rattle.procedure.specs.Graph.{Link, unlinked, to_state, lapsed, node_at}
@@ -45,9 +44,9 @@ abbrev pub asked : Bool → Status → Bool
 asked sat v = cond sat (is_sat v) (is_open v)
 
 abbrev pub state_of : Link → Option ℕ
-state_of (to_state y) = some y
-state_of unlinked = none
-state_of lapsed = none
+state_of (to_state y) = Some y
+state_of unlinked = None
+state_of lapsed = None
 
 -- a search among the children of x, which is a node
 pub record ChildAsks (w : Work) (c : Counts) (x : ℕ) : Type 0 where
@@ -60,7 +59,7 @@ pub record DescendAsks (w : Work) (c : Counts) (x : ℕ) : Type 0 where
   pub way : Way (graph_of w c) x end
 
 pub record DescendGives (w : Work) (c : Counts) (x y : ℕ) : Type 0 where
-  pub finds : descend (graph_of w c) x ≡ some y
+  pub finds : descend (graph_of w c) x ≡ Some y
   pub inside : y < c.nodes
 
 -- ---- the marks
@@ -103,14 +102,14 @@ pub record RowsAsks (ws : List ℕ) (w : Work) (c : Counts) (s : Sizes) (d : ℕ
   pub element : d < s.elements
   pub ways : (r : ℕ × ℕ) → Memᴰ r (element_rows ws w c d) → (y : ℕ) × Way (graph_of w c) r.1 y
   pub end : Walk
-  pub walks : walk_rows (graph_of w c) d (element_rows ws w c d) (walk_in w s) ≡ some end
+  pub walks : walk_rows (graph_of w c) d (element_rows ws w c d) (walk_in w s) ≡ Some end
   pub few_states : length end.states ≤ c.nodes
   pub few_links : length end.links ≤ c.edges
 
 pub record RowsGives (ws : List ℕ) (w : Work) (c : Counts) (s : Sizes) (d : ℕ) (r : Sizes) (w' : Work) : Type 0 where
   pub kept : Kept w w'
   pub numbered : Numbered w'.nodes c r.elements
-  pub walked : walk_rows (graph_of w c) d (element_rows ws w c d) (walk_in w s) ≡ some (walk_in w' r)
+  pub walked : walk_rows (graph_of w c) d (element_rows ws w c d) (walk_in w s) ≡ Some (walk_in w' r)
 
 -- ---- the walk
 
@@ -134,7 +133,7 @@ pub record WalkAsks (ws : List ℕ) (w : Work) (c : Counts) : Type 0 where
 -- the graph is the same, whatever the alternatives, and the marks hold its example
 pub record WalkGives (ws : List ℕ) (w : Work) (c : Counts) (r : Sizes) (w' : Work) : Type 0 where
   pub same : (a : Bytes) → graph_of (beside w' a) c ≡ graph_of (beside w a) c
-  pub walked : (a : Bytes) → example (table_of ws) (graph_of (beside w a) c) ≡ some (example_held w'.nodes w'.edges r.elements r.links)
+  pub walked : (a : Bytes) → example (table_of ws) (graph_of (beside w a) c) ≡ Some (example_held w'.nodes w'.edges r.elements r.links)
   pub few_elements : r.elements ≤ c.nodes
   pub few_links : r.links ≤ c.edges
   pub inside : (d : ℕ) → d < r.elements → state_in w'.nodes d < c.nodes

@@ -2,11 +2,10 @@
 --
 -- In order: what is left of the rows (`left`); the loop's invariant (`RowTurn`), its start; the next row (`Row`) and child (`Child`), or the end; the child
 -- met. The set of the state is read at its place in each turn: marks are written beside it.
-use Rattle.std.specs.Prelude.{◌≡◌, refl, length}
+use Rattle.std.specs.Prelude.{◌≡◌, refl, length, Some}
 use Rattle.std.proofs.Common.{sym, ◌∙◌, subst, arith, length-append}
 use Rattle.std.proofs.Math.Path.{ap, ap₂}
 use mathlib.Core.List.{List, [], ◌∷◌, map, zip, zip_with, Memᴰ}
-use Rattle.std.proofs.Math.Option.{some}
 use Prim.Native.Nat.{ℕ, ◌+◌, ◌*◌, ◌-◌, ◌≤◌, ◌<◌}
 use Rattle.concepts.specs.Begins.{begins-length}
 use Rattle.concepts.specs.Concept.{Table}
@@ -77,8 +76,8 @@ pub record RowTurn (ws : List ℕ) (w : Work) (c : Counts) (s : Sizes) (d x : �
   pub among : AmongChildren (graph_of w c) x i
   pub numbered : Numbered w'.nodes c s'.elements
   pub ways : (r : ℕ × ℕ) → Memᴰ r (left (table_of ws) (graph_of w c) x k i) → (y : ℕ) × Way (graph_of w c) r.1 y
-  pub rest : (v : Walk) → walk_rows (graph_of w c) d (element_rows ws w c d) (walk_in w s) ≡ some v
-      → walk_rows (graph_of w c) d (left (table_of ws) (graph_of w c) x k i) (walk_in w' s') ≡ some v
+  pub rest : (v : Walk) → walk_rows (graph_of w c) d (element_rows ws w c d) (walk_in w s) ≡ Some v
+      → walk_rows (graph_of w c) d (left (table_of ws) (graph_of w c) x k i) (walk_in w' s') ≡ Some v
 
 module _ {ws : List ℕ} {w : Work} {c : Counts} {s : Sizes} {d : ℕ} (A : RowsAsks ws w c s d) where
   pub row-element : Fits node_size w.nodes d
@@ -148,7 +147,7 @@ module _ {ws : List ℕ} {w : Work} {c : Counts} {s : Sizes} {d x : ℕ} {w' : W
   ended : left table h x k i ≡ [] → RowsGives ws w c s d s' w'
   ended p =
       let A = T.asks in
-      let f : walk_rows h d [] (walk_in w' s') ≡ some A.end = ap (λ (r : List (ℕ × ℕ)). walk_rows h d r (walk_in w' s')) (sym p)
+      let f : walk_rows h d [] (walk_in w' s') ≡ Some A.end = ap (λ (r : List (ℕ × ℕ)). walk_rows h d r (walk_in w' s')) (sym p)
       ∙ T.rest A.end A.walks in
       record { kept = T.kept; numbered = T.numbered; walked = A.walks ∙ sym f ∙ walk_rows-none h d (walk_in w' s') }
 
@@ -216,13 +215,13 @@ module _ {ws : List ℕ} {w : Work} {c : Counts} {s : Sizes} {d x : ℕ} {w' : W
     next = meet d ρ b (walk_in w' s')
 
     -- the state that the definition meets is the one that was found
-    goes_on : (v : Walk) → walk_rows (h T) d (element_rows ws w c d) (walk_in w s) ≡ some v → walk_rows (h T) d more next ≡ some v
+    goes_on : (v : Walk) → walk_rows (h T) d (element_rows ws w c d) (walk_in w s) ≡ Some v → walk_rows (h T) d more next ≡ Some v
     goes_on v u =
         let (z, f, r) = walk_rows-next (h T) d (ρ, y) more (walk_in w' s') v
         (ap (λ (rs : List (ℕ × ℕ)). walk_rows (h T) d rs (walk_in w' s')) (sym C.todo) ∙ T.rest v u) in
-        let found : descend (h T) y ≡ some b = subst (λ (u : Graph). descend u y ≡ some b) (same T) D.finds in
+        let found : descend (h T) y ≡ Some b = subst (λ (u : Graph). descend u y ≡ Some b) (same T) D.finds in
         let o : z ≡ b = cc in
-        subst (λ (a : ℕ). walk_rows (h T) d more (meet d ρ a (walk_in w' s')) ≡ some v) o r
+        subst (λ (a : ℕ). walk_rows (h T) d more (meet d ρ a (walk_in w' s')) ≡ Some v) o r
 
     pub row-meets : MeetAsks w' c s' d ρ b
     row-meets =

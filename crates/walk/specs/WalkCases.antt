@@ -1,10 +1,9 @@
 -- The elements walked one after another: a turn of the loop, on plain values.
 --
 -- In order: what the definition's walk gives (`Whole`); the loop's invariant (`ElementTurn`); its end; a turn (`Element`); the start.
-use Rattle.std.specs.Prelude.{◌≡◌, ℕ, suc, ◌+◌, ◌-◌, ◌≤◌, ◌<◌, length, get_or, take}
+use Rattle.std.specs.Prelude.{◌≡◌, ℕ, suc, ◌+◌, ◌-◌, ◌≤◌, ◌<◌, length, get_or, take, Some}
 use Rattle.std.proofs.Common.{sym, ap, ◌∙◌, subst, arith}
 use mathlib.Core.List.{List, map, map-map, Memᴰ}
-use Rattle.std.proofs.Math.Option.{some}
 use Rattle.std.proofs.Math.Seq.{take-length}
 use Rattle.concepts.specs.Lists.{Bytes, range}
 use Rattle.concepts.specs.ListLaws.{get_or-mem, map_same, range-mem}
@@ -55,7 +54,7 @@ module _ {ws : List ℕ} {w : Work} {c : Counts} (A : WalkAsks ws w c) where
 
   -- it ends, its elements are usable states, and it finds place
   record Whole (v : Walk) : Type 0 where
-    pub ends : walk t g ≡ some v
+    pub ends : walk t g ≡ Some v
     pub usable : (y : ℕ) → Memᴰ y v.states → Usable g A.good y
     pub few_states : length v.states ≤ c.nodes
     pub few_links : length v.links ≤ c.edges
@@ -84,7 +83,7 @@ pub record ElementTurn (ws : List ℕ) (w : Work) (c : Counts) (w' : Work) (s : 
   pub kept : Kept w w'
   pub numbered : Numbered w'.nodes c s.elements
   pub few : s.elements ≤ c.nodes
-  pub rest : (v : Walk) → walk (table_of ws) (graph_of w c) ≡ some v → Ends (table_of ws) (graph_of w c) d (walk_in w' s) v
+  pub rest : (v : Walk) → walk (table_of ws) (graph_of w c) ≡ Some v → Ends (table_of ws) (graph_of w c) d (walk_in w' s) v
 
 module _ {ws : List ℕ} {w : Work} {c : Counts} {w' : Work} {s : Sizes} {d : ℕ} (T : ElementTurn ws w c w' s d) where
   abbrev table : Table
@@ -125,8 +124,8 @@ module _ {ws : List ℕ} {w : Work} {c : Counts} {w' : Work} {s : Sizes} {d : �
         same = λ a. kept-graph (kept-beside T.kept a) c;
         walked = λ a.
             example-bare w a c table
-            ∙ example-some table h so_far (O.ends ∙ ap some (sym p))
-            ∙ ap (λ (xs : List RowSet). some (record { elements = xs; links = so_far.links })) elements-held;
+            ∙ example-some table h so_far (O.ends ∙ ap Some (sym p))
+            ∙ ap (λ (xs : List RowSet). Some (record { elements = xs; links = so_far.links })) elements-held;
         few_elements = T.few;
         few_links = omega (arith, O.few_links, ap (λ (x : Walk). length x.links) p, length-records role_link_in w'.edges s.links);
         inside = T.numbered.inside;
@@ -155,10 +154,10 @@ module _ {ws : List ℕ} {w : Work} {c : Counts} {w' : Work} {s : Sizes} {d : �
   state-here = get_or-records state_in w'.nodes s.elements d 0 E.is
 
   -- the rows of this element, and what is left after them
-  here : (v : Walk) → walk (table T) (h T) ≡ some v → (u : Walk) × (walk_rows (h T) d (rows (h T)) (so_far T) ≡ some u)
+  here : (v : Walk) → walk (table T) (h T) ≡ Some v → (u : Walk) × (walk_rows (h T) d (rows (h T)) (so_far T) ≡ Some u)
       × Ends (table T) (h T) (suc d) u v
   here v ends =
-      subst (λ (x : ℕ). (u : Walk) × (walk_rows (h T) d (rows_of (table T) (h T) x) (so_far T) ≡ some u) × Ends (table T) (h T) (suc d) u v) state-here
+      subst (λ (x : ℕ). (u : Walk) × (walk_rows (h T) d (rows_of (table T) (h T) x) (so_far T) ≡ Some u) × Ends (table T) (h T) (suc d) u v) state-here
       (ends_next (table T) (h T) d (so_far T) v inside (T.rest v ends))
 
   state-usable : (v : Walk) → Whole T.asks v → Usable (h T) T.asks.good state
@@ -182,7 +181,7 @@ module _ {ws : List ℕ} {w : Work} {c : Counts} {w' : Work} {s : Sizes} {d : �
         ways = subst (λ (k : Graph). (a : ℕ × ℕ) → Memᴰ a (rows k) → (y : ℕ) × Way k a.1 y) (sym (same T))
             (row-way (problem_of ws) (h T) A.good (finished A) (codes A) state (state-usable v O));
         end = u;
-        walks = subst (λ (k : Graph). walk_rows k d (rows k) (so_far T) ≡ some u) (sym (same T)) r;
+        walks = subst (λ (k : Graph). walk_rows k d (rows k) (so_far T) ≡ Some u) (sym (same T)) r;
         few_states = omega (arith, begins-length u.states v.states B, O.few_states);
         few_links = omega (arith, m, O.few_links);
       }
@@ -199,11 +198,11 @@ module _ {ws : List ℕ} {w : Work} {c : Counts} {w' : Work} {s : Sizes} {d : �
     rest = on;
   }
     where
-      on : (v : Walk) → walk (table T) (h T) ≡ some v → Ends (table T) (h T) (d + 1) (walk_in w'' r) v
+      on : (v : Walk) → walk (table T) (h T) ≡ Some v → Ends (table T) (h T) (d + 1) (walk_in w'' r) v
       on v ends =
           let (u, f, F) = here v ends in
-          let k : walk_rows (h T) d (rows (h T)) (so_far T) ≡ some (walk_in w'' r) =
-          subst (λ (k : Graph). walk_rows k d (rows k) (so_far T) ≡ some (walk_in w'' r)) (same T) G.walked in
+          let k : walk_rows (h T) d (rows (h T)) (so_far T) ≡ Some (walk_in w'' r) =
+          subst (λ (k : Graph). walk_rows k d (rows k) (so_far T) ≡ Some (walk_in w'' r)) (same T) G.walked in
           let p : u ≡ walk_in w'' r = cc in
           let q : suc d ≡ d + 1 = omega arith in
           subst (λ (i : ℕ). Ends (table T) (h T) i (walk_in w'' r) v) q (subst (λ (x : Walk). Ends (table T) (h T) (suc d) x v) p F)
@@ -233,7 +232,7 @@ module _ {ws : List ℕ} {n e : Bytes} {c : Counts} (A : WalkAsks ws (nodes_edge
       few = omega (arith, D.inside, length-records state_in n' s.elements, ap (λ (v : Walk). length v.states) (G.starts e));
       rest = λ v q.
           let f = graph_of (nodes_edges n' e) c in
-          let finds : descend f 0 ≡ some y = subst (λ (k : Graph). descend k 0 ≡ some y) (sym (kept-graph (G.kept e) c)) D.finds in
+          let finds : descend f 0 ≡ Some y = subst (λ (k : Graph). descend k 0 ≡ Some y) (sym (kept-graph (G.kept e) c)) D.finds in
           subst (λ (u : Walk). Ends (table_of ws) f 0 u v) (sym (G.starts e)) (ends-start (table_of ws) f y v finds q);
     }
 
