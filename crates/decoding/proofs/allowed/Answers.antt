@@ -1,9 +1,6 @@
 -- `decoding::allowed` meets its contract: the bit that it tests is that of the definition, and a set of 16 bits has no kind above them.
--- Assumes nothing.
-use mathlib.Core.Path.{sym}
-use native.Mathlib.Omega.{arith}
+use Rattle.std.proofs.Common.{rules, arith, sym, le-ltb, ◌∙◌}
 use lib.Dec.{not_T}
-use borrow.Author.Rules.{rules}
 use Rattle.concepts.specs.Tests.{as-false}
 use Rattle.concepts.specs.RowSet.{mem}
 use Rattle.concepts.specs.RowSetLaws.{mem-lt}
@@ -13,7 +10,7 @@ pub returns-then-kind-lt16 : goal.returns-then-kind-lt16
 unfolding mem
 returns-then-kind-lt16 c = search rules
 
-pub returns : goal.returns
-returns c =
+pub returns-else-kind-lt16 : goal.returns-else-kind-lt16
+returns-else-kind-lt16 c =
     let a = c.args in
-    sym (as-false (mem a.kind a.kinds) (not_T (mem a.kind a.kinds) (λ m. omega (arith, mem-lt 16 a.kind a.kinds (omega arith) m))))
+    le-ltb a.kind 16 c.if-kind-lt16.false ∙ sym (as-false (mem a.kind a.kinds) (not_T (mem a.kind a.kinds) (λ m. omega (arith, mem-lt 16 a.kind a.kinds (omega arith) m))))
