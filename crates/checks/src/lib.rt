@@ -1,37 +1,47 @@
 // The checks of a rule file (01, Refusals, in checking order; 02, [6] and [7]).
 //
-// In order: the trailer, a row's bytes and a rule; checks 1 to 4; what checks 5 to 8 look for in a row or rule; the search for it; check by check.
+// In order: the refusals; the trailer, a row's bytes and a rule; checks 1 to 4; what checks 5 to 7 look for in a row; checks 5 to 8; all checks in order.
 // Rows of kind 7, and where they serve, are in `inclusions`. Which kinds of rows are allowed is a parameter, `kinds`, as in `decoding`. Which rows are
 // wanted is another, `wanted`.
 #![tactic(auto)]
 
-ghost use Rattle.std.specs.Prelude.{◌≡◌, List, ℕ, ◌+◌, ◌*◌, ◌≤◌, ◌<◌, leb, length};
-ghost use Rattle.concepts.specs.Lists.{any};
+ghost use Rattle.std.specs.Prelude.{◌≡◌, List, ℕ, ◌+◌, ◌*◌, ◌≤◌, ◌<◌, leb, length, take, drop, OnOk};
+ghost use Rattle.concepts.specs.Lists.{any, range};
 ghost use Rattle.decoding.specs.Decoding.{Kinds};
 ghost use Rattle.decoding.specs.Named.{named_by};
 ghost use Rattle.rulefile.specs.Format as Format;
-ghost use Rattle.rulefile.specs.Checks.{check_count, Parted, Passed, check_at, refuses_at};
-ghost use Rattle.checks.specs.Findings.{named_at, extent, found_at, found};
+ghost use Rattle.rulefile.specs.Checks.{Parted};
+ghost use Rattle.checks.specs.Findings.{named_at};
+ghost use Rattle.checks.specs.Refusals.{number_of, refused_if, refusal_of};
 
-use decoding::{Row, decode, is_malformed, names_from};
+use decoding::{Row, decode, names_from};
 use inclusions::inclusion_serves;
 use rulefile::{LONGEST, MOST_ROWS, MOST_RULES, ROW, TRAILER};
 
 pub mod inclusions;
 
-// What check 5, 6, 7 and 8 looks for in each row or rule.
-#[derive(Clone, Copy)]
-enum Finding {
-    Malformed,
-    Argument,
-    Repeated,
-    Rule,
+// The checks, in checking order; as a number the refusal that each gives. 9 was that of a check that was taken out, and is not used again.
+#[derive(Clone, Copy, PartialEq, Eq, Debug)]
+pub enum Refusal {
+    Length = 1,
+    Mark = 2,
+    Counts = 3,
+    Place = 4,
+    Malformed = 5,
+    Argument = 6,
+    Repeated = 7,
+    Rule = 8,
+    Inclusion = 16,
 }
 
-// The refusals of the checks, in checking order.
-pub const CHECKS: usize = 9;
-
-const NUMBERS: [u8; CHECKS] = [1, 2, 3, 4, 5, 6, 7, 8, 16];
+impl Refusal {
+    // The number that a refused file gets.
+    pub fn number(self) -> u8
+        ensures { result ≡ number_of self }
+    {
+        self as u8
+    }
+}
 
 // Byte i of the trailer.
 fn trailer_byte(file: &[u8], i: usize) -> u8
@@ -46,7 +56,7 @@ pub fn first_row(file: &[u8]) -> u16
     requires { 8 ≤ length file.now }
     ensures { result ≡ Format.first_row file.now }
 {
-    trailer_byte(file, 0) as u16 + 256 * trailer_byte(file, 1) as u16
+    u16::from_le_bytes([trailer_byte(file, 0), trailer_byte(file, 1)])
 }
 
 // The number of rows.
@@ -71,6 +81,15 @@ pub fn row_byte(file: &[u8], k: usize, i: usize) -> u8
     ensures { result ≡ Format.row_byte file.now k i }
 {
     file[first_row(file) as usize + ROW * k + i]
+}
+
+// The four bytes of row k.
+fn row_bytes(file: &[u8], k: usize) -> &[u8]
+    requires { Parted file.now × (k < Format.row_count file.now) }
+    ensures { result.now ≡ take 4 (drop (Format.first_row file.now + 4 * k) file.now) }
+{
+    let at = first_row(file) as usize + ROW * k;
+    &file[at..at + ROW]
 }
 
 // The row that rule i names.
@@ -116,7 +135,7 @@ fn bad_place(file: &[u8]) -> bool
 }
 
 // Row k, decoded.
-fn row_at(file: &[u8], kinds: u16, k: usize) -> Row
+fn row_at(file: &[u8], kinds: u16, k: usize) -> Option<Row>
     requires { Parted file.now × (k < Format.row_count file.now) }
     ensures { named_by result ≡ named_at kinds file.now k }
 {
@@ -134,7 +153,7 @@ fn bad_row(file: &[u8], kinds: u16, k: usize) -> bool
     requires { Parted file.now × (k < Format.row_count file.now) }
     ensures { result ≡ Format.bad_row kinds file.now k }
 {
-    is_malformed(row_at(file, kinds, k))
+    row_at(file, kinds, k).is_none()
 }
 
 // Whether row k names an argument row that isn't lower than itself.
@@ -150,10 +169,7 @@ fn same_row(file: &[u8], j: usize, k: usize) -> bool
     requires { Parted file.now × (j < Format.row_count file.now) × (k < Format.row_count file.now) }
     ensures { result ≡ Format.same_row file.now j k }
 {
-    (row_byte(file, j, 0) == row_byte(file, k, 0))
-        & ((row_byte(file, j, 1) == row_byte(file, k, 1))
-            & ((row_byte(file, j, 2) == row_byte(file, k, 2))
-                & (row_byte(file, j, 3) == row_byte(file, k, 3))))
+    row_bytes(file, j) == row_bytes(file, k)
 }
 
 // Whether a lower row has the four bytes of row k.
@@ -161,55 +177,39 @@ fn repeated(file: &[u8], k: usize) -> bool
     requires { Parted file.now × (k < Format.row_count file.now) }
     ensures { result ≡ Format.repeated file.now k }
 {
-    let mut j: usize = 0;
-    while j < k {
-        if same_row(file, k, j) {
-            return true;
-        }
-        j += 1;
-    }
-    false
+    (0..k).any(|j| same_row(file, k, j))
 }
 
-// How many rows or rules are searched for a finding.
-fn extent(file: &[u8], finding: Finding) -> usize
-    requires { 8 ≤ length file.now }
-    ensures { result ≡ extent finding file.now }
-{
-    if let Finding::Rule = finding {
-        rule_count(file) as usize
-    } else {
-        row_count(file) as usize
-    }
-}
-
-// Whether row or rule i is a finding.
-fn found_at(file: &[u8], kinds: u16, finding: Finding, i: usize) -> bool
-    requires { Parted file.now × (i < extent finding file.now) }
-    ensures { result ≡ found_at kinds finding file.now i }
-{
-    match finding {
-        Finding::Malformed => bad_row(file, kinds, i),
-        Finding::Argument => bad_argument(file, kinds, i),
-        Finding::Repeated => repeated(file, i),
-        Finding::Rule => row_count(file) <= rule(file, i),
-    }
-}
-
-// Whether some row or rule is a finding.
-fn found(file: &[u8], kinds: u16, finding: Finding) -> bool
+// Whether some row is malformed: check 5.
+fn some_malformed(file: &[u8], kinds: u16) -> bool
     requires { Parted file.now }
-    ensures { result ≡ found kinds finding file.now }
+    ensures { result ≡ Format.some_row file.now (Format.bad_row kinds file.now) }
 {
-    let n = extent(file, finding);
-    let mut i: usize = 0;
-    while i < n {
-        if found_at(file, kinds, finding, i) {
-            return true;
-        }
-        i += 1;
-    }
-    false
+    (0..row_count(file) as usize).any(|k| bad_row(file, kinds, k))
+}
+
+// Whether some row names an argument row that isn't lower than itself: check 6.
+fn some_bad_argument(file: &[u8], kinds: u16) -> bool
+    requires { Parted file.now }
+    ensures { result ≡ Format.some_row file.now (Format.bad_argument kinds file.now) }
+{
+    (0..row_count(file) as usize).any(|k| bad_argument(file, kinds, k))
+}
+
+// Whether two rows have the same four bytes: check 7.
+fn some_repeated(file: &[u8]) -> bool
+    requires { Parted file.now }
+    ensures { result ≡ Format.some_row file.now (Format.repeated file.now) }
+{
+    (0..row_count(file) as usize).any(|k| repeated(file, k))
+}
+
+// Whether some rule isn't below the number of rows.
+fn rule_past_rows(file: &[u8]) -> bool
+    requires { Parted file.now }
+    ensures { result ≡ any (λ i. leb (Format.row_count file.now) (Format.rule file.now i)) (range 0 (Format.rule_count file.now)) }
+{
+    (0..rule_count(file) as usize).any(|i| row_count(file) <= rule(file, i))
 }
 
 // Whether some row of a list isn't below the number of rows.
@@ -217,47 +217,51 @@ fn past_rows(file: &[u8], list: &[u8]) -> bool
     requires { 8 ≤ length file.now }
     ensures { result ≡ any (λ k. leb (Format.row_count file.now) k) list.now }
 {
-    let rows = row_count(file);
-    let mut i: usize = 0;
-    while i < list.len() {
-        if rows <= list[i] {
-            return true;
-        }
-        i += 1;
-    }
-    false
+    list.iter().any(|k| row_count(file) <= *k)
 }
 
 // Whether a rule or a wanted row isn't below the number of rows: check 8.
-fn bad_rule(file: &[u8], kinds: u16, wanted: &[u8]) -> bool
+fn bad_rule(file: &[u8], wanted: &[u8]) -> bool
     requires { Parted file.now }
     ensures { result ≡ Format.bad_rule wanted.now file.now }
 {
-    found(file, kinds, Finding::Rule) | past_rows(file, wanted)
+    rule_past_rows(file) | past_rows(file, wanted)
 }
 
-// Whether the check at place i refuses the file, which passed the checks before it.
-pub fn refuses(file: &[u8], kinds: u16, wanted: &[u8], i: usize) -> bool
-    requires { (i < check_count) × Passed kinds wanted.now file.now i }
-    ensures { result ≡ refuses_at kinds wanted.now file.now i }
+// A refusal, if a test holds.
+fn refuse_if(test: bool, refusal: Refusal) -> Result<(), Refusal>
+    ensures { result ≡ refused_if test refusal }
 {
-    match i {
-        0 => bad_length(file),
-        1 => bad_mark(file),
-        2 => bad_counts(file),
-        3 => bad_place(file),
-        4 => found(file, kinds, Finding::Malformed),
-        5 => found(file, kinds, Finding::Argument),
-        6 => found(file, kinds, Finding::Repeated),
-        7 => bad_rule(file, kinds, wanted),
-        _ => inclusion_serves(file, kinds, wanted),
-    }
+    if test { Err(refusal) } else { Ok(()) }
 }
 
-// The refusal that the check at place i gives.
-pub fn number(i: usize) -> u8
-    requires { i < check_count }
-    ensures { (kinds : Kinds) (wanted : List ℕ) → result ≡ (check_at kinds wanted i).number }
+// Checks 1 to 4: after them the parts are known to fill the file.
+fn check_parts(file: &[u8]) -> Result<(), Refusal>
+    ensures refusal { (kinds : Kinds) (wanted : List ℕ) → refusal_of result ≡ Format.refusal_by (take 4 (Format.checks kinds wanted)) file.now }
+    ensures parted { OnOk result (Parted file.now) }
 {
-    NUMBERS[i]
+    refuse_if(bad_length(file), Refusal::Length)?;
+    refuse_if(bad_mark(file), Refusal::Mark)?;
+    refuse_if(bad_counts(file), Refusal::Counts)?;
+    refuse_if(bad_place(file), Refusal::Place)
+}
+
+// Checks 5 to 8 and 16.
+fn check_rows(file: &[u8], kinds: u16, wanted: &[u8]) -> Result<(), Refusal>
+    requires { Parted file.now }
+    ensures { refusal_of result ≡ Format.refusal_by (drop 4 (Format.checks kinds wanted.now)) file.now }
+{
+    refuse_if(some_malformed(file, kinds), Refusal::Malformed)?;
+    refuse_if(some_bad_argument(file, kinds), Refusal::Argument)?;
+    refuse_if(some_repeated(file), Refusal::Repeated)?;
+    refuse_if(bad_rule(file, wanted), Refusal::Rule)?;
+    refuse_if(inclusion_serves(file, kinds, wanted), Refusal::Inclusion)
+}
+
+// The refusal of the first check that refuses the file with these wanted rows, if there is one.
+pub fn check(file: &[u8], kinds: u16, wanted: &[u8]) -> Result<(), Refusal>
+    ensures { refusal_of result ≡ Format.refusal_for kinds wanted.now file.now }
+{
+    check_parts(file)?;
+    check_rows(file, kinds, wanted)
 }

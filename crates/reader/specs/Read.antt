@@ -1,10 +1,10 @@
 -- What the reader answers: the answer to a reading; where a part of a file starts; a file with its layout.
-use Rattle.std.specs.Prelude.{◌≡◌, List, ℕ, ◌+◌, length}
+use Rattle.std.specs.Prelude.{◌≡◌, List, ℕ, ◌+◌, length, Result, Ok, Err}
 use Rattle.concepts.specs.Lists.{Bytes}
 use Rattle.decoding.specs.Decoding.{Kinds}
 use Rattle.reader.specs.declared.Layout.{Layout}
-use Rattle.reader.specs.declared.Outcome.{Outcome}
-use Rattle.reader.specs.declared.Outcome.TheVariants.{Refused, Accepted}
+use Rattle.checks.specs.declared.Refusal.{Refusal}
+use Rattle.checks.specs.Refusals.{number_of}
 use Rattle.rulefile.specs.Format.{first_row, row_count, rule_count, wanted_rows, RuleFile, Reading, refused, accepted, reading_for}
 use Rattle.rulefile.specs.Checks.{Parted}
 
@@ -13,9 +13,14 @@ abbrev pub layout_of : RuleFile → Layout
 layout_of f = record { text = length f.text; rows = length f.table; rules = length f.tbox }
 
 -- the number of the refusal, or the layout
-unfoldable pub read_of : Reading → Outcome
-read_of (refused n) = Refused n
-read_of (accepted f) = Accepted (layout_of f)
+unfoldable pub read_of : Reading → Result Layout ℕ
+read_of (refused n) = Err n
+read_of (accepted f) = Ok (layout_of f)
+
+-- what the code answers, with the number of the refusal
+abbrev pub numbered : Result Layout Refusal → Result Layout ℕ
+numbered (Err r) = Err (number_of r)
+numbered (Ok l) = Ok l
 
 -- where a part of the file starts, so many bytes into the file: a place is a block and an offset
 abbrev pub Starts : ℕ × ℕ → ℕ × ℕ → ℕ → Type 0

@@ -3,12 +3,12 @@
 // A rule file is read with `decoding`'s RULE_KINDS. Which rows are wanted is a parameter, or the file's own row.
 #![tactic(auto)]
 
-ghost use Rattle.std.specs.Prelude.{◌≡◌, [], ◌+◌, ◌*◌, ◌≤◌, ◌<◌, length, take, drop};
+ghost use Rattle.std.specs.Prelude.{◌≡◌, [], ◌≤◌, ◌<◌, length};
 ghost use Rattle.rulefile.specs.Format as Format;
 ghost use Rattle.rulefile.specs.Checks.{Parted};
-ghost use Rattle.reader.specs.Read.{read_of, trailer_layout, Starts, Placed};
+ghost use Rattle.reader.specs.Read.{numbered, read_of, trailer_layout, Starts, Placed};
 
-use checks::{CHECKS, first_row, number, refuses, row_count, rule_count};
+use checks::{Refusal, check, first_row, row_count, rule_count};
 use rulefile::{ROW, TRAILER};
 
 // The length of the text, which is the place of the first row, and the numbers of rows and rules.
@@ -17,13 +17,6 @@ pub struct Layout {
     pub text: usize,
     pub rows: usize,
     pub rules: usize,
-}
-
-// A file is refused with the number of the first check that fails, 1 to 8 or 16, or accepted.
-#[derive(Clone, Copy)]
-pub enum Outcome {
-    Refused(u8),
-    Accepted(Layout),
 }
 
 // The wanted row stands four bytes before the end of a file.
@@ -42,26 +35,11 @@ fn layout_of(file: &[u8]) -> Layout
 }
 
 // The refusal of the first check that refuses the file with these wanted rows, or the layout of the file.
-pub fn read_for(file: &[u8], kinds: u16, wanted: &[u8]) -> Outcome
-    ensures { result ≡ read_of (Format.reading_for kinds wanted.now file.now) }
+pub fn read_for(file: &[u8], kinds: u16, wanted: &[u8]) -> Result<Layout, Refusal>
+    ensures { numbered result ≡ read_of (Format.reading_for kinds wanted.now file.now) }
 {
-    let mut i: usize = 0;
-    while i < CHECKS {
-        if refuses(file, kinds, wanted, i) {
-            return Outcome::Refused(number(i));
-        }
-        i += 1;
-    }
-    Outcome::Accepted(layout_of(file))
-}
-
-// So many bytes of the file from a place on, as that part of the file.
-fn part(file: &[u8], from: usize, count: usize) -> &[u8]
-    requires { from + count ≤ length file.now }
-    ensures { (result.now ≡ take count (drop from file.now)) × Starts result.ref_ptr file.entry.ref_ptr from }
-{
-    let to = from + count;
-    &file[from..to]
+    check(file, kinds, wanted)?;
+    Ok(layout_of(file))
 }
 
 // The file's own wanted row, as a list of one; of a file that is too short to have one, nothing.
@@ -70,14 +48,15 @@ pub fn wanted_of(file: &[u8]) -> &[u8]
         × (length file.now < 8 → result.now ≡ []) }
 {
     if file.len() < TRAILER {
-        return part(file, 0, 0);
+        return &file[..0];
     }
-    part(file, file.len() - WANTED, 1)
+    let at = file.len() - WANTED;
+    &file[at..at + 1]
 }
 
 // The same with the file's own wanted row.
-pub fn read(file: &[u8], kinds: u16) -> Outcome
-    ensures { result ≡ read_of (Format.reading_of kinds file.now) }
+pub fn read(file: &[u8], kinds: u16) -> Result<Layout, Refusal>
+    ensures { numbered result ≡ read_of (Format.reading_of kinds file.now) }
 {
     read_for(file, kinds, wanted_of(file))
 }
@@ -87,8 +66,8 @@ pub fn text_for<'a, 'b>(file: &'a [u8], kinds: u16, wanted: &'b [u8]) -> &'a [u8
     ensures { (result.now ≡ Format.text_for kinds wanted.now file.now) × Starts result.ref_ptr file.entry.ref_ptr 0 }
 {
     match read_for(file, kinds, wanted) {
-        Outcome::Refused(_) => part(file, 0, 0),
-        Outcome::Accepted(layout) => part(file, 0, layout.text),
+        Err(_) => &file[..0],
+        Ok(layout) => &file[..layout.text],
     }
 }
 
@@ -104,7 +83,8 @@ pub fn rows_of(file: &[u8], layout: Layout) -> &[u8]
     requires { Placed file.now layout }
     ensures { result.now ≡ Format.rows_part file.now }
 {
-    part(file, layout.text, ROW * layout.rows)
+    let rows = layout.text;
+    &file[rows..rows + ROW * layout.rows]
 }
 
 // The rules of an accepted file, a list of row numbers.
@@ -112,5 +92,6 @@ pub fn rules_of(file: &[u8], layout: Layout) -> &[u8]
     requires { Placed file.now layout }
     ensures { result.now ≡ Format.rules file.now }
 {
-    part(file, layout.text + ROW * layout.rows, layout.rules)
+    let rules = layout.text + ROW * layout.rows;
+    &file[rules..rules + layout.rules]
 }

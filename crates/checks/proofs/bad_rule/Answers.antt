@@ -1,8 +1,7 @@
--- `checks::bad_rule` meets its contract: the two tests are those of the definition.
+-- `checks::bad_rule` meets its contract.
 use Rattle.rulefile.specs.Format.{bad_rule}
-use Rattle.checks.specs.Findings.{extent, found_at}
 use Rattle.checks.proofs.bad_rule.Goals as goal
 
 pub returns : goal.returns
-unfolding bad_rule extent found_at
+unfolding bad_rule
 returns c = cc

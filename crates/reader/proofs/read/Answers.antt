@@ -1,5 +1,5 @@
 -- `reader::read` meets its contract: it is `read_for` with the file's own wanted row.
-use mathlib.Core.Path.{ap, ◌∙◌}
+use Rattle.std.proofs.Common.{ap, ◌∙◌}
 use Rattle.reader.specs.Read.{read_of}
 use Rattle.rulefile.specs.ReadingLaws.{reading-own}
 use Rattle.reader.proofs.read.Goals as goal

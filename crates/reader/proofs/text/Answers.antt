@@ -1,5 +1,5 @@
 -- `reader::text` meets its contract: it is `text_for` with the file's own wanted row.
-use mathlib.Core.Path.{◌∙◌}
+use Rattle.std.proofs.Common.{◌∙◌}
 use Rattle.rulefile.specs.ReadingLaws.{text-own}
 use Rattle.reader.proofs.text.Goals as goal
 

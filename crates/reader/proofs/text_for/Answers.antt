@@ -1,22 +1,26 @@
 -- `reader::text_for` meets its contract: the part that is handed back starts where the file starts, and is as long as the text.
-use mathlib.Core.Path.{sym, ◌∙◌}
+use Rattle.std.proofs.Common.{sym, ap, ◌∙◌, arith, length-take-le, rules}
 use Rattle.rulefile.specs.ReadingLaws.{text-refused}
+use Rattle.reader.specs.Read.{numbered}
 use Rattle.reader.specs.PartLaws.{reads-refused, reads-accepted, laid-text, laid-inside}
 use Rattle.reader.proofs.text_for.Goals as goal
 
--- part(file, 0, layout.text)
-pub part-requires-in-Accepted : goal.part-requires-in-Accepted
-part-requires-in-Accepted c = laid-inside (reads-accepted c.args.kinds c.args.wanted.now c.args.file.now _ (sym c.in-Accepted.is ∙ c.read_for.ensures))
+pub slice_bounds-result-end-in-Ok : goal.slice_bounds-result-end-in-Ok
+slice_bounds-result-end-in-Ok c =
+    let a = c.args in
+    let inside = laid-inside (reads-accepted a.kinds a.wanted.now a.file.now c.in-Ok.layout (ap numbered (sym c.in-Ok.is) ∙ c.read_for.ensures)) in
+    sym (length-take-le c.in-Ok.layout.text a.file.now (omega (arith, inside)))
 
 -- a refused file
-pub returns-in-Refused : goal.returns-in-Refused
-returns-in-Refused c =
-    let e = reads-refused c.args.kinds c.args.wanted.now c.args.file.now _ (sym c.in-Refused.is ∙ c.read_for.ensures) in
-    (c.part.ensures.0 ∙ sym (text-refused c.args.kinds c.args.wanted.now c.args.file.now _ e), c.part.ensures.1)
+pub returns-in-Err : goal.returns-in-Err
+returns-in-Err c =
+    let a = c.args in
+    let e = reads-refused a.kinds a.wanted.now a.file.now _ (ap numbered (sym c.in-Err.is) ∙ c.read_for.ensures) in
+    (sym (text-refused a.kinds a.wanted.now a.file.now _ e), search rules)
 
 -- an accepted file
-pub returns-in-Accepted : goal.returns-in-Accepted
-returns-in-Accepted c =
-    let l = reads-accepted c.args.kinds c.args.wanted.now c.args.file.now _
-    (sym c.in-Accepted.is ∙ c.read_for.ensures) in
-    (c.part-in-Accepted.ensures.0 ∙ laid-text l, c.part-in-Accepted.ensures.1)
+pub returns-in-Ok : goal.returns-in-Ok
+returns-in-Ok c =
+    let a = c.args in
+    let l = reads-accepted a.kinds a.wanted.now a.file.now c.in-Ok.layout (ap numbered (sym c.in-Ok.is) ∙ c.read_for.ensures) in
+    (laid-text l, search rules)

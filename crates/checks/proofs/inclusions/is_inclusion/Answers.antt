@@ -1,7 +1,5 @@
 -- `checks::inclusions::is_inclusion` meets its contract: a row that is there is an inclusion by its kind.
-use mathlib.Core.Path.{sym, ap, ◌∙◌}
-use Prim.Native.Nat.{ℕ}
-use native.Mathlib.Omega.{arith}
+use Rattle.std.proofs.Common.{sym, ap, ◌∙◌, ℕ, arith, le-ltb}
 use lib.Dec.{eqb}
 use Rattle.rulefile.specs.ReadingLaws.{inclusion-row, inclusion-past}
 use Rattle.checks.proofs.inclusions.is_inclusion.Goals as goal
@@ -12,7 +10,7 @@ returns-then-k-row_count c =
     ap (λ (x : ℕ). eqb x 7) c.row_byte.ensures ∙ sym
     (inclusion-row a.file.now a.k (omega (arith, c.if-k-row_count.true, c.row_count.ensures)))
 
-pub returns : goal.returns
-returns c =
+pub returns-else-k-row_count : goal.returns-else-k-row_count
+returns-else-k-row_count c =
     let a = c.args in
-    sym (inclusion-past a.file.now a.k (omega (arith, c.if-k-row_count.false, c.row_count.ensures)))
+    le-ltb a.k _ c.if-k-row_count.false ∙ sym (inclusion-past a.file.now a.k (omega (arith, c.if-k-row_count.false, c.row_count.ensures)))

@@ -1,0 +1,3 @@
+-- Proofs that several functions share.
+pub mod AnyLaws
+pub mod RefusalLaws
