@@ -16,7 +16,7 @@ use decoding::RULE_KINDS;
 use engine::asking::{Said, ask_wanted};
 use names::listed;
 use problem::layout::WORDS;
-use reader::{Layout, Outcome, read, wanted_of};
+use reader::{Layout, read, wanted_of};
 use records::clear;
 
 pub mod names;
@@ -185,12 +185,12 @@ pub fn classify(
         (areas_of nodes.new edges.new alternatives.new table.new) }
 {
     match read(file, RULE_KINDS) {
-        Outcome::Refused(n) => Page {
-            refusal: n as u32,
+        Err(refusal) => Page {
+            refusal: refusal.number() as u32,
             count: 0,
             names: 0,
         },
-        Outcome::Accepted(layout) => classify_accepted(
+        Ok(layout) => classify_accepted(
             file,
             layout,
             nodes,

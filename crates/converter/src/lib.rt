@@ -12,7 +12,7 @@ ghost use Rattle.converter.specs.Clauses.{numbers_of, refused_numbers, FinishAsk
 use decoding::DRAFT_KINDS;
 use encoder::write_file;
 use normalize::{Listed, NO_PLACE, SLOTS, keep_inclusions, put_list};
-use reader::{Layout, Outcome, read, rules_of, wanted_of};
+use reader::{Layout, read, rules_of, wanted_of};
 use rulefile::{LONGEST, MOST_ROWS, MOST_RULES, ROW, TRAILER};
 
 // The refusal's number and 0, or 0 and the length of the file that is written.
@@ -99,7 +99,7 @@ pub fn convert(draft: &[u8], area: &mut [u8]) -> Conversion
     ensures { ConversionPromise draft.now area.old (numbers_of result) area.new }
 {
     match read(draft, DRAFT_KINDS) {
-        Outcome::Refused(n) => refused(n as u32),
-        Outcome::Accepted(layout) => convert_accepted(draft, layout, area),
+        Err(refusal) => refused(refusal.number() as u32),
+        Ok(layout) => convert_accepted(draft, layout, area),
     }
 }

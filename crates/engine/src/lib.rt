@@ -24,7 +24,7 @@ use decoding::RULE_KINDS;
 use graph::{Area, Counts};
 use marks::Sizes;
 use problem::layout::WORDS;
-use reader::{Layout, Outcome, read_for, text, text_for, wanted_of};
+use reader::{Layout, read_for, text, text_for, wanted_of};
 use records::clear;
 
 pub mod asking;
@@ -170,8 +170,8 @@ pub fn fit_wanted(
         (areas_of nodes.new edges.new alternatives.new elements.new links.new) }
 {
     match read_for(file, RULE_KINDS, wanted) {
-        Outcome::Refused(n) => refused(n as u32),
-        Outcome::Accepted(layout) => fit_accepted(
+        Err(refusal) => refused(refusal.number() as u32),
+        Ok(layout) => fit_accepted(
             file,
             layout,
             wanted,

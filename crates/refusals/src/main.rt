@@ -3,7 +3,6 @@
 #![tactic(auto)]
 
 use decoding::RULE_KINDS;
-use reader::Outcome;
 use std::io;
 use std::io::{ErrorKind, Read};
 
@@ -30,8 +29,8 @@ fn sum(bytes: &[u8]) -> u16 {
 // Writes the refusal of one file, or that it is accepted.
 fn show_refusal(rt: &impl Print, file: &[u8]) -> io::Result<()> {
     match reader::read(file, RULE_KINDS) {
-        Outcome::Refused(n) => print!(rt; "{n}"),
-        Outcome::Accepted(_) => print!(rt; "ok"),
+        Err(refusal) => print!(rt; "{}", refusal.number()),
+        Ok(_) => print!(rt; "ok"),
     }
 }
 
