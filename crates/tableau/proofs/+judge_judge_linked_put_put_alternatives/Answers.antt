@@ -7,6 +7,7 @@ use Rattle.procedure.specs.SetTests.{lacking}
 use Rattle.problem.specs.Decoded.{problem_of}
 use Rattle.rowset.specs.SetOf.{set_of}
 use Rattle.rowset.specs.ByteLaws.{zeros-empty}
+use Rattle.graph.specs.Graphs.{work}
 use Rattle.graph.specs.RefineLaws.{passed-on}
 use Rattle.tableau.specs.JudgeCases.{judge-judges, judge-links, judge-lapses, judge-states, judge-branches, linked-fits, linked-sets}
 use Rattle.tableau.specs.JudgeCases.{linked-takes, linked-small, small-judges}
@@ -94,7 +95,7 @@ put-returns-then-lacks t c =
     (c.lacking.ensures.1
     ∙ ap (λ (q : ℕ). lacking (problem_of c.args.problem.now) (set_of c.args.s.now 0) c.inverse-back.result (set_of c.args.nodes.now q))
     c.node_set-above.ensures)
-    c.add_lapsed.ensures
+    {w' = work c.add_lapsed.new.nodes c.add_lapsed.new.edges c.add_lapsed.new.alternatives} c.add_lapsed.ensures
 
 pub put-judge-requires : goal.put-judge-requires
 put-judge-requires t c =
