@@ -1,7 +1,7 @@
 -- Laws of Graphs: a step that adds a record, with its place in the chains.
 --
 -- In order: a node more; an edge more; an alternative more. Each has a law for a record that finds its place, and one for none.
-use Rattle.std.specs.Prelude.{◌≡◌, true, false, List, [], ◌∷◌, ℕ, ◌+◌, ◌≤◌, ◌<◌, ltb, length}
+use Rattle.std.specs.Prelude.{◌≡◌, true, false, List, [], ◌∷◌, ℕ, ◌+◌, ◌≤◌, ◌<◌, ltb, length, Ok, Err}
 use Rattle.std.proofs.Math.Path.{refl, sym, ap}
 use Rattle.std.proofs.Common.{◌∙◌, lt-ltb, le-ltb, length-append}
 use Rattle.std.proofs.Math.Decide.{dec_lt}
@@ -23,7 +23,6 @@ use Rattle.graph.specs.Graphs.{Work, work, graph_of, capacity_of, AddsNode, Adds
 use Rattle.graph.specs.GraphLaws.{grown-refl, sized-refl, count-nodes, count-edges, count-alternatives}
 use Rattle.graph.specs.declared.Counts.{Counts}
 use Rattle.graph.specs.declared.Area.TheVariants.{Nodes, Edges, Alternatives}
-use Rattle.graph.specs.declared.Step.TheVariants.{Done, Full}
 
 -- ---- a node more
 
@@ -61,7 +60,7 @@ graph-append-node c v s e a =
 module _ {n n' : Bytes} (c : Counts) (v : G.Node) where
   pub add-node-done : {n₂ n₃ n₄ : Bytes} → NodeWritten n n' c.nodes v
       → Begun child_places n' n₂ c.nodes → Begun parent_places n₂ n₃ c.nodes → Begun alternative_places n₃ n₄ c.nodes
-      → c.nodes < room_of node_size n → AddsNode n n₄ c (Done (more_nodes c)) (λ k g. G.add_node k v g)
+      → c.nodes < room_of node_size n → AddsNode n n₄ c (Ok (more_nodes c)) (λ k g. G.add_node k v g)
   add-node-done W X Y Z l e a h =
       let B = within-beside (within-then (within_wider node_chains node_free (omega arith) (omega arith) X.within)
       (within-then (within_wider node_chains node_free (omega arith) (omega arith) Y.within)
@@ -77,7 +76,7 @@ module _ {n n' : Bytes} (c : Counts) (v : G.Node) where
         sized = record { nodes = t.size; edges = refl; alternatives = refl };
       }
 
-pub add-node-full : {n : Bytes} (c : Counts) (v : G.Node) → room_of node_size n ≤ c.nodes → AddsNode n n c (Full Nodes) (λ k g. G.add_node k v g)
+pub add-node-full : {n : Bytes} (c : Counts) (v : G.Node) → room_of node_size n ≤ c.nodes → AddsNode n n c (Err Nodes) (λ k g. G.add_node k v g)
 add-node-full {n} c v l e a h = record {
   meets = (graph_of (work n e a) c, node-none (capacity_of (work n e a)) v (graph_of (work n e a) c) (omega (arith, count-nodes (work n e a) c)));
   held = tt;
@@ -105,7 +104,7 @@ graph-append-edge n n' c x y same s a = cc (records-same node_in same c.nodes, r
 module _ {n n₁ n₂ e e₁ e₂ e₃ : Bytes} (c : Counts) (x y : ℕ) where
   pub add-edge-done : x < c.nodes → y < c.nodes → EdgeWritten e e₁ c.edges (record { from = x; to = y })
       → Appended child_places n n₁ e₁ e₂ c.edges x → Appended parent_places n₁ n₂ e₂ e₃ c.edges y
-      → c.edges < room_of edge_size e → AddsEdge n n₂ e e₃ c (Done (more_edges c)) (λ k g. G.add_edge k x y g)
+      → c.edges < room_of edge_size e → AddsEdge n n₂ e e₃ c (Ok (more_edges c)) (λ k g. G.add_edge k x y g)
   unfolding edge_in
   add-edge-done hx hy W J K l a h =
       let B = beside-then (beside-wider edge_chains edge_free (omega arith) (omega arith) J.area)
@@ -129,7 +128,7 @@ module _ {n n₁ n₂ e e₁ e₂ e₃ : Bytes} (c : Counts) (x y : ℕ) where
         sized = record { nodes = N.long; edges = t.size; alternatives = refl };
       }
 
-pub add-edge-full : {n e : Bytes} (c : Counts) (x y : ℕ) → room_of edge_size e ≤ c.edges → AddsEdge n n e e c (Full Edges) (λ k g. G.add_edge k x y g)
+pub add-edge-full : {n e : Bytes} (c : Counts) (x y : ℕ) → room_of edge_size e ≤ c.edges → AddsEdge n n e e c (Err Edges) (λ k g. G.add_edge k x y g)
 add-edge-full {n} {e} c x y l a h = record {
   meets = (graph_of (work n e a) c, edge_none (capacity_of (work n e a)) x y (graph_of (work n e a) c) (omega (arith, count-edges (work n e a) c)));
   held = tt;
@@ -175,7 +174,7 @@ module _ {n n₁ a a₁ a₂ : Bytes} (c : Counts) (x : ℕ) (s : RowSet) where
   pub add-alternative-done : x < c.nodes → ((e : Bytes) → G.has_alternative x s (graph_of (work n e a) c) ≡ false)
       → AlternativeWritten a a₁ c.alternatives (alternative_of s x)
       → Appended alternative_places n n₁ a₁ a₂ c.alternatives x
-      → c.alternatives < room_of alternative_size a → AddsAlternative n n₁ a a₂ c (Done (more_alternatives c)) (λ k g. G.add_alternative k x s g)
+      → c.alternatives < room_of alternative_size a → AddsAlternative n n₁ a a₂ c (Ok (more_alternatives c)) (λ k g. G.add_alternative k x s g)
   unfolding alternative_in
   add-alternative-done hx had W J l e h =
       let t = stored-then alternative_in W.stored J.area.long (alternative-beside (omega arith) J.area) in
@@ -197,7 +196,7 @@ module _ {n n₁ a a₁ a₂ : Bytes} (c : Counts) (x : ℕ) (s : RowSet) where
 
 module _ {n a : Bytes} (c : Counts) (x : ℕ) (s : RowSet) where
   pub add-alternative-known : ((e : Bytes) → G.has_alternative x s (graph_of (work n e a) c) ≡ true)
-      → AddsAlternative n n a a c (Done c) (λ k g. G.add_alternative k x s g)
+      → AddsAlternative n n a a c (Ok c) (λ k g. G.add_alternative k x s g)
   add-alternative-known had e h =
       record {
         meets = sym (alternative-known (capacity_of (work n e a)) x s (graph_of (work n e a) c) (had e));
@@ -206,7 +205,7 @@ module _ {n a : Bytes} (c : Counts) (x : ℕ) (s : RowSet) where
       }
 
   pub add-alternative-full : ((e : Bytes) → G.has_alternative x s (graph_of (work n e a) c) ≡ false) → room_of alternative_size a ≤ c.alternatives
-      → AddsAlternative n n a a c (Full Alternatives) (λ k g. G.add_alternative k x s g)
+      → AddsAlternative n n a a c (Err Alternatives) (λ k g. G.add_alternative k x s g)
   add-alternative-full had l e h = record {
     meets = (
       graph_of (work n e a) c,

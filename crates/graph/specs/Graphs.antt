@@ -1,7 +1,7 @@
 -- The graph that the work areas hold, and how code on the areas refines a definition on the graph. Laws are in GraphLaws, AddLaws, SearchLaws and RefineLaws.
 --
 -- In order: the work areas; refinement (`Refines`, `Changes`); some areas, whatever the others hold; searches; the records of a node, from a place on.
-use Rattle.std.specs.Prelude.{◌≡◌, Bool, ◌&&◌, List, [], ◌∷◌, ℕ, ◌+◌, ◌*◌, ◌≤◌, ◌<◌, eqb, ltb, length, get_or, Option, None, Some}
+use Rattle.std.specs.Prelude.{◌≡◌, Bool, ◌&&◌, List, [], ◌∷◌, ℕ, ◌+◌, ◌*◌, ◌≤◌, ◌<◌, eqb, ltb, length, get_or, Option, None, Some, Result, Ok, Err}
 use Rattle.concepts.specs.Lists.{Bytes, NoneBelow}
 use Rattle.concepts.specs.RowSet.{RowSet, empty}
 use Rattle.procedure.specs.Graph as G
@@ -14,14 +14,6 @@ use Rattle.graph.specs.Chains.{Chained}
 use Rattle.graph.specs.declared.Counts.{Counts}
 use Rattle.graph.specs.declared.Area.{Area}
 use Rattle.graph.specs.declared.Area.TheVariants.{Nodes, Edges, Alternatives}
-use Rattle.graph.specs.declared.Step.{Step}
-use Rattle.graph.specs.declared.Step.TheVariants.{Done, Full}
-use Rattle.graph.specs.declared.FoundNode.{FoundNode}
-use Rattle.graph.specs.declared.FoundNode.TheVariants as Found
-use Rattle.graph.specs.declared.Next.{Next}
-use Rattle.graph.specs.declared.Next.TheVariants as Node
-use Rattle.graph.specs.declared.NextAlternative.{NextAlternative}
-use Rattle.graph.specs.declared.NextAlternative.TheVariants as Set
 
 -- ---- the work areas, and the graph that they hold
 
@@ -75,14 +67,23 @@ area_of Nodes = G.node_area
 area_of Edges = G.edge_area
 area_of Alternatives = G.alternative_area
 
+-- the answer is the place behind `count` records in an area with room for so many, or the area, which has none
+abbrev pub IsPlace : Result ℕ Area → ℕ → ℕ → Area → Type 0
+IsPlace (Ok x) room count p = (x ≡ count) × (count < room)
+IsPlace (Err q) room count p = (q ≡ p) × (room ≤ count)
+
+-- what a step answers: the new counts, or the area that had no place
+abbrev pub Step : Type 0
+Step = Result Counts Area
+
 -- an answer, with the areas that it leaves, says a result; where a record found no place the areas may hold anything
 abbrev pub Meets : Step → Work → G.Result → Type 0
-Meets (Done c) w r = G.reached (graph_of w c) ≡ r
-Meets (Full p) w r = G.FindsNoPlace (area_of p) r
+Meets (Ok c) w r = G.reached (graph_of w c) ≡ r
+Meets (Err p) w r = G.FindsNoPlace (area_of p) r
 
 abbrev pub HeldAfter : Step → Counts → Work → Type 0
-HeldAfter (Done d) c w = Held w d × CountsGrown c d
-HeldAfter (Full p) c w = Unit {0}
+HeldAfter (Ok d) c w = Held w d × CountsGrown c d
+HeldAfter (Err p) c w = Unit {0}
 
 -- a step of the definitions, in areas that hold so many records
 abbrev pub Operation : Type 0
@@ -149,14 +150,10 @@ TellsAlternative n a c x s r = (e : Bytes) → r ≡ G.has_alternative x s (grap
 unfoldable pub is_state_with : Bytes → RowSet → ℕ → Bool
 is_state_with n s x = ltb 0 x && ((node_in n x).is_state && eqb (node_in n x).rows s)
 
-abbrev pub found_of : FoundNode → Option ℕ
-found_of (Found.At x) = Some x
-found_of Found.Nothing = None
-
 -- no node below the one that was found passes
-abbrev pub PassedOver : FoundNode → (ℕ → Bool) → Type 0
-PassedOver (Found.At x) f = NoneBelow f x
-PassedOver Found.Nothing f = Unit {0}
+abbrev pub PassedOver : Option ℕ → (ℕ → Bool) → Type 0
+PassedOver (Some x) f = NoneBelow f x
+PassedOver None f = Unit {0}
 
 -- ---- the records of a node, from a place on
 
@@ -203,12 +200,17 @@ pub record Walks (size : ℕ) (n b : Bytes) (m count x from : ℕ) : Type 0 wher
   pub place : from ≤ count
   pub records : count ≤ room_of size b
 
+-- the answer is record i, if there are so many
+abbrev pub IsRecord : Option ℕ → ℕ → ℕ → Type 0
+IsRecord (Some j) count i = (j ≡ i) × (j < count)
+IsRecord None count i = count ≤ i
+
 -- the answer is the first of `rest from`, from a record below n, and the place behind it is among those of the chain; or there is none
-abbrev pub IsNext : Next → ℕ → ℕ → (ℕ → List ℕ) → (ℕ → Type 0) → Type 0
-IsNext (Node.At i y) from n rest among = (from ≤ i) × (i < n) × (rest from ≡ y ∷ rest (i + 1)) × among (i + 1)
-IsNext Node.End from n rest among = rest from ≡ []
+abbrev pub IsNext : Option (ℕ × ℕ) → ℕ → ℕ → (ℕ → List ℕ) → (ℕ → Type 0) → Type 0
+IsNext (Some (i, y)) from n rest among = (from ≤ i) × (i < n) × (rest from ≡ y ∷ rest (i + 1)) × among (i + 1)
+IsNext None from n rest among = rest from ≡ []
 
 -- the same of a set, which is that of a record of a
-abbrev pub IsNextAlternative : Bytes → NextAlternative → ℕ → ℕ → (ℕ → List RowSet) → (ℕ → Type 0) → Type 0
-IsNextAlternative a (Set.At i) from n rest among = (from ≤ i) × (i < n) × (rest from ≡ set_of a (alternative_size * i) ∷ rest (i + 1)) × among (i + 1)
-IsNextAlternative a Set.End from n rest among = rest from ≡ []
+abbrev pub IsNextAlternative : Bytes → Option ℕ → ℕ → ℕ → (ℕ → List RowSet) → (ℕ → Type 0) → Type 0
+IsNextAlternative a (Some i) from n rest among = (from ≤ i) × (i < n) × (rest from ≡ set_of a (alternative_size * i) ∷ rest (i + 1)) × among (i + 1)
+IsNextAlternative a None from n rest among = rest from ≡ []

@@ -1,21 +1,19 @@
 -- Laws of refinement: steps one after another, changes, and loops over a list.
 --
 -- In order: a step by another name (`refines-as`); a step after a step, and after one that found no place; changes; a loop over `for_each` (`Course`).
-use Rattle.std.specs.Prelude.{◌≡◌, refl, List, [], ◌∷◌}
+use Rattle.std.specs.Prelude.{◌≡◌, refl, List, [], ◌∷◌, Ok, Err}
 use Rattle.std.proofs.Common.{sym, ap, ◌∙◌, subst}
 use Rattle.procedure.specs.Graph as G
 use Rattle.procedure.specs.TableauLaws.{bind-reached, short-bind, short-as, for_each-none, for_each-cons}
-use Rattle.graph.specs.Graphs.{Work, graph_of, capacity_of, Held, CountsGrown, Sized, Meets, HeldAfter, Operation, Refines, Changes}
+use Rattle.graph.specs.Graphs.{Work, graph_of, capacity_of, Held, CountsGrown, Sized, Step, Meets, HeldAfter, Operation, Refines, Changes}
 use Rattle.graph.specs.GraphLaws.{grown-refl, grown-trans, sized-refl, sized-trans, sized-places}
 use Rattle.graph.specs.declared.Counts.{Counts}
 use Rattle.graph.specs.declared.Area.{Area}
-use Rattle.graph.specs.declared.Step.{Step}
-use Rattle.graph.specs.declared.Step.TheVariants.{Done, Full}
 
 -- what a step holds, as what an earlier one holds further on
 held-further : {c d : Counts} (r : Step) (w : Work) → CountsGrown c d → HeldAfter r d w → HeldAfter r c w
-held-further (Done b) w p h = (h.0, grown-trans p h.1)
-held-further (Full x) w p h = tt
+held-further (Ok b) w p h = (h.0, grown-trans p h.1)
+held-further (Err x) w p h = tt
 
 module _ {w : Work} {c : Counts} {r : Step} {w' : Work} {f : Operation} (R : Refines w c r w' f) where
   -- an answer that is known
@@ -28,7 +26,7 @@ module _ {w : Work} {c : Counts} {r : Step} {w' : Work} {f : Operation} (R : Ref
 
 -- ---- one step after another; the second may look at the graph of the start
 
-module _ {w : Work} {c d : Counts} {w₁ : Work} {f : Operation} (R : Refines w c (Done d) w₁ f) where
+module _ {w : Work} {c d : Counts} {w₁ : Work} {f : Operation} (R : Refines w c (Ok d) w₁ f) where
   pub refines-held : Held w₁ d
   refines-held = R.held.0
 
@@ -42,8 +40,8 @@ module _ {w : Work} {c d : Counts} {w₁ : Work} {f : Operation} (R : Refines w 
     sized = sized-trans R.sized S.sized;
   }
 
-pub refines-short : {w : Work} {c : Counts} {p : Area} {w₁ : Work} {f : Operation} → Refines w c (Full p) w₁ f
-    → (next : G.Graph → Operation) {w₂ : Work} → Sized w₁ w₂ → Refines w c (Full p) w₂ (λ k g. G.◌>>=◌ (f k g) (next g k))
+pub refines-short : {w : Work} {c : Counts} {p : Area} {w₁ : Work} {f : Operation} → Refines w c (Err p) w₁ f
+    → (next : G.Graph → Operation) {w₂ : Work} → Sized w₁ w₂ → Refines w c (Err p) w₂ (λ k g. G.◌>>=◌ (f k g) (next g k))
 refines-short {w} {c} {p} R next z = record {
   meets = short-bind R.meets (next (graph_of w c) (capacity_of w));
   held = tt;
@@ -53,11 +51,11 @@ refines-short {w} {c} {p} R next z = record {
 -- ---- changes
 
 -- nothing was done
-pub refines-none : {w : Work} {c : Counts} → Held w c → Refines w c (Done c) w (λ k g. G.reached g)
+pub refines-none : {w : Work} {c : Counts} → Held w c → Refines w c (Ok c) w (λ k g. G.reached g)
 refines-none {w} {c} h = record { meets = refl; held = (h, grown-refl); sized = sized-refl }
 
 module _ {w : Work} {c : Counts} {w₁ : Work} {f : G.Graph → G.Graph} (C : Changes w c w₁ f) where
-  pub changes-refines : Refines w c (Done c) w₁ (λ k g. G.reached (f g))
+  pub changes-refines : Refines w c (Ok c) w₁ (λ k g. G.reached (f g))
   changes-refines = record { meets = ap G.reached C.meets; held = (C.held, grown-refl); sized = C.sized }
 
   -- a step after a change
@@ -74,9 +72,9 @@ module _ {w : Work} {c : Counts} {w₁ : Work} {f : G.Graph → G.Graph} (C : Ch
   changes-both {h = h} D = record { meets = D.meets ∙ ap h C.meets; held = D.held; sized = sized-trans C.sized D.sized }
 
 -- a change after a step
-pub refines-changes : {w : Work} {c d : Counts} {w₁ w₂ : Work} {f : Operation} {h : G.Graph → G.Graph} → Refines w c (Done d) w₁ f
+pub refines-changes : {w : Work} {c d : Counts} {w₁ w₂ : Work} {f : Operation} {h : G.Graph → G.Graph} → Refines w c (Ok d) w₁ f
     → Changes w₁ d w₂ h
-    → Refines w c (Done d) w₂ (λ k g. G.◌>>=◌ (f k g) (λ u. G.reached (h u)))
+    → Refines w c (Ok d) w₂ (λ k g. G.◌>>=◌ (f k g) (λ u. G.reached (h u)))
 refines-changes {h = h} R C = refines-then R (λ g k u. G.reached (h u)) (changes-refines C)
 
 -- ---- a loop over a list, in its course: from the areas w with counts c, what is left to do gives what the whole list gives
@@ -92,7 +90,7 @@ module _ {A : Type 0} (step : G.Capacity → A → G.Graph → G.Result) (all : 
   course-start {w} {c} h = record { held = h; grown = grown-refl; sized = sized-refl; left = refl }
 
 module _ {A : Type 0} {step : G.Capacity → A → G.Graph → G.Result} {all : List A} {w : Work} {c : Counts} {w' : Work} {d : Counts} where
-  pub course-end : Course step all w c [] w' d → Refines w c (Done d) w' (λ k g. G.for_each (step k) all g)
+  pub course-end : Course step all w c [] w' d → Refines w c (Ok d) w' (λ k g. G.for_each (step k) all g)
   course-end L = record {
     meets = sym (for_each-none (step (capacity_of w)) (graph_of w' d)) ∙ L.left;
     held = (L.held, L.grown);
@@ -109,7 +107,7 @@ module _ {A : Type 0} {step : G.Capacity → A → G.Graph → G.Result} {all : 
         ap (λ (k : G.Capacity). G.◌>>=◌ (step k x (graph_of w' d)) left_over) (sized-places L.sized)
         ∙ sym (for_each-cons (step (capacity_of w)) x rest (graph_of w' d)) ∙ L.left
 
-    pub course-next : {w'' : Work} {d' : Counts} → Refines w' d (Done d') w'' (λ k g. step k x g) → Course step all w c rest w'' d'
+    pub course-next : {w'' : Work} {d' : Counts} → Refines w' d (Ok d') w'' (λ k g. step k x g) → Course step all w c rest w'' d'
     course-next {w''} {d'} R = record {
       held = R.held.0;
       grown = grown-trans L.grown R.held.1;
@@ -117,8 +115,8 @@ module _ {A : Type 0} {step : G.Capacity → A → G.Graph → G.Result} {all : 
       left = sym (bind-reached (graph_of w'' d') left_over) ∙ ap (λ (y : G.Result). G.◌>>=◌ y left_over) R.meets ∙ step_then;
     }
 
-    pub course-short : {w'' : Work} {p : Area} → Refines w' d (Full p) w'' (λ k g. step k x g)
-        → Refines w c (Full p) w'' (λ k g. G.for_each (step k) all g)
+    pub course-short : {w'' : Work} {p : Area} → Refines w' d (Err p) w'' (λ k g. step k x g)
+        → Refines w c (Err p) w'' (λ k g. G.for_each (step k) all g)
     course-short {w''} {p} R = record {
       meets = short-as (short-bind R.meets left_over) step_then;
       held = tt;

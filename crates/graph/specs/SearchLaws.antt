@@ -14,8 +14,8 @@ use Rattle.concepts.specs.RowSet.{RowSet}
 use Rattle.procedure.specs.Status.{is_unset}
 use Rattle.procedure.specs.Graph as G
 use Rattle.words.specs.Sizes.{node_size, edge_size, alternative_size}
-use Rattle.records.specs.Areas.{records_in, chosen_from}
-use Rattle.records.specs.AreaLaws.{get_or-records, records-kept, chosen-found, chosen-end}
+use Rattle.records.specs.Areas.{Fits, records_in, chosen_from}
+use Rattle.records.specs.AreaLaws.{get_or-records, records-kept, chosen-found, chosen-end, room_fits}
 use Rattle.rowset.specs.SetOf.{set_of}
 use Rattle.records.specs.Records.{node_in, is_unset_at, edge_in, alternative_in}
 use Rattle.records.specs.RecordLaws.{node-rows}
@@ -25,14 +25,10 @@ use Rattle.chains.specs.Places.{key_in, next_in, first_in, ChainIn}
 use Rattle.chains.specs.declared.Places.{Places}
 use Rattle.graph.specs.Chains.{child_places, parent_places, alternative_places}
 use Rattle.graph.specs.Graphs.{Work, work, graph_of, Held, CountsGrown, is_state_with, children_from, parents_from, alternatives_from}
-use Rattle.graph.specs.Graphs.{no_edge, no_alternative, AmongChildren, AmongParents, AmongAlternatives, Walks, IsNext, IsNextAlternative}
+use Rattle.graph.specs.Graphs.{no_edge, no_alternative, AmongChildren, AmongParents, AmongAlternatives, Walks, IsRecord, IsNext, IsNextAlternative}
 use Rattle.graph.specs.Graphs.{WithAlternatives, Owns}
 use Rattle.graph.specs.GraphLaws.{grown-refl, count-nodes, count-edges, count-alternatives, graph-node}
 use Rattle.graph.specs.declared.Counts.{Counts}
-use Rattle.graph.specs.declared.Next.{Next}
-use Rattle.graph.specs.declared.Next.TheVariants as Node
-use Rattle.graph.specs.declared.NextAlternative.{NextAlternative}
-use Rattle.graph.specs.declared.NextAlternative.TheVariants as Set
 
 -- ---- searches for a node
 
@@ -151,26 +147,26 @@ module _ (g h : G.Graph) (x i : ℕ) where
 
 -- so what a step along a chain gives now, it gives of the graph of then
 module _ (g h : G.Graph) (x i count : ℕ) where
-  pub next-parent-same : h.edges ≡ g.edges → (v : Next) → IsNext v i count (parents_from h x) (AmongParents h x)
+  pub next-parent-same : h.edges ≡ g.edges → (v : Option (ℕ × ℕ)) → IsNext v i count (parents_from h x) (AmongParents h x)
       → IsNext v i count (parents_from g x) (AmongParents g x)
-  next-parent-same e (Node.At j y) (l, m, q, o) = (
+  next-parent-same e (Some (j, y)) (l, m, q, o) = (
     l,
     m,
     sym (parents-same g h x i e) ∙ q ∙ ap (λ (z : List ℕ). y ∷ z) (parents-same g h x (j + 1) e),
     among-parents-same g h x (j + 1) e o,
   )
-  next-parent-same e Node.End q = sym (parents-same g h x i e) ∙ q
+  next-parent-same e None q = sym (parents-same g h x i e) ∙ q
 
-  pub next-alternative-same : (a : Bytes) → h.alternatives ≡ g.alternatives → (v : NextAlternative)
+  pub next-alternative-same : (a : Bytes) → h.alternatives ≡ g.alternatives → (v : Option ℕ)
       → IsNextAlternative a v i count (alternatives_from h x) (AmongAlternatives h x)
       → IsNextAlternative a v i count (alternatives_from g x) (AmongAlternatives g x)
-  next-alternative-same a e (Set.At j) (l, m, q, o) = (
+  next-alternative-same a e (Some j) (l, m, q, o) = (
     l,
     m,
     sym (alternatives-same g h x i e) ∙ q ∙ ap (λ (z : List RowSet). set_of a (alternative_size * j) ∷ z) (alternatives-same g h x (j + 1) e),
     among-alternatives-same g h x (j + 1) e o,
   )
-  next-alternative-same a e Set.End q = sym (alternatives-same g h x i e) ∙ q
+  next-alternative-same a e None q = sym (alternatives-same g h x i e) ∙ q
 
 -- ---- a step along a chain is what a search finds
 
@@ -222,26 +218,26 @@ module _ {n e a : Bytes} {c d : Counts} (H : Held (work n e a) d) (grown : Count
     there = omega (arith, walks.node, grown.nodes)
 
     module _ {i : ℕ} (o : AmongChildren g x from) (s : i ≡ following (next_in child_places e) (first_in child_places n) x from) where
-      pub child-next : (y : ℕ) → y ≡ (edge_in e i).to → i < c.edges → IsNext (Node.At i y) from c.edges (children_from g x) (AmongChildren g x)
+      pub child-next : (y : ℕ) → y ≡ (edge_in e i).to → i < c.edges → IsNext (Some (i, y)) from c.edges (children_from g x) (AmongChildren g x)
       unfolding children_from graph_of edge_in
       child-next y q h =
           rw q (along-next child_places edge_in (λ (d : G.Edge). d.from) (λ (d : G.Edge). d.to) no_edge (λ b j. refl) n e
           H.chains.children there grown.edges walks.place o s h)
 
-      pub child-end : c.edges ≤ i → IsNext Node.End from c.edges (children_from g x) (AmongChildren g x)
+      pub child-end : c.edges ≤ i → IsNext None from c.edges (children_from g x) (AmongChildren g x)
       unfolding children_from graph_of edge_in
       child-end h =
           along-end child_places edge_in (λ (d : G.Edge). d.from) (λ (d : G.Edge). d.to) no_edge (λ b j. refl) n e
           H.chains.children there grown.edges walks.place o s h
 
     module _ {i : ℕ} (o : AmongParents g x from) (s : i ≡ following (next_in parent_places e) (first_in parent_places n) x from) where
-      pub parent-next : (y : ℕ) → y ≡ (edge_in e i).from → i < c.edges → IsNext (Node.At i y) from c.edges (parents_from g x) (AmongParents g x)
+      pub parent-next : (y : ℕ) → y ≡ (edge_in e i).from → i < c.edges → IsNext (Some (i, y)) from c.edges (parents_from g x) (AmongParents g x)
       unfolding parents_from graph_of edge_in
       parent-next y q h =
           rw q (along-next parent_places edge_in (λ (d : G.Edge). d.to) (λ (d : G.Edge). d.from) no_edge (λ b j. refl) n e
           H.chains.parents there grown.edges walks.place o s h)
 
-      pub parent-end : c.edges ≤ i → IsNext Node.End from c.edges (parents_from g x) (AmongParents g x)
+      pub parent-end : c.edges ≤ i → IsNext None from c.edges (parents_from g x) (AmongParents g x)
       unfolding parents_from graph_of edge_in
       parent-end h =
           along-end parent_places edge_in (λ (d : G.Edge). d.to) (λ (d : G.Edge). d.from) no_edge (λ b j. refl) n e
@@ -252,17 +248,23 @@ module _ {n e a : Bytes} {c d : Counts} (H : Held (work n e a) d) (grown : Count
     state-there : x < d.nodes
     state-there = omega (arith, walks.node, grown.nodes)
 
-    pub alternative-next : i < c.alternatives → IsNextAlternative a (Set.At i) from c.alternatives (alternatives_from g x) (AmongAlternatives g x)
+    alternative-next : i < c.alternatives → IsNextAlternative a (Some i) from c.alternatives (alternatives_from g x) (AmongAlternatives g x)
     unfolding alternatives_from graph_of alternative_in
     alternative-next h =
         along-next alternative_places alternative_in (λ (d : G.Alternative). d.owner) (λ (d : G.Alternative). d.rows) no_alternative (λ b j. refl) n a
         H.chains.alternatives state-there grown.alternatives walks.place o s h
 
-    pub alternative-end : c.alternatives ≤ i → IsNextAlternative a Set.End from c.alternatives (alternatives_from g x) (AmongAlternatives g x)
+    alternative-end : c.alternatives ≤ i → IsNextAlternative a None from c.alternatives (alternatives_from g x) (AmongAlternatives g x)
     unfolding alternatives_from graph_of alternative_in
     alternative-end h =
         along-end alternative_places alternative_in (λ (d : G.Alternative). d.owner) (λ (d : G.Alternative). d.rows) no_alternative (λ b j. refl) n a
         H.chains.alternatives state-there grown.alternatives walks.place o s h
+
+  pub alternative-step : {x from : ℕ} → Walks alternative_size n a c.nodes c.alternatives x from → AmongAlternatives g x from
+      → (r : Option ℕ) → IsRecord r c.alternatives (following (next_in alternative_places a) (first_in alternative_places n) x from)
+      → IsNextAlternative a r from c.alternatives (alternatives_from g x) (AmongAlternatives g x)
+  alternative-step walks o (Some i) p = alternative-next walks o p.0 p.1
+  alternative-step walks o None p = alternative-end walks o refl p
 
 -- ---- a search through the alternatives of a state
 
@@ -287,12 +289,14 @@ pub record Sought (n a : Bytes) (c : Counts) (x : ℕ) (s : RowSet) (i : ℕ) : 
   pub among : AmongAlternatives (graph_of (work n [] a) c) x i
   pub left : (e : Bytes) → any (λ v. eqb v s) (alternatives_from (graph_of (work n e a) c) x i) ≡ G.has_alternative x s (graph_of (work n e a) c)
 
--- what the search from place i on learns at alternative j, the next one
+-- what the search from place i on learns at alternative j, the next one, by a test b of its set, which is at place k
 pub record SoughtAt (n a : Bytes) (c : Counts) (x : ℕ) (s : RowSet) (i j : ℕ) : Type 0 where
   pub from : i ≤ j
   pub below : j < c.alternatives
-  pub here : eqb (set_of a (alternative_size * j)) s ≡ true → (e : Bytes) → true ≡ G.has_alternative x s (graph_of (work n e a) c)
-  pub more : eqb (set_of a (alternative_size * j)) s ≡ false → Sought n a c x s (j + 1)
+  pub inside : Fits alternative_size a j
+  pub here : {k : ℕ} {b : Bool} → k ≡ alternative_size * j → b ≡ eqb (set_of a k) s → b ≡ true
+      → (e : Bytes) → true ≡ G.has_alternative x s (graph_of (work n e a) c)
+  pub more : {k : ℕ} {b : Bool} → k ≡ alternative_size * j → b ≡ eqb (set_of a k) s → b ≡ false → Sought n a c x s (j + 1)
 
 pub sought-start : (n a : Bytes) (c : Counts) (x : ℕ) (s : RowSet) → Sought n a c x s 0
 sought-start n a c x s = record { place = omega arith; among = tt; left = λ e. sym (has-among x s (graph_of (work n e a) c)) }
@@ -301,36 +305,41 @@ module _ {n a : Bytes} {c : Counts} {x : ℕ} {s : RowSet} {i : ℕ} (O : Owns n
   pub sought-walks : Walks alternative_size n a c.nodes c.alternatives x i
   sought-walks = record { node = O.node; nodes = O.held.nodes; place = S.place; records = O.held.alternatives }
 
-  module _ {r : NextAlternative}
+  -- the answer of the step from place i on, whatever the edges
+  answered : (v : Option ℕ)
+      → WithAlternatives n a c (λ g. AmongAlternatives g x i → IsNextAlternative a v i c.alternatives (alternatives_from g x) (AmongAlternatives g x))
+      → (e : Bytes) → let g = graph_of (work n e a) c in IsNextAlternative a v i c.alternatives (alternatives_from g x) (AmongAlternatives g x)
+  unfolding graph_of alternatives_from
+  answered v N e = N O.edges c O.held grown-refl S.among
+
+  pub sought-end : WithAlternatives n a c (λ g. AmongAlternatives g x i
+      → IsNextAlternative a None i c.alternatives (alternatives_from g x) (AmongAlternatives g x))
+      → (e : Bytes) → false ≡ G.has_alternative x s (graph_of (work n e a) c)
+  unfolding any
+  sought-end N e = ap (λ (l : List RowSet). any (λ v. eqb v s) l) (sym (answered None N e)) ∙ S.left e
+
+  module _ {j : ℕ}
       (N : WithAlternatives n a c (λ g. AmongAlternatives g x i
-      → IsNextAlternative a r i c.alternatives (alternatives_from g x) (AmongAlternatives g x))) where
-    -- the answer, whatever the edges
-    answered : (v : NextAlternative) → r ≡ v → (e : Bytes)
-        → let g = graph_of (work n e a) c in IsNextAlternative a v i c.alternatives (alternatives_from g x) (AmongAlternatives g x)
-    unfolding graph_of alternatives_from
-    answered v q e =
-        let g = graph_of (work n O.edges a) c in
-        subst (λ (u : NextAlternative). IsNextAlternative a u i c.alternatives (alternatives_from g x) (AmongAlternatives g x)) q
-        (N O.edges c O.held grown-refl S.among)
-
-    pub sought-end : r ≡ Set.End → (e : Bytes) → false ≡ G.has_alternative x s (graph_of (work n e a) c)
-    unfolding any
-    sought-end q e = ap (λ (l : List RowSet). any (λ v. eqb v s) l) (sym (answered Set.End q e)) ∙ S.left e
-
+      → IsNextAlternative a (Some j) i c.alternatives (alternatives_from g x) (AmongAlternatives g x))) where
     -- by whether the set of alternative j is s
-    by_first : {j : ℕ} → r ≡ Set.At j → (b : Bool) → eqb (set_of a (alternative_size * j)) s ≡ b → (e : Bytes)
+    by_first : (b : Bool) → eqb (set_of a (alternative_size * j)) s ≡ b → (e : Bytes)
         → (b || any (λ v. eqb v s) (alternatives_from (graph_of (work n e a) c) x (j + 1))) ≡ G.has_alternative x s (graph_of (work n e a) c)
     unfolding any
-    by_first {j} q b t e =
+    by_first b t e =
         ap (λ (b : Bool). b || any (λ v. eqb v s) (alternatives_from (graph_of (work n e a) c) x (j + 1))) (sym t)
-        ∙ ap (λ (l : List RowSet). any (λ v. eqb v s) l) (sym (answered (Set.At j) q e).2) ∙ S.left e
+        ∙ ap (λ (l : List RowSet). any (λ v. eqb v s) l) (sym (answered (Some j) N e).2) ∙ S.left e
 
-    pub sought-at : {j : ℕ} → r ≡ Set.At j → SoughtAt n a c x s i j
-    sought-at {j} q =
-        let (from, below, _, among) = answered (Set.At j) q [] in
+    pub sought-at : SoughtAt n a c x s i j
+    sought-at =
+        let (from, below, _, among) = answered (Some j) N [] in
         record {
           from = from;
           below = below;
-          here = by_first q true;
-          more = λ t. record { place = omega (arith, below); among = among; left = by_first q false t };
+          inside = room_fits alternative_size a O.held.alternatives below;
+          here = λ e t h. by_first true (sym (t ∙ ap (λ (k : ℕ). eqb (set_of a k) s) e) ∙ h);
+          more = λ e t h. record {
+            place = omega (arith, below);
+            among = among;
+            left = by_first false (sym (t ∙ ap (λ (k : ℕ). eqb (set_of a k) s) e) ∙ h);
+          };
         }

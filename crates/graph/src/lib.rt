@@ -7,11 +7,13 @@
 ghost use Rattle.std.specs.Prelude.{◌≡◌, ◌≤◌, ◌<◌};
 ghost use Rattle.concepts.specs.Lists.{NoneBelow};
 ghost use Rattle.procedure.specs.Graph.{add_node, add_edge, add_alternative, set_status, set_link, find_state, lowest_unset};
-ghost use Rattle.words.specs.Sizes.{node_size, edge_size, alternative_size};
+ghost use Rattle.words.specs.Sizes.{node_size, edge_size, alternative_size, records_lent};
 ghost use Rattle.rowset.specs.SetOf.{set_of};
 ghost use Rattle.records.specs.Areas.{room_of, Fits};
 ghost use Rattle.records.specs.Codes as Codes;
 ghost use Rattle.records.specs.Records as Records;
+ghost use Rattle.chains.specs.Chain.{following};
+ghost use Rattle.chains.specs.Places.{Sits, next_in, first_in};
 ghost use Rattle.graph.specs.Graphs as Graphs;
 
 use chains::{Places, append, begin, follow};
@@ -34,40 +36,12 @@ pub struct Counts {
     pub alternatives: u16,
 }
 
-// An area that was short.
-#[derive(Clone, Copy)]
+// An area that was short: what a step answers that found no place. One that did answers the new counts.
+#[derive(Clone, Copy, PartialEq, Eq, Debug)]
 pub enum Area {
     Nodes,
     Edges,
     Alternatives,
-}
-
-// What a step answers: the new counts, or the area that had no place.
-#[derive(Clone, Copy)]
-pub enum Step {
-    Done(Counts),
-    Full(Area),
-}
-
-// A node that was looked for.
-#[derive(Clone, Copy)]
-pub enum FoundNode {
-    At(u16),
-    Nothing,
-}
-
-// The next child or parent, with the index of its edge.
-#[derive(Clone, Copy)]
-pub enum Next {
-    At { index: usize, node: u16 },
-    End,
-}
-
-// The next alternative of a state, by its index.
-#[derive(Clone, Copy)]
-pub enum NextAlternative {
-    At(usize),
-    End,
 }
 
 // Where the chains keep their numbers: of the edges from a node, of the edges to it, of a state's alternatives.
@@ -92,99 +66,116 @@ const ALTERNATIVES: Places = Places {
     first: ALTERNATIVES_AT,
 };
 
-// The first edge from place `from` on that starts at x, with its end.
-pub fn next_child(nodes: &[u8], edges: &[u8], c: Counts, x: u16, from: usize) -> Next
+// The first record from place `from` on, of the first `count`, that is in the chain of x.
+fn next(nodes: &[u8], area: &[u8], chain: Places, count: u16, x: u16, from: usize) -> Option<usize>
+    requires { Sits chain × Fits node_size nodes.now x × (from ≤ room_of chain.size area.now) }
+    ensures { Graphs.IsRecord result count (following (next_in chain area.now) (first_in chain nodes.now) x from) }
+{
+    let index = follow(nodes, area, chain, x as usize, from);
+    if index < count as usize {
+        Some(index)
+    } else {
+        None
+    }
+}
+
+// The first edge from place `from` on that starts at x, by its index, with its end. This and the next two share `next`; what is left of each is
+// its chain, which its contract speaks of.
+pub fn next_child(
+    nodes: &[u8],
+    edges: &[u8],
+    c: Counts,
+    x: u16,
+    from: usize,
+) -> Option<(usize, u16)>
     requires { Graphs.Walks edge_size nodes.now edges.now c.nodes c.edges x from }
     ensures { Graphs.WithEdges nodes.now edges.now c
         (λ g. Graphs.AmongChildren g x from → Graphs.IsNext result from c.edges (Graphs.children_from g x) (Graphs.AmongChildren g x)) }
 {
-    let index = follow(nodes, edges, CHILDREN, x as usize, from);
-    if index < c.edges as usize {
-        let d = load_edge(edges, index);
-        Next::At { index, node: d.to }
-    } else {
-        Next::End
-    }
+    let index = next(nodes, edges, CHILDREN, c.edges, x, from)?;
+    Some((index, load_edge(edges, index).to))
 }
 
-// The first edge from place `from` on that ends at x, with its start.
-pub fn next_parent(nodes: &[u8], edges: &[u8], c: Counts, x: u16, from: usize) -> Next
+// The first edge from place `from` on that ends at x, by its index, with its start.
+pub fn next_parent(
+    nodes: &[u8],
+    edges: &[u8],
+    c: Counts,
+    x: u16,
+    from: usize,
+) -> Option<(usize, u16)>
     requires { Graphs.Walks edge_size nodes.now edges.now c.nodes c.edges x from }
     ensures { Graphs.WithEdges nodes.now edges.now c
         (λ g. Graphs.AmongParents g x from → Graphs.IsNext result from c.edges (Graphs.parents_from g x) (Graphs.AmongParents g x)) }
 {
-    let index = follow(nodes, edges, PARENTS, x as usize, from);
-    if index < c.edges as usize {
-        let d = load_edge(edges, index);
-        Next::At {
-            index,
-            node: d.from,
-        }
-    } else {
-        Next::End
-    }
+    let index = next(nodes, edges, PARENTS, c.edges, x, from)?;
+    Some((index, load_edge(edges, index).from))
 }
 
-// The first alternative from place `from` on that is state x's.
+// The first alternative from place `from` on that is state x's, by its index.
 pub fn next_alternative(
     nodes: &[u8],
     alternatives: &[u8],
     c: Counts,
     x: u16,
     from: usize,
-) -> NextAlternative
+) -> Option<usize>
     requires { Graphs.Walks alternative_size nodes.now alternatives.now c.nodes c.alternatives x from }
     ensures { Graphs.WithAlternatives nodes.now alternatives.now c
         (λ g. Graphs.AmongAlternatives g x from
         → Graphs.IsNextAlternative alternatives.now result from c.alternatives (Graphs.alternatives_from g x) (Graphs.AmongAlternatives g x)) }
 {
-    let index = follow(nodes, alternatives, ALTERNATIVES, x as usize, from);
-    if index < c.alternatives as usize {
-        NextAlternative::At(index)
+    next(nodes, alternatives, ALTERNATIVES, c.alternatives, x, from)
+}
+
+// The place of a record more of a size, behind `count` of them in an area of a length; or the area, which has none.
+fn place(len: usize, size: usize, count: u16, area: Area) -> Result<usize, Area>
+    requires { 0 < size }
+    ensures { Graphs.IsPlace result (records_lent size len) count area }
+{
+    let x = count as usize;
+    if x < room(len, size) {
+        Ok(x)
     } else {
-        NextAlternative::End
+        Err(area)
     }
 }
 
-// Adds a node with the set s at the end. It has no children, no parents and no alternatives.
-pub fn add_node(nodes: &mut [u8], c: Counts, s: &[u8; SET_BYTES], n: Node) -> Step
+// Adds a node with the set s at the end. It shares `place` with the next two, which write other records into other chains. It has no children, no parents and no alternatives.
+pub fn add_node(nodes: &mut [u8], c: Counts, s: &[u8; SET_BYTES], n: Node) -> Result<Counts, Area>
     ensures { Graphs.AddsNode nodes.old nodes.new c result (λ k g. add_node k (Records.node_of (set_of s.now 0) n) g) }
 {
-    let x = c.nodes as usize;
-    if x < room(nodes.len(), NODE_BYTES) {
-        store_node(nodes, x, s, n);
-        begin(nodes, CHILDREN, x);
-        begin(nodes, PARENTS, x);
-        begin(nodes, ALTERNATIVES, x);
-        Step::Done(Counts {
-            nodes: c.nodes + 1,
-            edges: c.edges,
-            alternatives: c.alternatives,
-        })
-    } else {
-        Step::Full(Area::Nodes)
-    }
+    let x = place(nodes.len(), NODE_BYTES, c.nodes, Area::Nodes)?;
+    store_node(nodes, x, s, n);
+    begin(nodes, CHILDREN, x);
+    begin(nodes, PARENTS, x);
+    begin(nodes, ALTERNATIVES, x);
+    Ok(Counts {
+        nodes: c.nodes + 1,
+        ..c
+    })
 }
 
 // Adds an edge at the end.
-pub fn add_edge(nodes: &mut [u8], edges: &mut [u8], c: Counts, from: u16, to: u16) -> Step
+pub fn add_edge(
+    nodes: &mut [u8],
+    edges: &mut [u8],
+    c: Counts,
+    from: u16,
+    to: u16,
+) -> Result<Counts, Area>
     requires { (from < c.nodes) × (to < c.nodes) × (c.nodes ≤ room_of node_size nodes.old) }
     ensures { Graphs.AddsEdge nodes.old nodes.new edges.old edges.new c result
         (λ k g. add_edge k from to g) }
 {
-    let i = c.edges as usize;
-    if i < room(edges.len(), EDGE_BYTES) {
-        store_edge(edges, i, Edge { from, to });
-        append(nodes, edges, CHILDREN, from as usize, i);
-        append(nodes, edges, PARENTS, to as usize, i);
-        Step::Done(Counts {
-            nodes: c.nodes,
-            edges: c.edges + 1,
-            alternatives: c.alternatives,
-        })
-    } else {
-        Step::Full(Area::Edges)
-    }
+    let i = place(edges.len(), EDGE_BYTES, c.edges, Area::Edges)?;
+    store_edge(edges, i, Edge { from, to });
+    append(nodes, edges, CHILDREN, from as usize, i);
+    append(nodes, edges, PARENTS, to as usize, i);
+    Ok(Counts {
+        edges: c.edges + 1,
+        ..c
+    })
 }
 
 // Whether the state has the set s among its alternatives already.
@@ -198,16 +189,14 @@ fn has_alternative(
     requires { Graphs.Owns nodes.now alternatives.now c owner }
     ensures { Graphs.TellsAlternative nodes.now alternatives.now c owner (set_of s.now 0) result }
 {
-    let mut i: usize = 0;
-    loop {
-        let NextAlternative::At(index) = next_alternative(nodes, alternatives, c, owner, i) else {
-            return false;
-        };
-        if same(alternatives, alternative_set(index), s, 0, SET_WORDS) {
+    let mut from = 0;
+    while let Some(i) = next_alternative(nodes, alternatives, c, owner, from) {
+        if same(alternatives, alternative_set(i), s, 0, SET_WORDS) {
             return true;
         }
-        i = index + 1;
+        from = i + 1;
     }
+    false
 }
 
 // Adds the set s as an alternative at the end, unless the state has it already.
@@ -217,29 +206,29 @@ pub fn add_alternative(
     c: Counts,
     owner: u16,
     s: &[u8; SET_BYTES],
-) -> Step
+) -> Result<Counts, Area>
     requires { Graphs.Owns nodes.old alternatives.old c owner }
     ensures { Graphs.AddsAlternative nodes.old nodes.new alternatives.old alternatives.new c result
         (λ k g. add_alternative k owner (set_of s.now 0) g) }
 {
     if has_alternative(nodes, alternatives, c, owner, s) {
-        return Step::Done(c);
+        return Ok(c);
     }
-    let i = c.alternatives as usize;
-    if i < room(alternatives.len(), ALTERNATIVE_BYTES) {
-        store_alternative(alternatives, i, s, owner);
-        append(nodes, alternatives, ALTERNATIVES, owner as usize, i);
-        Step::Done(Counts {
-            nodes: c.nodes,
-            edges: c.edges,
-            alternatives: c.alternatives + 1,
-        })
-    } else {
-        Step::Full(Area::Alternatives)
-    }
+    let i = place(
+        alternatives.len(),
+        ALTERNATIVE_BYTES,
+        c.alternatives,
+        Area::Alternatives,
+    )?;
+    store_alternative(alternatives, i, s, owner);
+    append(nodes, alternatives, ALTERNATIVES, owner as usize, i);
+    Ok(Counts {
+        alternatives: c.alternatives + 1,
+        ..c
+    })
 }
 
-// Gives node x a status.
+// Gives node x a status. Not one function with `set_link`: each is one call of records, and a parameter would choose between the two.
 pub fn set_status(nodes: &mut [u8], c: Counts, x: usize, status: Status)
     requires { (x < c.nodes) × (c.nodes ≤ room_of node_size nodes.old) }
     ensures { Graphs.ChangesNodes nodes.old nodes.new c (set_status x (Codes.status_of status)) }
@@ -268,34 +257,28 @@ fn is_state_with(nodes: &[u8], x: u16, s: &[u8; SET_BYTES]) -> bool
 }
 
 // The state with the set s; the root "is never looked up".
-pub fn find_state(nodes: &[u8], c: Counts, s: &[u8; SET_BYTES]) -> FoundNode
+pub fn find_state(nodes: &[u8], c: Counts, s: &[u8; SET_BYTES]) -> Option<u16>
     requires { c.nodes ≤ room_of node_size nodes.now }
-    ensures { Graphs.WithNodes nodes.now c (λ g. Graphs.found_of result ≡ find_state (set_of s.now 0) g) }
+    ensures { Graphs.WithNodes nodes.now c (λ g. result ≡ find_state (set_of s.now 0) g) }
 {
-    let count = c.nodes;
-    let mut x = 0;
-    while x < count {
+    for x in 0..c.nodes {
         if is_state_with(nodes, x, s) {
-            return FoundNode::At(x);
+            return Some(x);
         }
-        x += 1;
     }
-    FoundNode::Nothing
+    None
 }
 
 // The lowest node that has no status, where none below `from` lacks one; nor does any below the one that is found.
-pub fn lowest_unset(nodes: &[u8], c: Counts, from: usize) -> FoundNode
+pub fn lowest_unset(nodes: &[u8], c: Counts, from: usize) -> Option<u16>
     requires { (c.nodes ≤ room_of node_size nodes.now) × (from ≤ c.nodes) × NoneBelow (Records.is_unset_at nodes.now) from }
-    ensures { Graphs.WithNodes nodes.now c (λ g. Graphs.found_of result ≡ lowest_unset g)
+    ensures { Graphs.WithNodes nodes.now c (λ g. result ≡ lowest_unset g)
         × Graphs.PassedOver result (Records.is_unset_at nodes.now) }
 {
-    let count = c.nodes as usize;
-    let mut x = from;
-    while x < count {
+    for x in from..c.nodes as usize {
         if is_unset(nodes, x) {
-            return FoundNode::At(x as u16);
+            return Some(x as u16);
         }
-        x += 1;
     }
-    FoundNode::Nothing
+    None
 }

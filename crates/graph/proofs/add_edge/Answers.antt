@@ -1,21 +1,16 @@
 -- `graph::add_edge` meets its contract: by the room that is left.
--- Assumes nothing.
-use native.Mathlib.Omega.{arith}
-use borrow.Author.Rules.{rules}
-use Rattle.graph.specs.ChainsLaws.{child-sits, parent-sits}
+use Rattle.std.proofs.Common.{rules, Err, ◌≡◌}
+use Rattle.graph.specs.declared.Area.TheVariants.{Edges}
 use Rattle.graph.specs.AddLaws.{add-edge-done, add-edge-full}
 use Rattle.graph.proofs.add_edge.Goals as goal
 
-pub append-requires : goal.append-requires
-append-requires c = search (child-sits, rules)
+pub returns : goal.returns
+returns c =
+    let at = c.in_ok-i.ensures in
+    add-edge-done _ c.args.from c.args.to c.requires.0 c.requires.1 (rw at.0 at c.store_edge.ensures) (rw at.0 at c.append.ensures)
+    (rw at.0 at c.append-2.ensures) at.1
 
-pub append-requires-then-i-room : goal.append-requires-then-i-room
-append-requires-then-i-room c = search (parent-sits, rules)
-
-pub returns-then-i-room : goal.returns-then-i-room
-returns-then-i-room c =
-    add-edge-done _ c.args.from c.args.to c.requires.0 c.requires.1 c.store_edge.ensures c.append.ensures c.append-then-i-room.ensures
-    (omega (arith, c.if-i-room.true, c.room.ensures))
-
-pub returns-else-i-room : goal.returns-else-i-room
-returns-else-i-room c = add-edge-full _ c.args.from c.args.to (omega (arith, c.if-i-room.false, c.room.ensures))
+pub returns-in_err-i : goal.returns-in_err-i
+returns-in_err-i c =
+    let r : c.from_residual.result ≡ Err Edges = search rules in
+    rw r (add-edge-full _ c.args.from c.args.to c.in_err-i.ensures.1)

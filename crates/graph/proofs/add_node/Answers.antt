@@ -1,25 +1,17 @@
 -- `graph::add_node` meets its contract: by the room that is left.
-use native.Mathlib.Omega.{arith}
-use borrow.Author.Rules.{rules}
+use Rattle.std.proofs.Common.{rules, Err, ◌≡◌}
 use Rattle.rowset.specs.SetOf.{set_of}
 use Rattle.records.specs.Records.{node_of}
-use Rattle.graph.specs.ChainsLaws.{child-sits, parent-sits, alternative-sits}
+use Rattle.graph.specs.declared.Area.TheVariants.{Nodes}
 use Rattle.graph.specs.AddLaws.{add-node-done, add-node-full}
 use Rattle.graph.proofs.add_node.Goals as goal
 
-pub begin-requires : goal.begin-requires
-begin-requires c = search (child-sits, rules)
+pub returns : goal.returns
+returns c =
+    let at = c.in_ok-x.ensures in
+    add-node-done _ _ (rw at.0 at c.store_node.ensures) (rw at.0 at c.begin.ensures) (rw at.0 at c.begin-2.ensures) (rw at.0 at c.begin-3.ensures) at.1
 
-pub begin-requires-then-x-room : goal.begin-requires-then-x-room
-begin-requires-then-x-room c = search (parent-sits, rules)
-
-pub begin-requires-then-x-room-2 : goal.begin-requires-then-x-room-2
-begin-requires-then-x-room-2 c = search (alternative-sits, rules)
-
-pub returns-then-x-room : goal.returns-then-x-room
-returns-then-x-room c =
-    add-node-done _ _ c.store_node.ensures c.begin.ensures c.begin-then-x-room.ensures c.begin-then-x-room-2.ensures
-    (omega (arith, c.if-x-room.true, c.room.ensures))
-
-pub returns-else-x-room : goal.returns-else-x-room
-returns-else-x-room c = add-node-full _ (node_of (set_of c.args.s.now 0) c.args.n) (omega (arith, c.if-x-room.false, c.room.ensures))
+pub returns-in_err-x : goal.returns-in_err-x
+returns-in_err-x c =
+    let r : c.from_residual.result ≡ Err Nodes = search rules in
+    rw r (add-node-full _ (node_of (set_of c.args.s.now 0) c.args.n) c.in_err-x.ensures.1)

@@ -4,8 +4,8 @@ use Rattle.rowset.specs.SetOf.{set_of}
 use Rattle.graph.specs.SearchLaws.{Sought}
 use Rattle.graph.proofs.has_alternative.Given as goal
 
-abbrev pub invariant-loop-index : goal.invariant-loop-index
-invariant-loop-index l = Sought l.nodes l.alternatives l.c l.owner (set_of l.s 0) l.i
+abbrev pub invariant-loop-i : goal.invariant-loop-i
+invariant-loop-i l = Sought l.nodes l.alternatives l.c l.owner (set_of l.s 0) l.from
 
-abbrev pub decreases-loop-index : goal.decreases-loop-index
-decreases-loop-index l = l.c.alternatives - l.i
+abbrev pub decreases-loop-i : goal.decreases-loop-i
+decreases-loop-i l = l.c.alternatives - l.from

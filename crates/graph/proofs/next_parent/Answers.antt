@@ -1,23 +1,11 @@
 -- `graph::next_parent` meets its contract: the chain has what a search would find.
-use mathlib.Core.Path.{ap}
-use native.Mathlib.Omega.{arith}
+use Rattle.std.proofs.Common.{ap, refl}
 use Rattle.procedure.specs.Graph.{Edge}
-use Rattle.words.specs.Sizes.{node_size, edge_size}
-use Rattle.records.specs.AreaLaws.{room_fits}
-use Rattle.graph.specs.ChainsLaws.{parent-sits}
 use Rattle.graph.specs.SearchLaws.{parent-next, parent-end}
 use Rattle.graph.proofs.next_parent.Goals as goal
 
-pub follow-index-requires : goal.follow-index-requires
-follow-index-requires c =
-    let w = c.requires in
-    (parent-sits, room_fits node_size c.args.nodes.now w.nodes w.node, omega (arith, w.place, w.records))
+pub returns : goal.returns
+returns c = λ a d h g o. parent-next h g c.requires o c.in_ok-index.ensures.0 _ (ap (λ (v : Edge). v.from) c.load_edge.ensures) c.in_ok-index.ensures.1
 
-pub load_edge-d-requires : goal.load_edge-d-requires
-load_edge-d-requires c = room_fits edge_size c.args.edges.now c.requires.records c.if-index-c.true
-
-pub returns-then-index-c : goal.returns-then-index-c
-returns-then-index-c c = λ b d' h g o. parent-next h g c.requires o c.follow-index.ensures _ (ap (λ (v : Edge). v.from) c.load_edge-d.ensures) c.if-index-c.true
-
-pub returns-else-index-c : goal.returns-else-index-c
-returns-else-index-c c = λ b d h g o. parent-end h g c.requires o c.follow-index.ensures c.if-index-c.false
+pub returns-in_err-index : goal.returns-in_err-index
+returns-in_err-index c = λ a d h g o. rw c.from_residual.ensures (parent-end h g c.requires o refl c.in_err-index.ensures)
