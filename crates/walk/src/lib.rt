@@ -61,13 +61,8 @@ fn live_child(nodes: &[u8], edges: &[u8], c: Counts, x: u16) -> Option<u16>
     requires { Clauses.ChildAsks (nodes_edges nodes.now edges.now) c x }
     ensures { result ≡ Example.live_child (graph_of (nodes_edges nodes.now edges.now) c) x }
 {
-    first_child(nodes, edges, c, x, Status::Sat).or_else(|| first_child(
-        nodes,
-        edges,
-        c,
-        x,
-        Status::Open,
-    ))
+    let first = |wanted| first_child(nodes, edges, c, x, wanted);
+    first(Status::Sat).or_else(|| first(Status::Open))
 }
 
 // The state to which the way down from node `from` leads. The nodes on the way rise, and each that is no end has a child to go to.

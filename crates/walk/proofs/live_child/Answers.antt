@@ -4,4 +4,4 @@ use Rattle.walk.specs.ChildCases.{live-found}
 use Rattle.walk.proofs.live_child.Goals as goal
 
 pub returns : goal.returns
-returns c = live-found _ _ _ _ c.first_child.ensures (λ y e. search rules) (λ e. search rules)
+returns c = live-found _ _ c.first.result _ (search rules) (λ y e. search rules) (λ e. search rules)
