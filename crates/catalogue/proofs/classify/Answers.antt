@@ -1,5 +1,5 @@
 -- `catalogue::classify` meets its contract: the promise, for every file.
-use mathlib.Core.Path.{refl, sym, ◌∙◌}
+use mathlib.Core.Path.{sym, ◌∙◌}
 use Rattle.decoding.specs.Decoding.{rule_kinds}
 use Rattle.rulefile.specs.Format.{wanted_rows}
 use Rattle.reader.specs.PartLaws.{reads-refused, reads-accepted}
@@ -15,7 +15,7 @@ pub returns-in-Refused : goal.returns-in-Refused
 returns-in-Refused c =
     refused-answered c.args.file.now (areas_of c.args.nodes.now c.args.edges.now c.args.alternatives.now c.args.table.now)
     c.in-Refused.n (reads-refused rule_kinds (wanted_rows c.args.file.now) c.args.file.now c.in-Refused.n
-    (sym c.in-Refused.is ∙ c.read.ensures)) _ refl
+    (sym c.in-Refused.is ∙ c.read.ensures)) _ c.refused.ensures
 
 pub returns-in-Accepted : goal.returns-in-Accepted
 returns-in-Accepted c =
