@@ -2,7 +2,7 @@
 --
 -- In order: the rows of the names; the names; an entry; a row of entries; all rows; the answer.
 -- Laws are in NameCases, EntryCases, FillCases and ListedLaws.
-use Rattle.std.specs.Prelude.{◌≡◌, cond, List, [], ◌∷◌, map, ℕ, ◌+◌, ◌*◌, ◌≤◌, ◌<◌, eqb, length, get_or, take, drop, Option, None, Some}
+use Rattle.std.specs.Prelude.{◌≡◌, cond, List, [], ◌∷◌, map, ℕ, ◌+◌, ◌*◌, ◌≤◌, ◌<◌, eqb, length, get_or, drop, Option, None, Some}
 use Rattle.concepts.specs.Lists.{Bytes, range, select}
 use Rattle.concepts.specs.Concept.{Concept, Table}
 use Rattle.concepts.specs.RowSet.{from_list}
@@ -24,11 +24,16 @@ use Rattle.catalogue.specs.declared.Page.{Page}
 abbrev pub name_of : ℕ → Concept → Option ℕ
 name_of kind c = cond (eqb (kind_of c) kind) (Some (left_of c)) None
 
--- at each name, its first row of this kind from row k on; the number of rows if there is none
-pub record PlacesFrom (kind : ℕ) (t : Table) (k : ℕ) (places : List ℕ) : Type 0 where
+-- what stands for the first row that passes, at this place among n rows, or for none
+abbrev pub RowAt : Option ℕ → ℕ → ℕ → Type 0
+RowAt (Some k) place n = (k ≡ place) × (place < n)
+RowAt None place n = n ≤ place
+
+-- at each name, its first row of this kind from row k on, if it has one
+pub record PlacesFrom (kind : ℕ) (t : Table) (k : ℕ) (places : List (Option ℕ)) : Type 0 where
   pub within : k ≤ length t
   pub all : length places ≡ 64
-  pub rows : (a : ℕ) → a < 64 → get_or places a 0 ≡ k + place_of (of_name (name_of kind) a) (drop k t)
+  pub rows : (a : ℕ) → a < 64 → RowAt (get_or places a None) (k + place_of (of_name (name_of kind) a) (drop k t)) (length t)
 
 -- ---- the names
 
@@ -36,22 +41,25 @@ pub record PlacesFrom (kind : ℕ) (t : Table) (k : ℕ) (places : List ℕ) : T
 abbrev pub names_below : Table → ℕ → List ℕ
 names_below t a = select (has_both t) (range 0 a)
 
--- these names of the table are listed: name n as bit n, how many they are, and their rows
+-- these names of the table are listed: name n as bit n, and their rows
 pub record Lists (t : Table) (names : List ℕ) (l : Listed) : Type 0 where
   pub names-are : l.names ≡ from_list names
-  pub count-is : l.count ≡ length names
-  pub few : l.count ≤ 64
-  pub longs : (length l.positives ≡ 64) × (length l.negatives ≡ 64)
-  pub positives-are : take l.count l.positives ≡ map (positive t) names
-  pub negatives-are : take l.count l.negatives ≡ map (negative t) names
+  pub few : length names ≤ 64
+  pub positives-are : l.positives.items ≡ map (positive t) names
+  pub negatives-are : l.negatives.items ≡ map (negative t) names
 
 -- what is asked to list one name more, or to pass it over: all names below it are listed, and these are its rows
-pub record NameAsks (ws : List ℕ) (a p n : ℕ) (l : Listed) : Type 0 where
-  pub decoded : Decoded ws
+pub record NameAsks (t : Table) (a : ℕ) (p n : Option ℕ) (l : Listed) : Type 0 where
   pub below : a < 64
-  pub positive-is : p ≡ positive (table_of ws) a
-  pub negative-is : n ≡ negative (table_of ws) a
-  pub lists : Lists (table_of ws) (names_below (table_of ws) a) l
+  pub positive-is : RowAt p (positive t a) (length t)
+  pub negative-is : RowAt n (negative t a) (length t)
+  pub lists : Lists t (names_below t a) l
+
+-- there is place for it
+pub record NameFits (a : ℕ) (l : Listed) : Type 0 where
+  pub below : a < 64
+  pub positives : length l.positives.items < 64
+  pub negatives : length l.negatives.items < 64
 
 -- ---- an entry
 

@@ -1,8 +1,8 @@
 -- What the listed names give to whoever fills their table.
 --
 -- In order: their rows may be wanted, so that the table can be filled (`listed-fill`); its entries by name (`listed-table`).
-use Rattle.std.specs.Prelude.{◌≡◌, List, ℕ, ◌*◌, ◌≤◌, length, take}
-use Rattle.std.proofs.Common.{sym, ap, ◌∙◌, arith}
+use Rattle.std.specs.Prelude.{◌≡◌, refl, List, map, ℕ, ◌*◌, ◌≤◌, length}
+use Rattle.std.proofs.Common.{ap, ◌∙◌, arith}
 use Rattle.std.proofs.lemmas.List.{length-map}
 use Rattle.concepts.specs.ListLaws.{map-mem}
 use Rattle.concepts.specs.Concept.{Table}
@@ -15,42 +15,52 @@ use Rattle.decoder.specs.Want.{AllServe}
 use Rattle.catalogue.specs.Clauses.{Lists, ran_entry, FillAsks, FillGives}
 use Rattle.catalogue.specs.declared.Listed.{Listed}
 
-module _ {t : Table} {l : Listed} (L : Lists t (names t) l) where
-  pub positives-serve : AllServe t (take l.count l.positives)
+-- these rows are those of the listed names
+module _ {t : Table} {l : Listed} (L : Lists t (names t) l) {ps ns : List ℕ} (hp : ps ≡ l.positives.items) (hn : ns ≡ l.negatives.items) where
+  positives-named : ps ≡ map (positive t) (names t)
+  positives-named = hp ∙ L.positives-are
+
+  negatives-named : ns ≡ map (negative t) (names t)
+  negatives-named = hn ∙ L.negatives-are
+
+  positives-serve : AllServe t ps
   positives-serve k m =
-      let (a, i, e) = map-mem (positive t) (names t) k (rw L.positives-are at m) in
+      let (a, i, e) = map-mem (positive t) (names t) k (rw positives-named at m) in
       let (h, c) = names-positive t a i in
       rw e (h, rw c tt)
 
-  pub negatives-serve : AllServe t (take l.count l.negatives)
+  negatives-serve : AllServe t ns
   negatives-serve k m =
-      let (a, i, e) = map-mem (negative t) (names t) k (rw L.negatives-are at m) in
+      let (a, i, e) = map-mem (negative t) (names t) k (rw negatives-named at m) in
       let (h, c) = names-negative t a i in
       rw e (h, rw c tt)
 
-  pub positives-count : length (take l.count l.positives) ≡ l.count
-  positives-count = ap length L.positives-are ∙ length-map (names t) (positive t) ∙ sym L.count-is
+  positives-length : length ps ≡ length (names t)
+  positives-length = ap length positives-named ∙ length-map (names t) (positive t)
 
-  pub negatives-count : length (take l.count l.negatives) ≡ l.count
-  negatives-count = ap length L.negatives-are ∙ length-map (names t) (negative t) ∙ sym L.count-is
+  negatives-length : length ns ≡ length (names t)
+  negatives-length = ap length negatives-named ∙ length-map (names t) (negative t)
 
-module _ (ws : List ℕ) {l : Listed} (L : Lists (table_of ws) (names (table_of ws)) l) where
+-- how many there are
+pub positives-count : {t : Table} {l : Listed} → Lists t (names t) l → length l.positives.items ≡ length (names t)
+positives-count L = positives-length L refl refl
+
+module _ (ws : List ℕ) {l : Listed} (L : Lists (table_of ws) (names (table_of ws)) l) {ps ns : List ℕ} (hp : ps ≡ l.positives.items)
+    (hn : ns ≡ l.negatives.items) where
   abbrev t : Table
   t = table_of ws
 
-  pub listed-fill : Decoded ws → {table : List ℕ} → l.count * l.count ≤ length table
-      → FillAsks ws (take l.count l.positives) (take l.count l.negatives) table
-  listed-fill ok h = record {
+  pub listed-fill : Decoded ws → {m : ℕ} {table : List ℕ} → m ≡ length l.positives.items → m * m ≤ length table → FillAsks ws ps ns table
+  listed-fill ok hm h = record {
     decoded = ok;
-    positive = positives-serve L;
-    negative = negatives-serve L;
-    few = (omega (arith, positives-count L, L.few), omega (arith, negatives-count L, L.few));
-    room = rw (positives-count L, negatives-count L) h;
+    positive = positives-serve L hp hn;
+    negative = negatives-serve L hp hn;
+    few = (omega (arith, positives-length L hp hn, L.few), omega (arith, negatives-length L hp hn, L.few));
+    room = rw (positives-length L hp hn, negatives-length L hp hn, ← (hm ∙ positives-count L)) h;
   }
 
-  pub listed-table : {c : Capacity} {table ws' table' : List ℕ}
-      → FillGives ws c (take l.count l.positives) (take l.count l.negatives) table ws' table'
+  pub listed-table : {c : Capacity} {table ws' table' : List ℕ} → FillGives ws c ps ns table ws' table'
       → table' ≡ overwrite (row_after_row (λ a b. ran_entry ws c (positive t a) (negative t b)) (names t) (names t)) table
   listed-table {c} {table} G =
-      G.table_is ∙ (λ i. overwrite (row_after_row (ran_entry ws c) (L.positives-are i) (L.negatives-are i)) table)
+      G.table_is ∙ (λ i. overwrite (row_after_row (ran_entry ws c) (positives-named L hp hn i) (negatives-named L hp hn i)) table)
       ∙ ap (λ (xs : List ℕ). overwrite xs table) (row_after_row-map (ran_entry ws c) (positive t) (negative t) (names t) (names t))

@@ -1,7 +1,7 @@
 -- From the entries that runs gave to the catalogue's answer and the areas afterwards, on plain values; then the promise.
 --
 -- In order: an entry by what is said; the words of an accepted file, its entries and its names; the answer with 17, and with the table filled; the promise.
-use Rattle.std.specs.Prelude.{◌≡◌, refl, Bool, ℕ, ◌*◌, ◌≤◌, ◌<◌, ltb, take}
+use Rattle.std.specs.Prelude.{◌≡◌, refl, Bool, ℕ, ◌*◌, ◌≤◌, ◌<◌, ltb}
 use Rattle.std.proofs.Math.Path.{sym, ap, subst}
 use Rattle.std.proofs.Common.{◌∙◌, subst₂, arith, lt-ltb, le-ltb}
 use Rattle.std.proofs.Math.Bool.{true, false}
@@ -34,7 +34,7 @@ use Rattle.subsumption.specs.Promise.{CataloguePromise}
 use Rattle.subsumption.proofs.Entry.{rows_for, reads-rows}
 use Rattle.subsumption.proofs.Kept.{entries_of, catalogue-refused, catalogue-accepted, promise-kept}
 use Rattle.catalogue.specs.Clauses.{Lists, entry_number, ran_entry, FillGives, Answered}
-use Rattle.catalogue.specs.ListedLaws.{listed-table}
+use Rattle.catalogue.specs.ListedLaws.{positives-count, listed-table}
 use Rattle.catalogue.specs.declared.Listed.{Listed}
 
 -- ---- an entry goes by what the engine's answer says
@@ -90,8 +90,8 @@ module _ {b : Bytes} {l : Layout} (L : Laid rule_kinds b l) {ws : List ℕ} (F :
 
   module _ {k : Listed} (G : Lists (table_of ws) (names (table_of ws)) k) where
     -- the names of the words are the file's
-    count-is : k.count ≡ length (names t)
-    count-is = G.count-is ∙ ap (λ (u : Table). length (names u)) table_is
+    count-is : length k.positives.items ≡ length (names t)
+    count-is = positives-count G ∙ ap (λ (u : Table). length (names u)) table_is
 
     names-are : k.names ≡ from_list (names t)
     names-are = G.names-are ∙ ap (λ (u : Table). from_list (names u)) table_is
@@ -109,38 +109,39 @@ module _ {b : Bytes} {l : Layout} (L : Laid rule_kinds b l) {ws : List ℕ} (F :
       unfolding listed_in
       answer-by x e = catalogue-accepted b room (length before.table) L.file L.reads ∙ ap answer_if e
 
-      square : length (names t) * length (names t) ≡ k.count * k.count
-      square = ap (λ (n : ℕ). n * n) (sym (count-is))
+      -- so many are counted
+      module _ {m : ℕ} (hm : m ≡ length k.positives.items) where
+        square : length (names t) * length (names t) ≡ m * m
+        square = ap (λ (n : ℕ). n * n) (sym (hm ∙ count-is))
 
-      -- "no area is then changed"
-      pub page-short : {r : CatalogueNumbers} → r ≡ refusal_alone 17 → length before.table < k.count * k.count → Answered b before r before
-      unfolding numbers areas_after
-      page-short hr h =
-          let is = answer-by true (lt-ltb (length before.table) (length (names t) * length (names t)) (omega (arith, square, h))) in
-          record {
-            numbers_are = hr ∙ sym (ap numbers is);
-            areas_are = sym (ap (λ (c : Catalogue). areas_after c before) is);
-          }
+        -- "no area is then changed"
+        pub page-short : {r : CatalogueNumbers} → r ≡ refusal_alone 17 → length before.table < m * m → Answered b before r before
+        unfolding numbers areas_after
+        page-short hr h =
+            let is = answer-by true (lt-ltb (length before.table) (length (names t) * length (names t)) (omega (arith, square, h))) in
+            record {
+              numbers_are = hr ∙ sym (ap numbers is);
+              areas_are = sym (ap (λ (c : Catalogue). areas_after c before) is);
+            }
 
-      -- the runs filled the table, and then the work areas were cleared, each of which kept its length until then
-      pub page-filled : {r : CatalogueNumbers} → r ≡ record { refusal = 0; count = k.count; names = k.names }
-          → k.count * k.count ≤ length before.table
-          → {ws' table' : List ℕ} → FillGives ws (capacity room) (take k.count k.positives) (take k.count k.negatives)
-          before.table ws' table'
-          → {n e a : Bytes} {n₁ e₁ a₁ : ℕ} → n ≡ replicate n₁ 0 → n₁ ≡ length before.nodes → e ≡ replicate e₁ 0
-          → e₁ ≡ length before.edges
-          → a ≡ replicate a₁ 0 → a₁ ≡ length before.alternatives → Answered b before r (areas_of n e a table')
-      unfolding numbers areas_after
-      page-filled hr h W zn hn ze he za ha =
-          let pn = zn ∙ ap (λ (m : ℕ). replicate m 0) hn in
-          let pe = ze ∙ ap (λ (m : ℕ). replicate m 0) he in
-          let pa = za ∙ ap (λ (m : ℕ). replicate m 0) ha in
-          let is = answer-by false (le-ltb (length before.table) (length (names t) * length (names t)) (omega (arith, square, h))) in
-          let filled = listed-table ws G W ∙ ap (λ (es : Bytes). overwrite es before.table) (entries-are room) in
-          record {
-            numbers_are = hr ∙ (λ i. record { refusal = 0; count = count-is i; names = names-are i }) ∙ sym (ap numbers is);
-            areas_are = (λ i. areas_of (pn i) (pe i) (pa i) (filled i)) ∙ sym (ap (λ (c : Catalogue). areas_after c before) is);
-          }
+        -- the runs filled the table, and then the work areas were cleared, each of which kept its length until then
+        pub page-filled : {r : CatalogueNumbers} → r ≡ record { refusal = 0; count = m; names = k.names } → m * m ≤ length before.table
+            → {ps ns : List ℕ} → ps ≡ k.positives.items → ns ≡ k.negatives.items
+            → {ws' table' : List ℕ} → FillGives ws (capacity room) ps ns before.table ws' table'
+            → {n e a : Bytes} {n₁ e₁ a₁ : ℕ} → n ≡ replicate n₁ 0 → n₁ ≡ length before.nodes → e ≡ replicate e₁ 0
+            → e₁ ≡ length before.edges
+            → a ≡ replicate a₁ 0 → a₁ ≡ length before.alternatives → Answered b before r (areas_of n e a table')
+        unfolding numbers areas_after
+        page-filled hr h hps hns W zn hn ze he za ha =
+            let pn = zn ∙ ap (λ (m : ℕ). replicate m 0) hn in
+            let pe = ze ∙ ap (λ (m : ℕ). replicate m 0) he in
+            let pa = za ∙ ap (λ (m : ℕ). replicate m 0) ha in
+            let is = answer-by false (le-ltb (length before.table) (length (names t) * length (names t)) (omega (arith, square, h))) in
+            let filled = listed-table ws G hps hns W ∙ ap (λ (es : Bytes). overwrite es before.table) (entries-are room) in
+            record {
+              numbers_are = hr ∙ (λ i. record { refusal = 0; count = (hm ∙ count-is) i; names = names-are i }) ∙ sym (ap numbers is);
+              areas_are = (λ i. areas_of (pn i) (pe i) (pa i) (filled i)) ∙ sym (ap (λ (c : Catalogue). areas_after c before) is);
+            }
 
 -- ---- the promise
 

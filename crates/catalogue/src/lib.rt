@@ -4,13 +4,15 @@
 // How the names are listed is in names.rt. Through the C convention the call is in `gumbyra_more`.
 #![tactic(auto)]
 
+ghost use Rattle.std.specs.Prelude.{◌≡◌};
 ghost use Rattle.graph.specs.Graphs.{work, capacity_of};
 ghost use Rattle.decoding.specs.Decoding.{rule_kinds};
 ghost use Rattle.reader.specs.Read.{Laid};
-ghost use Rattle.subsumption.specs.Catalogue.{areas_of};
+ghost use Rattle.subsumption.specs.Catalogue.{areas_of, refusal_alone};
 ghost use Rattle.subsumption.specs.Promise.{CataloguePromise};
 ghost use Rattle.catalogue.specs.Clauses.{EntryAsks, EntryGives, RowAsks, RowGives, FillAsks, FillGives, numbers_of, Answered};
 
+use arrayvec::ArrayVec;
 use decoder::decode_file;
 use decoding::RULE_KINDS;
 use engine::asking::{Said, ask_wanted};
@@ -21,13 +23,13 @@ use records::clear;
 
 pub mod names;
 
-// The names with both a kind 1 and a kind 2 row: name n as bit n, how many they are, and their rows in the order of names.
-#[derive(Clone, Copy)]
+// The names with both a kind 1 and a kind 2 row: name n as bit n, and their rows in the order of names. Two vectors, and not one of pairs, since
+// the table is filled from the rows of its lines and those of its columns, which need not be as many (`fill`).
+#[derive(Drop)]
 pub struct Listed {
     pub names: u64,
-    pub count: usize,
-    pub positives: [u8; 64],
-    pub negatives: [u8; 64],
+    pub positives: ArrayVec<u8, 64>,
+    pub negatives: ArrayVec<u8, 64>,
 }
 
 // The answer: a refusal, or 0 if the table is filled; how many names are listed, and which, name n as bit n: both 0 with a refusal.
@@ -86,10 +88,8 @@ fn fill_row(
         negatives.now
         row.old problem.new row.new }
 {
-    let mut j: usize = 0;
-    while j < negatives.len() {
-        row[j] = entry(problem, positive, negatives[j], nodes, edges, alternatives);
-        j += 1;
+    for (j, negative) in negatives.iter().enumerate() {
+        row[j] = entry(problem, positive, *negative, nodes, edges, alternatives);
     }
 }
 
@@ -107,19 +107,28 @@ pub fn fill(
     ensures { FillGives problem.old (capacity_of (work nodes.old edges.old alternatives.old))
         positives.now negatives.now table.old problem.new table.new }
 {
-    let mut i: usize = 0;
-    while i < positives.len() {
+    for (i, positive) in positives.iter().enumerate() {
         let at = i * negatives.len();
         fill_row(
             problem,
-            positives[i],
+            *positive,
             negatives,
             nodes,
             edges,
             alternatives,
             &mut table[at..],
         );
-        i += 1;
+    }
+}
+
+// A refusal, which gives no names.
+fn refused(n: u32) -> Page
+    ensures { numbers_of result ≡ refusal_alone n }
+{
+    Page {
+        refusal: n,
+        count: 0,
+        names: 0,
     }
 }
 
@@ -141,21 +150,14 @@ fn classify_accepted(
     let mut words = [0u64; WORDS];
     decode_file(file, layout, wanted_of(file), &mut words);
     let list = listed(&words);
-    let count = list.count;
-    let names = list.names;
+    let count = list.positives.len();
     if table.len() < count * count {
-        return Page {
-            refusal: TABLE_SHORT,
-            count: 0,
-            names: 0,
-        };
+        return refused(TABLE_SHORT);
     }
-    let positives = list.positives;
-    let negatives = list.negatives;
     fill(
         &mut words,
-        &positives[0..count],
-        &negatives[0..count],
+        list.positives.as_slice(),
+        list.negatives.as_slice(),
         nodes,
         edges,
         alternatives,
@@ -167,7 +169,7 @@ fn classify_accepted(
     Page {
         refusal: 0,
         count: count as u32,
-        names,
+        names: list.names,
     }
 }
 
@@ -185,11 +187,7 @@ pub fn classify(
         (areas_of nodes.new edges.new alternatives.new table.new) }
 {
     match read(file, RULE_KINDS) {
-        Err(refusal) => Page {
-            refusal: refusal.number() as u32,
-            count: 0,
-            names: 0,
-        },
+        Err(refusal) => refused(refusal.number() as u32),
         Ok(layout) => classify_accepted(
             file,
             layout,

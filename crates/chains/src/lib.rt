@@ -15,7 +15,7 @@ use words::{get2, put2};
 
 // Where a chain keeps its numbers of 2 bytes: in a record of `size` bytes the node that it belongs to (`key`) and the next record of that node,
 // in the node's record the first and, behind it, the last.
-#[derive(Clone, Copy)]
+#[derive(Clone, Copy, PartialEq, Eq, Debug)]
 pub struct Places {
     pub size: usize,
     pub key: usize,
@@ -23,7 +23,8 @@ pub struct Places {
     pub first: usize,
 }
 
-// Says that there is no record: none has this number.
+// Says that there is no record: none has this number. A number and no Option, here and in what `follow` answers, since these 2 bytes hold it, and
+// `following` is the number that they hold: whether it is a record's is asked once, of how many there are, by whoever follows.
 const NONE: u16 = 4096;
 
 // Node x has no records.

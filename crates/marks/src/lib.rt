@@ -15,14 +15,14 @@ use words::sizes::{EDGE_BYTES, NODE_BYTES};
 use words::{get2, put2};
 
 // How many elements and links an example has.
-#[derive(Clone, Copy)]
+#[derive(Clone, Copy, PartialEq, Eq, Debug)]
 pub struct Sizes {
     pub elements: usize,
     pub links: usize,
 }
 
 // A link between two elements: "from, role code, to" (01, Areas).
-#[derive(Clone, Copy)]
+#[derive(Clone, Copy, PartialEq, Eq, Debug)]
 pub struct LinkMark {
     pub from: u16,
     pub role: u16,
@@ -30,6 +30,7 @@ pub struct LinkMark {
 }
 
 // 0, or one more than the number of the element that stands for state y.
+#[tactic(auto, unfolding(crate::specs::Marks::number_in))]
 pub fn load_number(nodes: &[u8], y: usize) -> u16
     requires { Fits node_size nodes.now y }
     ensures { result ≡ number_in nodes.now y }
@@ -46,6 +47,7 @@ pub fn store_number(nodes: &mut [u8], y: usize, v: u16)
 }
 
 // The state for which element d stands.
+#[tactic(auto, unfolding(crate::specs::Marks::state_in))]
 pub fn load_state(nodes: &[u8], d: usize) -> u16
     requires { Fits node_size nodes.now d }
     ensures { result ≡ state_in nodes.now d }
@@ -62,6 +64,7 @@ pub fn store_state(nodes: &mut [u8], d: usize, y: u16)
 }
 
 // Link k.
+#[tactic(auto, unfolding(crate::specs::Marks::role_link_in))]
 pub fn load_role_link(edges: &[u8], k: usize) -> LinkMark
     requires { Fits edge_size edges.now k }
     ensures { role_link_of result ≡ role_link_in edges.now k }
@@ -90,10 +93,7 @@ pub fn clear_numbers(nodes: &mut [u8], c: Counts)
     requires { c.nodes ≤ room_of node_size nodes.old }
     ensures { NumbersCleared nodes.old nodes.new c.nodes }
 {
-    let count = c.nodes as usize;
-    let mut y: usize = 0;
-    while y < count {
+    for y in 0..c.nodes as usize {
         store_number(nodes, y, 0);
-        y += 1;
     }
 }

@@ -1,6 +1,6 @@
 // The records of the graph in lent areas of bytes: "nodes (64 bytes each), graph edges (16) and alternatives (16)" (01, Areas).
 //
-// In order: the values; tests of a status; codes of one byte; how many records an area holds; where a record's set of rows is; a record read and
+// In order: the values; tests of a status; a status and a link as numbers; how many records an area holds; where a record's set of rows is; a record read and
 // written; one part of a node; an area cleared. Where each number stands is in layout.rt. The graph that three areas hold is in crate graph.
 // A set of rows goes by its place and is no part of a value.
 #![tactic(auto)]
@@ -13,6 +13,7 @@ ghost use Rattle.words.specs.Sizes.{node_size, edge_size, alternative_size, set_
 ghost use Rattle.rowset.specs.SetOf.{set_of};
 ghost use Rattle.records.specs.Codes as Codes;
 ghost use Rattle.records.specs.Areas.{Fits};
+ghost use Rattle.records.specs.Layout.{link_kind_at, link_number_at};
 ghost use Rattle.records.specs.Records as Records;
 
 use layout::{
@@ -24,8 +25,8 @@ use words::{get1, get2, put1, put2};
 
 pub mod layout;
 
-// "a status (none, open, yes, never, small)".
-#[derive(Clone, Copy)]
+// "a status (none, open, yes, never, small)", which stands in a byte by its place here.
+#[derive(Clone, Copy, PartialEq, Eq, Debug)]
 pub enum Status {
     Unset,
     Open,
@@ -35,7 +36,7 @@ pub enum Status {
 }
 
 // "its link, which is none, a state or lapsed".
-#[derive(Clone, Copy)]
+#[derive(Clone, Copy, PartialEq, Eq, Debug)]
 pub enum Link {
     None,
     State(u16),
@@ -43,7 +44,7 @@ pub enum Link {
 }
 
 // A node but for its set.
-#[derive(Clone, Copy)]
+#[derive(Clone, Copy, PartialEq, Eq, Debug)]
 pub struct Node {
     pub status: Status,
     pub is_state: bool,
@@ -52,7 +53,7 @@ pub struct Node {
     pub link: Link,
 }
 
-#[derive(Clone, Copy)]
+#[derive(Clone, Copy, PartialEq, Eq, Debug)]
 pub struct Edge {
     pub from: u16,
     pub to: u16,
@@ -62,91 +63,63 @@ pub struct Edge {
 pub fn is_open(s: Status) -> bool
     ensures { result ≡ is_open (Codes.status_of s) }
 {
-    match s {
-        Status::Open => true,
-        Status::Unset => false,
-        Status::Sat => false,
-        Status::Unsat => false,
-        Status::TooSmall => false,
-    }
+    s == Status::Open
 }
 
-// Whether a status is none or open.
+// Whether a status is none or open, so that it can still be judged anew.
 pub fn is_live(s: Status) -> bool
     ensures { result ≡ is_live (Codes.status_of s) }
 {
-    match s {
-        Status::Unset => true,
-        Status::Open => true, // it can still be judged anew
-        Status::Sat => false,
-        Status::Unsat => false,
-        Status::TooSmall => false,
-    }
+    matches!(s, Status::Unset | Status::Open)
 }
 
 // The byte that stands for a status.
-fn status_code(s: Status) -> u8
-    ensures { result ≡ Codes.status_code s }
-{
-    match s {
-        Status::Unset => 0,
-        Status::Open => 1,
-        Status::Sat => 2,
-        Status::Unsat => 3,
-        Status::TooSmall => 4,
+impl From<Status> for u8 {
+    ghost from_gives = { λ s code. code ≡ Codes.status_code s };
+
+    fn from(s: Status) -> u8 {
+        s as u8
     }
 }
 
 // The status that a byte stands for.
-fn status_from(code: u8) -> Status
-    ensures { Codes.status_of result ≡ Codes.status_in code }
-{
-    match code {
-        0 => Status::Unset,
-        1 => Status::Open,
-        2 => Status::Sat,
-        3 => Status::Unsat,
-        _ => Status::TooSmall,
+impl From<u8> for Status {
+    ghost from_gives = { λ code s. Codes.status_of s ≡ Codes.status_in code };
+
+    fn from(code: u8) -> Status {
+        match code {
+            0 => Status::Unset,
+            1 => Status::Open,
+            2 => Status::Sat,
+            3 => Status::Unsat,
+            _ => Status::TooSmall,
+        }
     }
 }
 
-// The byte that stands for a flag.
-fn flag_code(b: bool) -> u8
-    ensures { result ≡ Codes.flag_code b }
-{
-    if b { 1 } else { 0 }
-}
+// The link that a byte for its kind and a number of 2 bytes stand for.
+impl From<(u8, u16)> for Link {
+    ghost from_gives = { λ code l. Codes.link_of l ≡ Codes.link_in code.0 code.1 };
 
-// The byte that stands for the kind of a link.
-fn link_kind(l: Link) -> u8
-    ensures { result ≡ Codes.link_kind l }
-{
-    match l {
-        Link::None => 0,
-        Link::State(_) => 1,
-        Link::Lapsed => 2,
+    fn from(code: (u8, u16)) -> Link {
+        match code {
+            (0, _) => Link::None,
+            (1, x) => Link::State(x),
+            _ => Link::Lapsed,
+        }
     }
 }
 
-// The state that a link names, or 0.
-fn link_number(l: Link) -> u16
-    ensures { result ≡ Codes.link_number l }
-{
-    match l {
-        Link::None => 0,
-        Link::State(x) => x,
-        Link::Lapsed => 0,
-    }
-}
+// The byte and the number that stand for a link: its kind, and the state that it names, or 0.
+impl From<Link> for (u8, u16) {
+    ghost from_gives = { λ l code. (code.0 ≡ Codes.link_kind l) × (code.1 ≡ Codes.link_number l) };
 
-// The link of a kind and a number.
-fn link_from(kind: u8, number: u16) -> Link
-    ensures { Codes.link_of result ≡ Codes.link_in kind number }
-{
-    match kind {
-        0 => Link::None,
-        1 => Link::State(number),
-        _ => Link::Lapsed,
+    fn from(l: Link) -> (u8, u16) {
+        match l {
+            Link::None => (0, 0),
+            Link::State(x) => (1, x),
+            Link::Lapsed => (2, 0),
+        }
     }
 }
 
@@ -155,8 +128,7 @@ pub fn room(len: usize, size: usize) -> usize
     requires { 0 < size }
     ensures { result ≡ records_lent size len }
 {
-    let n = len / size;
-    if n < MOST_RECORDS { n } else { MOST_RECORDS }
+    (len / size).min(MOST_RECORDS)
 }
 
 // Where the set of node x begins in the area of nodes.
@@ -182,23 +154,30 @@ fn put_set(b: &mut [u8], at: usize, s: &[u8])
     copy(b, at, s, 0, SET_WORDS);
 }
 
+// Writes a link in the node that begins at a place. That its number fits 2 bytes is said here, since only of a number of the code it is known.
+fn put_link(nodes: &mut [u8], at: usize, link: Link)
+    requires { at + node_size ≤ length nodes.old }
+    ensures { (nodes.new ≡ put_le (put_le nodes.old (at + link_kind_at) 1 (Codes.link_kind link)) (at + link_number_at) 2
+        (Codes.link_number link)) × (Codes.link_number link < 65536) }
+{
+    let (kind, number) = <(u8, u16)>::from(link);
+    put1(nodes, at + LINK_KIND_AT, kind);
+    put2(nodes, at + LINK_NUMBER_AT, number);
+}
+
 // Node x of the area, but for its set.
+#[tactic(auto, unfolding(crate::specs::Records::node_in))]
 pub fn load_node(nodes: &[u8], x: usize) -> Node
     requires { Fits node_size nodes.now x }
     ensures { Records.IsNode nodes.now x result }
 {
     let at = NODE_BYTES * x;
-    let status = status_from(get1(nodes, at + STATUS_AT));
-    let link = link_from(
-        get1(nodes, at + LINK_KIND_AT),
-        get2(nodes, at + LINK_NUMBER_AT),
-    );
     Node {
-        status,
-        is_state: get1(nodes, at + IS_STATE_AT) == 1,
+        status: status_of(nodes, x),
+        is_state: is_state(nodes, x),
         pst: get2(nodes, at + PST_AT),
         prl: get1(nodes, at + PRL_AT),
-        link,
+        link: link_of(nodes, x),
     }
 }
 
@@ -208,18 +187,16 @@ pub fn store_node(nodes: &mut [u8], x: usize, s: &[u8; SET_BYTES], n: Node)
     ensures { Records.NodeWritten nodes.old nodes.new x (Records.node_of (set_of s.now 0) n) }
 {
     let at = NODE_BYTES * x;
-    let status = n.status;
-    let link = n.link;
     put_set(nodes, at, s);
-    put1(nodes, at + STATUS_AT, status_code(status));
-    put1(nodes, at + IS_STATE_AT, flag_code(n.is_state));
+    put1(nodes, at + STATUS_AT, u8::from(n.status));
+    put1(nodes, at + IS_STATE_AT, u8::from(n.is_state));
     put2(nodes, at + PST_AT, n.pst);
     put1(nodes, at + PRL_AT, n.prl);
-    put1(nodes, at + LINK_KIND_AT, link_kind(link));
-    put2(nodes, at + LINK_NUMBER_AT, link_number(link));
+    put_link(nodes, at, n.link);
 }
 
 // Edge i of the area.
+#[tactic(auto, unfolding(crate::specs::Records::edge_in))]
 pub fn load_edge(edges: &[u8], i: usize) -> Edge
     requires { Fits edge_size edges.now i }
     ensures { Records.edge_of result ≡ Records.edge_in edges.now i }
@@ -253,33 +230,37 @@ pub fn store_alternative(alternatives: &mut [u8], i: usize, s: &[u8; SET_BYTES],
 }
 
 // The status of node x of the area, and its link.
+#[tactic(auto, unfolding(crate::specs::Records::node_in))]
 pub fn status_of(nodes: &[u8], x: usize) -> Status
     requires { Fits node_size nodes.now x }
     ensures { Records.IsStatus nodes.now x result }
 {
-    status_from(get1(nodes, NODE_BYTES * x + STATUS_AT))
+    Status::from(get1(nodes, NODE_BYTES * x + STATUS_AT))
 }
 
+#[tactic(auto, unfolding(crate::specs::Records::node_in))]
 pub fn link_of(nodes: &[u8], x: usize) -> Link
     requires { Fits node_size nodes.now x }
     ensures { Records.IsLink nodes.now x result }
 {
     let at = NODE_BYTES * x;
-    link_from(
+    Link::from((
         get1(nodes, at + LINK_KIND_AT),
         get2(nodes, at + LINK_NUMBER_AT),
-    )
+    ))
 }
 
 // Whether node x of the area has no status.
+#[tactic(auto, unfolding(crate::specs::Records::is_unset_at))]
 pub fn is_unset(nodes: &[u8], x: usize) -> bool
     requires { Fits node_size nodes.now x }
     ensures { result ≡ Records.is_unset_at nodes.now x }
 {
-    get1(nodes, NODE_BYTES * x + STATUS_AT) == 0
+    matches!(status_of(nodes, x), Status::Unset)
 }
 
 // Whether node x of the area is a state.
+#[tactic(auto, unfolding(crate::specs::Records::node_in))]
 pub fn is_state(nodes: &[u8], x: usize) -> bool
     requires { Fits node_size nodes.now x }
     ensures { result ≡ (Records.node_in nodes.now x).is_state }
@@ -293,7 +274,7 @@ pub fn store_status(nodes: &mut [u8], x: usize, status: Status)
     ensures { Records.NodeWritten nodes.old nodes.new x
         (with_status (Codes.status_of status) (Records.node_in nodes.old x)) }
 {
-    put1(nodes, NODE_BYTES * x + STATUS_AT, status_code(status));
+    put1(nodes, NODE_BYTES * x + STATUS_AT, u8::from(status));
 }
 
 // Gives node x of the area a link.
@@ -302,18 +283,12 @@ pub fn store_link(nodes: &mut [u8], x: usize, link: Link)
     ensures { Records.NodeWritten nodes.old nodes.new x
         (with_link (Codes.link_of link) (Records.node_in nodes.old x)) }
 {
-    let at = NODE_BYTES * x;
-    put1(nodes, at + LINK_KIND_AT, link_kind(link));
-    put2(nodes, at + LINK_NUMBER_AT, link_number(link));
+    put_link(nodes, NODE_BYTES * x, link);
 }
 
 // Every byte of the area becomes zero.
 pub fn clear(area: &mut [u8])
     ensures { area.new ≡ replicate (length area.old) 0 }
 {
-    let mut i = 0;
-    while i < area.len() {
-        area[i] = 0;
-        i += 1;
-    }
+    area.fill(0);
 }

@@ -1,14 +1,14 @@
 -- The cases of the search for a child and the way down, on plain values.
 --
 -- In order: the status of a node; the first child with a status (`Looking`); the child that the walk goes to; a node on the way down (`Going`).
-use Rattle.std.specs.Prelude.{◌≡◌, Bool, true, false, List, ◌∷◌, ◌≢◌, ℕ, ◌+◌, ◌-◌, ◌≤◌, ◌<◌, Option, None, Some}
-use Rattle.std.proofs.Common.{sym, ◌∙◌, subst, arith}
+use Rattle.std.specs.Prelude.{◌≡◌, refl, Bool, true, false, List, ◌∷◌, ◌≢◌, ℕ, ◌+◌, ◌-◌, ◌≤◌, ◌<◌, Option, None, Some, IsSome}
+use Rattle.std.proofs.Common.{sym, ◌∙◌, arith}
 use Rattle.std.proofs.Math.Path.{ap}
 use Rattle.std.proofs.Math.ListN.{get_or-eq_default}
 use Rattle.concepts.specs.Tests.{impossible}
 use Rattle.concepts.specs.Lists.{Bytes, first}
-use Rattle.procedure.specs.Status.{Status, unset, is_open}
-use Rattle.procedure.specs.Graph.{Link, unlinked, to_state, lapsed, Node, Graph, no_node, node_at}
+use Rattle.procedure.specs.Status.{Status, unset, is_open, is_sat}
+use Rattle.procedure.specs.Graph.{Link, to_state, Node, Graph, no_node, node_at}
 use Rattle.procedure.specs.Example.{first_child, live_child}
 use Rattle.procedure.proofs.Way.{Way, way-there, way-linked, way-child, way-descends, way-lands}
 use Rattle.words.specs.Sizes.{node_size, edge_size, most_records}
@@ -17,14 +17,12 @@ use Rattle.records.specs.Codes.{status_of, link_of}
 use Rattle.records.specs.Records.{IsStatus, IsLink}
 use Rattle.records.specs.declared.Status as DStatus
 use Rattle.records.specs.declared.Link as DLink
-use Rattle.graph.specs.Graphs.{Work, graph_of, children_from, AmongChildren, Walks, found_of}
+use Rattle.records.specs.declared.Link.TheVariants as V
+use Rattle.graph.specs.Graphs.{Work, graph_of, children_from, AmongChildren, Walks}
 use Rattle.graph.specs.GraphLaws.{count-nodes, graph-node, held-node, held-most}
 use Rattle.graph.specs.SearchLaws.{children-all}
 use Rattle.graph.specs.declared.Counts.{Counts}
-use Rattle.graph.specs.declared.Next.{Next}
-use Rattle.graph.specs.declared.FoundNode.{FoundNode}
-use Rattle.graph.specs.declared.FoundNode.TheVariants as Found
-use Rattle.walk.specs.Clauses.{nodes_edges, StatusAt, asked, state_of, ChildAsks, DescendAsks, DescendGives}
+use Rattle.walk.specs.Clauses.{nodes_edges, StatusAt, asked, ChildAsks, DescendAsks, DescendGives}
 use Rattle.walk.specs.KeptLaws.{Answer, NextChild, next-walks, next-at, next-end}
 
 -- ---- the status of a node
@@ -55,22 +53,22 @@ module _ (f : Status → Bool) (g : Graph) where
   first-over y ys t = rw (t, first)
 
 -- from edge i on, a place of the chain of children, the search finds what it finds from the start
-pub record Looking (w : Work) (c : Counts) (x : ℕ) (sat : Bool) (i : ℕ) : Type 0 where
+pub record Looking (w : Work) (c : Counts) (x : ℕ) (wanted : Status) (i : ℕ) : Type 0 where
   pub asks : ChildAsks w c x
   pub place : i ≤ c.edges
   pub among : AmongChildren (graph_of w c) x i
-  pub finds : first (ask (asked sat) (graph_of w c)) (children_from (graph_of w c) x i) ≡ first_child (asked sat) (graph_of w c) x
+  pub finds : first (ask (asked wanted) (graph_of w c)) (children_from (graph_of w c) x i) ≡ first_child (asked wanted) (graph_of w c) x
 
-pub looking-start : {w : Work} {c : Counts} {x : ℕ} {sat : Bool} → ChildAsks w c x → Looking w c x sat 0
+pub looking-start : {w : Work} {c : Counts} {x : ℕ} {wanted : Status} → ChildAsks w c x → Looking w c x wanted 0
 unfolding first_child
-looking-start {w} {c} {x} {sat} A = record {
+looking-start {w} {c} {x} {wanted} A = record {
   asks = A;
   place = omega arith;
   among = tt;
-  finds = ap (first (ask (asked sat) (graph_of w c))) (children-all (graph_of w c) x);
+  finds = ap (first (ask (asked wanted) (graph_of w c))) (children-all (graph_of w c) x);
 }
 
-module _ {w : Work} {c : Counts} {x : ℕ} {sat : Bool} {i : ℕ} (L : Looking w c x sat i) where
+module _ {w : Work} {c : Counts} {x : ℕ} {wanted : Status} {i : ℕ} (L : Looking w c x wanted i) where
   pub looking-walks : Walks edge_size w.nodes w.edges c.nodes c.edges x i
   looking-walks = next-walks w L.asks.holds x i L.asks.inside L.place
 
@@ -81,15 +79,14 @@ module _ {w : Work} {c : Counts} {x : ℕ} {sat : Bool} {i : ℕ} (L : Looking w
   pub record Follows (k y : ℕ) : Type 0 where
     pub next : NextChild w c x i k y
 
-  module _ {r : Next} (all : Answer w c x i r) where
-    pub looking-next : {k y : ℕ} → r ≡ Next.At k y → Follows k y
-    looking-next q = record { next = next-at w L.asks.holds x i L.among all q }
+  pub looking-next : {k y : ℕ} → Answer w c x i (Some (k, y)) → Follows k y
+  looking-next all = record { next = next-at w L.asks.holds x i L.among all }
 
-    pub looking-end : r ≡ Next.End → None ≡ first_child (asked sat) (graph_of w c) x
-    unfolding first
-    looking-end q = ap (first (ask (asked sat) (graph_of w c))) (sym (next-end w L.asks.holds x i L.among all q)) ∙ L.finds
+  pub looking-end : Answer w c x i None → None ≡ first_child (asked wanted) (graph_of w c) x
+  unfolding first
+  looking-end all = ap (first (ask (asked wanted) (graph_of w c))) (sym (next-end w L.asks.holds x i L.among all)) ∙ L.finds
 
-module _ {w : Work} {c : Counts} {x : ℕ} {sat : Bool} {i : ℕ} {L : Looking w c x sat i} {k y : ℕ} (F : Follows L k y) where
+module _ {w : Work} {c : Counts} {x : ℕ} {wanted : Status} {i : ℕ} {L : Looking w c x wanted i} {k y : ℕ} (F : Follows L k y) where
   pub looking-index : k + 1 ≤ most_records
   looking-index = omega (arith, F.next.below, (held-most L.asks.holds.held).1)
 
@@ -97,57 +94,51 @@ module _ {w : Work} {c : Counts} {x : ℕ} {sat : Bool} {i : ℕ} {L : Looking w
   looking-less = omega (arith, F.next.from, F.next.below)
 
 -- the status v of that child is the one looked for, or not
-module _ {n e : Bytes} {c : Counts} {x : ℕ} {sat : Bool} {i : ℕ} {L : Looking (nodes_edges n e) c x sat i} {k y : ℕ} (F : Follows L k y) {v : Status}
-    (S : StatusAt n c y v) {b : Bool} (p : b ≡ asked sat v) where
+module _ {n e : Bytes} {c : Counts} {x : ℕ} {wanted : Status} {i : ℕ} {L : Looking (nodes_edges n e) c x wanted i} {k y : ℕ} (F : Follows L k y) {v : Status}
+    (S : StatusAt n c y v) {b : Bool} (p : b ≡ asked wanted v) where
   abbrev g : Graph
   g = graph_of (nodes_edges n e) c
 
   -- what is found from here on, by what is found at the child
-  by-child : {o : Option ℕ} → first (ask (asked sat) g) (y ∷ children_from g x (k + 1)) ≡ o → o ≡ first_child (asked sat) g x
-  by-child q = sym q ∙ ap (first (ask (asked sat) g)) (sym F.next.more) ∙ L.finds
+  by-child : {o : Option ℕ} → first (ask (asked wanted) g) (y ∷ children_from g x (k + 1)) ≡ o → o ≡ first_child (asked wanted) g x
+  by-child q = sym q ∙ ap (first (ask (asked wanted) g)) (sym F.next.more) ∙ L.finds
 
-  status-asked : asked sat (node_at g y).status ≡ b
-  status-asked = ap (asked sat) (sym (S.is e)) ∙ sym p
+  status-asked : asked wanted (node_at g y).status ≡ b
+  status-asked = ap (asked wanted) (sym (S.is e)) ∙ sym p
 
-  pub looking-found : b ≡ true → Some y ≡ first_child (asked sat) g x
-  looking-found t = by-child (first-here (asked sat) g y (children_from g x (k + 1)) (status-asked ∙ t))
+  pub looking-found : b ≡ true → Some y ≡ first_child (asked wanted) g x
+  looking-found t = by-child (first-here (asked wanted) g y (children_from g x (k + 1)) (status-asked ∙ t))
 
-  pub looking-over : b ≡ false → Looking (nodes_edges n e) c x sat (k + 1)
+  pub looking-over : b ≡ false → Looking (nodes_edges n e) c x wanted (k + 1)
   looking-over t = record {
     asks = L.asks;
     place = omega (arith, F.next.below);
     among = F.next.among;
-    finds = by-child (first-over (asked sat) g y (children_from g x (k + 1)) (status-asked ∙ t));
+    finds = by-child (first-over (asked wanted) g y (children_from g x (k + 1)) (status-asked ∙ t));
   }
 
 -- ---- the child that the walk goes to
 
--- what was found, told by its case
-found_as : {f k : FoundNode} {o : Option ℕ} → f ≡ k → found_of f ≡ o → found_of k ≡ o
-found_as {f} {k} {o} p q = subst (λ (x : FoundNode). found_of x ≡ o) p q
-
 module _ (g : Graph) (x : ℕ) where
-  else-open : (o : Option ℕ) → o ≡ first_child (asked true) g x
-      → elim o as (λ _. Option ℕ) [ Some z ↦ Some z | None ↦ first_child (asked false) g x ] ≡ live_child g x
+  else-open : (o : Option ℕ) → o ≡ first_child is_sat g x
+      → elim o as (λ _. Option ℕ) [ Some z ↦ Some z | None ↦ first_child is_open g x ] ≡ live_child g x
   unfolding live_child
   else-open o e = ap (λ (u : Option ℕ). elim u as (λ _. Option ℕ) [ Some z ↦ Some z | None ↦ first_child is_open g x ]) e
 
-  module _ {f : FoundNode} (p : found_of f ≡ first_child (asked true) g x) where
-    pub live-sat : {y : ℕ} → f ≡ Found.At y → Some y ≡ live_child g x
-    live-sat {y} e = else-open (Some y) (found_as e p)
-
-    pub live-open : {o : Option ℕ} → f ≡ Found.Nothing → o ≡ first_child (asked false) g x → o ≡ live_child g x
-    live-open e q = q ∙ else-open None (found_as e p)
+  -- of what is found as the first that is yes, or else as the first that is open
+  pub live-found : (o r : Option ℕ) → o ≡ first_child is_sat g x → ((y : ℕ) → o ≡ Some y → r ≡ Some y)
+      → (o ≡ None → r ≡ first_child is_open g x)
+      → r ≡ live_child g x
+  live-found (Some y) r e some none = some y refl ∙ else-open (Some y) e
+  live-found None r e some none = none refl ∙ else-open None e
 
 -- ---- a node on the way down
 
-link-state : (k : Link) (y : ℕ) → Some y ≡ state_of k → k ≡ to_state y
-link-state (to_state z) y e = ap to_state (cc)
-link-state unlinked y e = impossible cc
-link-state lapsed y e = impossible cc
-
-link-none : (k : Link) → None ≡ state_of k → (z : ℕ) → k ≢ to_state z
-link-none k e z p = let q : None ≡ Some z = e ∙ ap state_of p in let o : ◌≡◌ {A = ℕ} 0 1 = cc in omega arith
+-- a link that names no state
+link-none : (v : DLink.Link) → ((y : ℕ) → v ≢ V.State y) → (k : Link) → link_of v ≡ k → (z : ℕ) → k ≢ to_state z
+link-none V.None n k e z p = impossible cc
+link-none (V.State y) n k e z p = n y refl
+link-none V.Lapsed n k e z p = impossible cc
 
 -- the way down from `start` goes through node x
 pub record Going (w : Work) (c : Counts) (start x : ℕ) : Type 0 where
@@ -167,49 +158,38 @@ module _ {w : Work} {c : Counts} {start x : ℕ} (G : Going w c start x) where
   pub going-asks : ChildAsks w c x
   going-asks = record { holds = G.asks.holds; inside = there }
 
-  -- what the link of the node names
-  pub record Links (f : FoundNode) : Type 0 where
-    pub is : found_of f ≡ state_of (node_at (graph_of w c) x).link
-
-  pub going-links : (v : DLink.Link) → IsLink w.nodes x v → {f : FoundNode} → found_of f ≡ state_of (link_of v) → Links f
-  going-links v p k = record { is = k ∙ ap state_of (p ∙ ap (λ (m : Node). m.link) (sym (graph-node w c x there))) }
-
-module _ {w : Work} {c : Counts} {start x : ℕ} {G : Going w c start x} {f : FoundNode} (S : Links G f) where
   abbrev h : Graph
   h = graph_of w c
 
-  -- a state: it is the one
-  pub going-lands : {y : ℕ} → f ≡ Found.At y → DescendGives w c start y
-  going-lands {y} q =
-      let end : G.asks.end ≡ y = way-linked h G.way y (link-state (node_at h x).link y (found_as q S.is)) in
+  link-is : (v : DLink.Link) → IsLink w.nodes x v → link_of v ≡ (node_at h x).link
+  link-is v p = p ∙ ap (λ (m : Node). m.link) (sym (graph-node w c x there))
+
+  -- its link names a state: it is the one
+  pub going-lands : {y : ℕ} → IsLink w.nodes x (V.State y) → DescendGives w c start y
+  going-lands {y} p =
+      let end : G.asks.end ≡ y = way-linked h G.way y (sym (link-is (V.State y) p)) in
       record {
         finds = way-descends h G.asks.way ∙ ap Some end;
         inside = omega (arith, way-lands h G.asks.way, count-nodes w c);
       }
 
-  -- none: the way goes on
-  module _ (q : f ≡ Found.Nothing) where
+  -- it names none: the way goes on
+  module _ {v : DLink.Link} (p : IsLink w.nodes x v) (none : (y : ℕ) → v ≢ V.State y) where
     goes_on : (b : ℕ) × (live_child h x ≡ Some b) × (x < b) × Way h b G.asks.end
-    goes_on = way-child h G.way (link-none (node_at h x).link (found_as q S.is))
+    goes_on = way-child h G.way (link-none v none (node_at h x).link (link-is v p))
 
-    module _ {r : FoundNode} (l : found_of r ≡ live_child h x) where
-      pub going_on : {b : ℕ} → r ≡ Found.At b → Going w c start b
-      going_on {b} u =
+    pub going-some : {r : Option ℕ} → r ≡ live_child h x → IsSome r
+    going-some {r} l = let (b, found, up, on) = goes_on in rw (l, found) refl
+
+    module _ {b : ℕ} (l : Some b ≡ live_child h x) where
+      pub going_on : Going w c start b
+      going_on =
           let (d, found, up, on) = goes_on in
-          let here : Some b ≡ live_child h x = found_as u l in
           let same : d ≡ b = cc in
           record { asks = G.asks; way = rw same at on }
 
-      pub going_less : {b : ℕ} → r ≡ Found.At b → c.nodes - b < c.nodes - x
-      going_less {b} u =
+      pub going_less : c.nodes - b < c.nodes - x
+      going_less =
           let (d, found, up, on) = goes_on in
-          let here : Some b ≡ live_child h x = found_as u l in
           let same : d ≡ b = cc in
-          omega (arith, there G)
-
-      pub going-nowhere : r ≡ Found.Nothing → ⊥
-      going-nowhere u =
-          let (d, found, up, on) = goes_on in
-          let here : None ≡ live_child h x = found_as u l in
-          let o : ◌≡◌ {A = ℕ} 0 1 = cc in
-          omega arith
+          omega (arith, there)

@@ -1,11 +1,11 @@
 -- What the walk of the example relies on, and what it gives.
 --
 -- In order: the areas that it looks at; the way down; the marks; meeting a state; the rows of an element; the walk.
-use Rattle.std.specs.Prelude.{◌≡◌, Bool, cond, ◌≢◌, ℕ, suc, ◌≤◌, ◌<◌, length, Option, None, Some}
+use Rattle.std.specs.Prelude.{◌≡◌, Bool, true, false, ◌≢◌, ℕ, suc, ◌≤◌, ◌<◌, length, Some}
 use mathlib.Core.List.{List, [], ◌∷◌, Memᴰ}
 use Rattle.concepts.specs.Lists.{Bytes}
-use Rattle.procedure.specs.Status.{Status, is_sat, is_open}
-use Rattle.procedure.specs.Graph.{Link, unlinked, to_state, lapsed, node_at}
+use Rattle.procedure.specs.Status.{Status, unset, «open», sat, unsat, toosmall, is_unset, is_open, is_sat}
+use Rattle.procedure.specs.Graph.{node_at}
 use Rattle.procedure.specs.Example.{Walk, descend, meet, walk_rows, rows_of, example}
 use Rattle.procedure.proofs.Finished.{Finished}
 use Rattle.procedure.proofs.Way.{Way}
@@ -39,14 +39,21 @@ pub record Kept (w w' : Work) : Type 0 where
 pub record StatusAt (n : Bytes) (c : Counts) (y : ℕ) (v : Status) : Type 0 where
   pub is : (e : Bytes) → v ≡ (node_at (graph_of (nodes_edges n e) c) y).status
 
--- the statuses that the walk goes to: yes, or else open
-abbrev pub asked : Bool → Status → Bool
-asked sat v = cond sat (is_sat v) (is_open v)
-
-abbrev pub state_of : Link → Option ℕ
-state_of (to_state y) = Some y
-state_of unlinked = None
-state_of lapsed = None
+-- a status is the one looked for: the walk goes to a child that is yes, or else to one that is open
+abbrev pub asked : Status → Status → Bool
+asked unset v = is_unset v
+asked «open» v = is_open v
+asked sat v = is_sat v
+asked unsat unset = false
+asked unsat «open» = false
+asked unsat sat = false
+asked unsat unsat = true
+asked unsat toosmall = false
+asked toosmall unset = false
+asked toosmall «open» = false
+asked toosmall sat = false
+asked toosmall unsat = false
+asked toosmall toosmall = true
 
 -- a search among the children of x, which is a node
 pub record ChildAsks (w : Work) (c : Counts) (x : ℕ) : Type 0 where

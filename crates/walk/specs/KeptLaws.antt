@@ -2,9 +2,8 @@
 --
 -- In order: `Kept`; the graph, and the set of a node where it stands; a step along the children of a node (`NextChild`); a finished graph, and the example,
 -- without alternatives.
-use Rattle.std.specs.Prelude.{◌≡◌, refl, Bool, [], ◌∷◌, ℕ, ◌+◌, ◌*◌, ◌≤◌, ◌<◌}
+use Rattle.std.specs.Prelude.{◌≡◌, refl, Bool, [], ◌∷◌, ℕ, ◌+◌, ◌*◌, ◌≤◌, ◌<◌, Option, None, Some}
 use Rattle.std.proofs.Common.{sym, ap, ◌∙◌, arith}
-use Rattle.std.proofs.Math.Path.{subst}
 use Rattle.concepts.specs.Lists.{Bytes}
 use Rattle.concepts.specs.Concept.{Table}
 use Rattle.procedure.specs.Problem.{Problem}
@@ -22,7 +21,6 @@ use Rattle.records.specs.RecordLaws.{node-beside, edge_beside}
 use Rattle.graph.specs.Graphs.{Work, graph_of, Held, EdgesHeld, WithEdges, children_from, AmongChildren, Walks, IsNext}
 use Rattle.graph.specs.GraphLaws.{grown-refl, held-nodes, held-edges, graph-set}
 use Rattle.graph.specs.declared.Counts.{Counts}
-use Rattle.graph.specs.declared.Next.{Next}
 use Rattle.walk.specs.Clauses.{beside, Kept}
 
 -- ---- areas that differ by marks alone
@@ -66,7 +64,7 @@ module _ {w w' : Work} (K : Kept w w') (c : Counts) where
 -- ---- a step along the children of a node
 
 -- what `next_child` answers, from edge i on
-abbrev pub Answer : Work → Counts → ℕ → ℕ → Next → Type 0
+abbrev pub Answer : Work → Counts → ℕ → ℕ → Option (ℕ × ℕ) → Type 0
 Answer w c x i r = WithEdges w.nodes w.edges c (λ g. AmongChildren g x i → IsNext r i c.edges (children_from g x) (AmongChildren g x))
 
 -- y is the next child of x from edge i on, by edge k; behind that edge the chain goes on
@@ -80,20 +78,18 @@ module _ (w : Work) {c : Counts} (H : EdgesHeld w.nodes w.edges c) (x i : ℕ) w
   pub next-walks : x < c.nodes → i ≤ c.edges → Walks edge_size w.nodes w.edges c.nodes c.edges x i
   next-walks h l = record { node = h; nodes = H.held.nodes; place = l; records = H.held.edges }
 
-  module _ (o : AmongChildren (graph_of w c) x i) {r : Next} (all : Answer w c x i r) where
-    as-next : (s : Next) → r ≡ s → IsNext s i c.edges (children_from (graph_of w c) x) (AmongChildren (graph_of w c) x)
+  module _ (o : AmongChildren (graph_of w c) x i) where
+    as-next : (r : Option (ℕ × ℕ)) → Answer w c x i r → IsNext r i c.edges (children_from (graph_of w c) x) (AmongChildren (graph_of w c) x)
     unfolding graph_of children_from
-    as-next s q =
-        let g = graph_of (beside w H.alternatives) c in
-        subst (λ (t : Next). IsNext t i c.edges (children_from g x) (AmongChildren g x)) q (all H.alternatives c H.held grown-refl o)
+    as-next r all = all H.alternatives c H.held grown-refl o
 
-    pub next-at : {k y : ℕ} → r ≡ Next.At k y → NextChild w c x i k y
-    next-at {k} {y} q =
-        let (from, below, more, among) = as-next (Next.At k y) q in
+    pub next-at : {k y : ℕ} → Answer w c x i (Some (k, y)) → NextChild w c x i k y
+    next-at {k} {y} all =
+        let (from, below, more, among) = as-next (Some (k, y)) all in
         record { from = from; below = below; more = more; among = among }
 
-    pub next-end : r ≡ Next.End → children_from (graph_of w c) x i ≡ []
-    next-end q = as-next Next.End q
+    pub next-end : Answer w c x i None → children_from (graph_of w c) x i ≡ []
+    next-end all = as-next None all
 
 -- ---- without alternatives
 

@@ -2,7 +2,7 @@
 --
 -- In order: what is left of the rows (`left`); the loop's invariant (`RowTurn`), its start; the next row (`Row`) and child (`Child`), or the end; the child
 -- met. The set of the state is read at its place in each turn: marks are written beside it.
-use Rattle.std.specs.Prelude.{◌≡◌, refl, length, Some}
+use Rattle.std.specs.Prelude.{◌≡◌, refl, length, None, Some}
 use Rattle.std.proofs.Common.{sym, ◌∙◌, subst, arith, length-append}
 use Rattle.std.proofs.Math.Path.{ap, ap₂}
 use mathlib.Core.List.{List, [], ◌∷◌, map, zip, zip_with, Memᴰ}
@@ -29,7 +29,6 @@ use Rattle.graph.specs.Graphs.{Work, graph_of, children_from, AmongChildren, Wal
 use Rattle.graph.specs.GraphLaws.{held-set, held-most}
 use Rattle.graph.specs.SearchLaws.{children-all}
 use Rattle.graph.specs.declared.Counts.{Counts}
-use Rattle.graph.specs.declared.Next.{Next}
 use Rattle.marks.specs.Marks.{state_in, role_link_in}
 use Rattle.marks.specs.declared.Sizes.{Sizes}
 use Rattle.walk.specs.Clauses.{Kept, DescendAsks, DescendGives, walk_in, Numbered, MeetAsks, MeetGives, element_rows, RowsAsks, RowsGives}
@@ -156,41 +155,46 @@ module _ {ws : List ℕ} {w : Work} {c : Counts} {s : Sizes} {d x : ℕ} {w' : W
     pub row_inside : at + set_size ≤ length w'.nodes
     row_inside = omega (arith, held-set holds.held T.inside)
 
-    module _ {r : Exist} (N : NextExist table (set_of w'.nodes at) k r) where
-      as-kept : (z : Exist) → r ≡ z → NextExist table (node_at h x).rows k z
-      as-kept z q =
-          let e : set_of w'.nodes at ≡ (node_at h x).rows = ap (set_of w'.nodes) p ∙ kept_set T.kept c x T.inside in
-          subst (λ (v : RowSet). NextExist table v k z) e (subst (NextExist table (set_of w'.nodes at) k) q N)
+    as-kept : (r : Exist) → NextExist table (set_of w'.nodes at) k r → NextExist table (node_at h x).rows k r
+    as-kept r N =
+        let e : set_of w'.nodes at ≡ (node_at h x).rows = ap (set_of w'.nodes) p ∙ kept_set T.kept c x T.inside in
+        subst (λ (v : RowSet). NextExist table v k r) e N
 
-      pub row-none : r ≡ Exist.End → RowsGives ws w c s d s' w'
-      unfolding NextExist
-      row-none q = ended (left-rowless table h x k i (as-kept Exist.End q))
+    pub row-none : NextExist table (set_of w'.nodes at) k Exist.End → RowsGives ws w c s d s' w'
+    unfolding NextExist
+    row-none N = ended (left-rowless table h x k i (as-kept Exist.End N))
 
-      pub row_next : {row ρ l : ℕ} → r ≡ Exist.At row ρ l → Row row ρ l
-      unfolding NextExist
-      row_next {row} {ρ} {l} q = let E = as-kept (Exist.At row ρ l) q in record { below = E.inside; rest = E.rest }
+    pub row_next : {row ρ l : ℕ} → NextExist table (set_of w'.nodes at) k (Exist.At row ρ l) → Row row ρ l
+    unfolding NextExist
+    row_next {row} {ρ} {l} N = let E = as-kept (Exist.At row ρ l) N in record { below = E.inside; rest = E.rest }
 
 module _ {ws : List ℕ} {w : Work} {c : Counts} {s : Sizes} {d x : ℕ} {w' : Work} {s' : Sizes} {k i : ℕ} {T : RowTurn ws w c s d x w' s' k i}
     {row ρ l : ℕ} (R : Row T row ρ l) where
   pub row_count_lem : row + 1 ≤ width
   row_count_lem = omega (arith, R.below, length-table_of ws, T.asks.decoded.rows.few)
 
-  module _ {r : Next} (N : Answer w' c x i r) where
-    pub row-childless : r ≡ Next.End → RowsGives ws w c s d s' w'
-    row-childless q =
-        ended T (left-childless (table T) (h T) x k i ρ l (row + 1) R.rest
-        (subst (λ (u : Graph). children_from u x i ≡ []) (same T) (next-end w' (holds T) x i (among-now T) N q)))
+  pub row-childless : Answer w' c x i None → RowsGives ws w c s d s' w'
+  row-childless N =
+      ended T (left-childless (table T) (h T) x k i ρ l (row + 1) R.rest
+      (subst (λ (u : Graph). children_from u x i ≡ []) (same T) (next-end w' (holds T) x i (among-now T) N)))
 
-    pub row-child : {index y : ℕ} → r ≡ Next.At index y → Child T row ρ index y
-    row-child {index} {y} q =
-        let next = next-at w' (holds T) x i (among-now T) N q in
-        record {
-          from = next.from;
-          below = next.below;
-          among = subst (λ (u : Graph). AmongChildren u x (index + 1)) (same T) next.among;
-          todo = left-more (table T) (h T) x k i ρ l y (row + 1) (index + 1) R.rest
-              (subst (λ (u : Graph). children_from u x i ≡ y ∷ children_from u x (index + 1)) (same T) next.more);
-        }
+  pub row-child : {index y : ℕ} → Answer w' c x i (Some (index, y)) → Child T row ρ index y
+  row-child {index} {y} N =
+      let next = next-at w' (holds T) x i (among-now T) N in
+      record {
+        from = next.from;
+        below = next.below;
+        among = subst (λ (u : Graph). AmongChildren u x (index + 1)) (same T) next.among;
+        todo = left-more (table T) (h T) x k i ρ l y (row + 1) (index + 1) R.rest
+            (subst (λ (u : Graph). children_from u x i ≡ y ∷ children_from u x (index + 1)) (same T) next.more);
+      }
+
+-- both, by what the searches for the row and for the child answered
+pub row-turn : {ws : List ℕ} {w : Work} {c : Counts} {s : Sizes} {d x : ℕ} {w' : Work} {s' : Sizes} {k i : ℕ} (T : RowTurn ws w c s d x w' s' k i)
+    (l : ℕ) {at row ρ : ℕ} → at ≡ node_size * x → NextExist (table_of ws) (set_of w'.nodes at) k (Exist.At row ρ l) → {index y : ℕ}
+    → Answer w' c x i (Some (index, y))
+    → Child T row ρ index y
+row-turn T l p N M = row-child (row_next T p N) M
 
 -- ---- the child met
 

@@ -27,11 +27,9 @@ fn write_names(problem: &[u64], nodes: &[u8], count: usize, elements: &mut [u8])
     ensures { Holding elements.old count
         (Writing.names_in (table_of problem.now) nodes.now) elements.new }
 {
-    let mut d = 0;
-    while d < count {
+    for d in 0..count {
         let named = names(problem, nodes, node_set(load_state(nodes, d)));
         put_low(elements, SET_BYTES * d, named, SET_WORDS);
-        d += 1;
     }
 }
 
@@ -52,10 +50,8 @@ fn write_links(edges: &[u8], count: usize, links: &mut [u8])
     requires { Writing.LinksAsk edges.now count links.old }
     ensures { links.new ≡ overwrite (Writing.links_to edges.now count) links.old }
 {
-    let mut k = 0;
-    while k < count {
+    for k in 0..count {
         write_link(edges, k, links);
-        k += 1;
     }
 }
 

@@ -1,5 +1,5 @@
 -- `catalogue::classify` meets its contract: the promise, for every file.
-use mathlib.Core.Path.{refl, sym, ap, ◌∙◌}
+use mathlib.Core.Path.{sym, ap, ◌∙◌}
 use Rattle.decoding.specs.Decoding.{rule_kinds}
 use Rattle.rulefile.specs.Format.{wanted_rows}
 use Rattle.reader.specs.Read.{numbered}
@@ -16,7 +16,7 @@ pub returns-in-Err : goal.returns-in-Err
 returns-in-Err c =
     refused-answered c.args.file.now (areas_of c.args.nodes.now c.args.edges.now c.args.alternatives.now c.args.table.now)
     _ (reads-refused rule_kinds (wanted_rows c.args.file.now) c.args.file.now _
-    (ap numbered (sym c.in-Err.is) ∙ c.read.ensures)) _ ?
+    (ap numbered (sym c.in-Err.is) ∙ c.read.ensures)) _ c.refused.ensures
 
 pub returns-in-Ok : goal.returns-in-Ok
 returns-in-Ok c =

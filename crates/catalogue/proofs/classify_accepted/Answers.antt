@@ -1,13 +1,11 @@
 -- `catalogue::classify_accepted` meets its contract: the file is decoded, its names are listed, the table is filled if it has room, and the work
 -- areas are cleared.
-use mathlib.Core.Path.{◌≡◌, refl}
-use Prim.Native.Nat.{◌-◌}
+use mathlib.Core.Path.{refl}
+use Prim.Native.Nat.{◌≤◌}
 use native.Mathlib.Nat.{mul-le-mul}
 use native.Mathlib.Omega.{arith}
 use Rattle.decoder.specs.WritingLaws.{fresh-zeros}
-use Rattle.decoder.specs.FileProblem.{FileDecoded}
-use Rattle.rulefile.specs.Format.{wanted_rows}
-use Rattle.subsumption.specs.Catalogue.{Areas, areas_of}
+use Rattle.subsumption.specs.Catalogue.{areas_of}
 use Rattle.catalogue.specs.ListedLaws.{listed-fill}
 use Rattle.catalogue.specs.PageCases.{own-laid, own-decoded, page-short, page-filled}
 use Rattle.catalogue.proofs.classify_accepted.Goals as goal
@@ -16,27 +14,23 @@ pub decode_file-requires : goal.decode_file-requires
 decode_file-requires c = (own-laid c.requires c.wanted_of.ensures.0, fresh-zeros _ refl)
 
 pub overflow_mul-count : goal.overflow_mul-count
-overflow_mul-count c = omega (arith, mul-le-mul {n₂ = 64} {m₂ = 64} c.listed-list.ensures.few c.listed-list.ensures.few)
+overflow_mul-count c = let few : c.len-count.result ≤ 64 = omega arith in omega (arith, mul-le-mul {n₂ = 64} {m₂ = 64} few few)
 
 pub returns-then-table-count : goal.returns-then-table-count
 returns-then-table-count c =
-    let the-areas : Areas = let a = c.args in areas_of a.nodes.now a.edges.now a.alternatives.now a.table.now in
-    let the-file : FileDecoded (wanted_rows c.args.file.now) c.args.file.now c.decode_file.new.out =
-    own-decoded c.requires c.wanted_of.ensures.0 c.decode_file.ensures in
-    page-short c.requires the-file c.listed-list.ensures the-areas refl c.if-table-count.true
+    let a = c.args in
+    page-short c.requires (own-decoded c.requires c.wanted_of.ensures.0 c.decode_file.ensures) c.listed-list.ensures
+    (areas_of a.nodes.now a.edges.now a.alternatives.now a.table.now) c.len-count.ensures.value c.refused.ensures c.if-table-count.true
 
 pub fill-requires : goal.fill-requires
 fill-requires c =
-    let whole : c.listed-list.result.count - 0 ≡ c.listed-list.result.count = omega arith in
-    let the-file : FileDecoded (wanted_rows c.args.file.now) c.args.file.now c.decode_file.new.out =
-    own-decoded c.requires c.wanted_of.ensures.0 c.decode_file.ensures in
-    rw whole (listed-fill _ c.listed-list.ensures the-file.decoded c.if-table-count.false)
+    listed-fill _ c.listed-list.ensures c.as_slice.ensures.value c.as_slice-2.ensures.value c.decode_file.ensures.decoded
+    c.len-count.ensures.value c.if-table-count.false
 
 pub returns : goal.returns
 returns c =
-    let the-areas : Areas = let a = c.args in areas_of a.nodes.now a.edges.now a.alternatives.now a.table.now in
-    let whole : c.listed-list.result.count - 0 ≡ c.listed-list.result.count = omega arith in
-    let the-file : FileDecoded (wanted_rows c.args.file.now) c.args.file.now c.decode_file.new.out =
-    own-decoded c.requires c.wanted_of.ensures.0 c.decode_file.ensures in
-    page-filled c.requires the-file c.listed-list.ensures the-areas refl c.if-table-count.false (rw whole at c.fill.ensures)
+    let a = c.args in
+    page-filled c.requires (own-decoded c.requires c.wanted_of.ensures.0 c.decode_file.ensures) c.listed-list.ensures
+    (areas_of a.nodes.now a.edges.now a.alternatives.now a.table.now) c.len-count.ensures.value refl c.if-table-count.false
+    c.as_slice.ensures.value c.as_slice-2.ensures.value c.fill.ensures
     c.clear.ensures c.fill.auto.nodes c.clear-2.ensures c.fill.auto.edges c.clear-3.ensures c.fill.auto.alternatives

@@ -15,17 +15,11 @@ pub slice_bounds-fill_row-start : goal.slice_bounds-fill_row-start
 slice_bounds-fill_row-start c = row-start c.requires _ _ c.loop-i.invariant
 
 pub fill_row-requires : goal.fill_row-requires
-fill_row-requires c = fill-asks c.requires _ _ c.loop-i.invariant c.loop-i-test.true
-
-pub overflow_add-i : goal.overflow_add-i
-overflow_add-i c = omega (arith, c.loop-i-test.true)
-
-pub loop-i-smaller : goal.loop-i-smaller
-loop-i-smaller c = omega (arith, c.loop-i-test.true)
+fill_row-requires c = fill-asks c.requires _ _ c.loop-i.invariant (omega arith)
 
 pub loop-i-preserved : goal.loop-i-preserved
 loop-i-preserved c =
-    fill_more c.requires _ _ c.loop-i.invariant c.loop-i-test.true c.fill_row.ensures c.fill_row.auto.problem
+    fill_more c.requires _ _ c.loop-i.invariant (omega arith) c.fill_row.ensures c.fill_row.auto.problem
     (record { nodes = c.fill_row.auto.nodes; edges = c.fill_row.auto.edges; alternatives = c.fill_row.auto.alternatives })
 
 pub shape_of-problem : goal.shape_of-problem
@@ -44,4 +38,4 @@ pub shape_of-table : goal.shape_of-table
 shape_of-table c = table-size c.requires _ _ c.loop-i.invariant
 
 pub returns : goal.returns
-returns c = fill-all c.requires _ _ c.loop-i.invariant c.loop-i-test.false
+returns c = fill-all c.requires _ _ c.loop-i.invariant (omega arith)

@@ -9,17 +9,11 @@ pub entry-requires : goal.entry-requires
 entry-requires c = row-asks c.requires _ _ c.loop-j.invariant (omega arith)
 
 pub bounds-row-j : goal.bounds-row-j
-bounds-row-j c = omega (arith, row-size c.requires _ _ c.loop-j.invariant, c.requires.room, c.loop-j-test.true)
-
-pub overflow_add-j : goal.overflow_add-j
-overflow_add-j c = omega (arith, c.loop-j-test.true)
-
-pub loop-j-smaller : goal.loop-j-smaller
-loop-j-smaller c = omega (arith, c.loop-j-test.true)
+bounds-row-j c = omega (arith, row-size c.requires _ _ c.loop-j.invariant, c.requires.room)
 
 pub loop-j-preserved : goal.loop-j-preserved
 loop-j-preserved c =
-    row_more c.requires _ _ c.loop-j.invariant c.loop-j-test.true c.entry.ensures c.entry.auto.problem
+    row_more c.requires _ _ c.loop-j.invariant (omega arith) c.entry.ensures c.entry.auto.problem
     (record { nodes = c.entry.auto.nodes; edges = c.entry.auto.edges; alternatives = c.entry.auto.alternatives })
 
 pub shape_of-problem : goal.shape_of-problem

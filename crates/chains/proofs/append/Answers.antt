@@ -1,25 +1,17 @@
 -- `chains::append` meets its contract: by whether the chain has a record.
 -- Assumes nothing.
-use Prim.Native.Nat.{ℕ, ◌<◌}
 use native.Mathlib.Omega.{arith}
-use Rattle.records.specs.Areas.{Fits}
 use Rattle.chains.specs.PlaceLaws.{last_fits, appended-some, appended-none}
 use Rattle.chains.proofs.append.Goals as goal
 
 pub overflow_mul-p-then-last-i : goal.overflow_mul-p-then-last-i
-overflow_mul-p-then-last-i c =
-    let there : (v : ℕ) → v < c.args.i → Fits c.args.p.size c.args.area.now v = λ v l. last_fits c.requires l in
-    omega (arith, there _ c.if-last-i.true)
+overflow_mul-p-then-last-i c = omega (arith, last_fits c.requires c.if-last-i.true)
 
 pub overflow_add-p-then-last-i : goal.overflow_add-p-then-last-i
-overflow_add-p-then-last-i c =
-    let there : (v : ℕ) → v < c.args.i → Fits c.args.p.size c.args.area.now v = λ v l. last_fits c.requires l in
-    omega (arith, there _ c.if-last-i.true, c.requires.sits.in-next)
+overflow_add-p-then-last-i c = omega (arith, last_fits c.requires c.if-last-i.true)
 
 pub put2-requires-then-last-i : goal.put2-requires-then-last-i
-put2-requires-then-last-i c =
-    let there : (v : ℕ) → v < c.args.i → Fits c.args.p.size c.args.area.now v = λ v l. last_fits c.requires l in
-    omega (arith, there _ c.if-last-i.true, c.requires.sits.in-next, c.put2-2.auto.b)
+put2-requires-then-last-i c = omega (arith, last_fits c.requires c.if-last-i.true, c.put2-2.auto.b)
 
 pub returns-then-last-i : goal.returns-then-last-i
 returns-then-last-i c = appended-some c.requires c.get2-last.ensures c.if-last-i.true c.put2.ensures (cc (c.put2-2.ensures, c.put2-then-last-i.ensures))

@@ -1,10 +1,6 @@
 -- `marks::clear_numbers` meets its contract: the invariant is that the states below `y` have no number.
-use Prim.Native.Nat.{◌-◌, ◌≤◌}
 use Rattle.marks.specs.Marked.{NumbersCleared}
 use Rattle.marks.proofs.clear_numbers.Given as goal
 
 abbrev pub invariant-loop-y : goal.invariant-loop-y
-invariant-loop-y l = (l.y ≤ l.count) × NumbersCleared l.initial.nodes l.nodes l.y
-
-abbrev pub decreases-loop-y : goal.decreases-loop-y
-decreases-loop-y l = l.count - l.y
+invariant-loop-y l = NumbersCleared l.initial.nodes l.nodes l.y

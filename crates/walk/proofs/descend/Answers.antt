@@ -1,6 +1,6 @@
 use native.Mathlib.Omega.{arith}
 use borrow.Author.Rules.{rules}
-use Rattle.walk.specs.ChildCases.{Links, going_start, going-fits, going-asks, going-links, going-lands, going_on, going_less, going-nowhere}
+use Rattle.walk.specs.ChildCases.{going_start, going-fits, going-asks, going-lands, going-some, going_on, going_less}
 use Rattle.walk.proofs.descend.Goals as goal
 
 pub loop-y-init : goal.loop-y-init
@@ -12,25 +12,17 @@ overflow_cast-x c = omega (arith, (going-fits c.loop-y.invariant).0)
 pub link_of-requires : goal.link_of-requires
 link_of-requires c = search (going-fits, rules)
 
-pub returns-in-At : goal.returns-in-At
-returns-in-At c =
-    let links : Links c.loop-y.invariant c.linked_state.result = going-links c.loop-y.invariant c.link_of.result c.link_of.ensures c.linked_state.ensures in
-    going-lands links c.in-At.is
-
 pub live_child-requires : goal.live_child-requires
 live_child-requires c = search (going-asks, rules)
 
+pub returns-in-State : goal.returns-in-State
+returns-in-State c = going-lands c.loop-y.invariant c.in-State.ensures
+
+pub unwrap-x-requires : goal.unwrap-x-requires
+unwrap-x-requires c = going-some c.loop-y.invariant c.link_of.ensures c.in_default.not-State c.live_child.ensures
+
 pub loop-y-smaller : goal.loop-y-smaller
-loop-y-smaller c =
-    let links : Links c.loop-y.invariant c.linked_state.result = going-links c.loop-y.invariant c.link_of.result c.link_of.ensures c.linked_state.ensures in
-    going_less links c.in-Nothing.is c.live_child.ensures c.in-At-live_child.is
+loop-y-smaller c = going_less c.loop-y.invariant c.link_of.ensures c.in_default.not-State (rw c.unwrap-x.ensures at c.live_child.ensures)
 
 pub loop-y-preserved : goal.loop-y-preserved
-loop-y-preserved c =
-    let links : Links c.loop-y.invariant c.linked_state.result = going-links c.loop-y.invariant c.link_of.result c.link_of.ensures c.linked_state.ensures in
-    going_on links c.in-Nothing.is c.live_child.ensures c.in-At-live_child.is
-
-pub returns-in-Nothing-live_child : goal.returns-in-Nothing-live_child
-returns-in-Nothing-live_child c =
-    let links : Links c.loop-y.invariant c.linked_state.result = going-links c.loop-y.invariant c.link_of.result c.link_of.ensures c.linked_state.ensures in
-    absurd (going-nowhere links c.in-Nothing.is c.live_child.ensures c.in-Nothing-live_child.is)
+loop-y-preserved c = going_on c.loop-y.invariant c.link_of.ensures c.in_default.not-State (rw c.unwrap-x.ensures at c.live_child.ensures)

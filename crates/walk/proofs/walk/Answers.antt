@@ -3,7 +3,7 @@ use mathlib.Core.List.{[]}
 use native.Mathlib.Omega.{arith}
 use borrow.Author.Rules.{rules}
 use Rattle.walk.specs.WalkCases.{walk-asks, start-asks, element-start, element-end, started-gives}
-use Rattle.walk.specs.WalkCases.{Element, element-there, element-few, element-asks, element-less, element-walked}
+use Rattle.walk.specs.WalkCases.{element-there, element-few, element-asks, element-less, element-walked}
 use Rattle.walk.proofs.walk.Goals as goal
 
 pub descend-first-requires : goal.descend-first-requires
@@ -16,29 +16,19 @@ pub loop-d-init : goal.loop-d-init
 loop-d-init c = element-start c.requires c.descend-first.ensures c.start-s.ensures
 
 pub overflow_cast-d : goal.overflow_cast-d
-overflow_cast-d c =
-    let element : Element c.loop-d.invariant = element-there c.loop-d.invariant c.loop-d-test.true in
-    omega (arith, element-few element)
+overflow_cast-d c = omega (arith, element-few (element-there c.loop-d.invariant c.loop-d-test.true))
 
 pub walk_rows-s-requires : goal.walk_rows-s-requires
-walk_rows-s-requires c =
-    let element : Element c.loop-d.invariant = element-there c.loop-d.invariant c.loop-d-test.true in
-    element-asks element
+walk_rows-s-requires c = element-asks (element-there c.loop-d.invariant c.loop-d-test.true)
 
 pub overflow_add-d : goal.overflow_add-d
-overflow_add-d c =
-    let element : Element c.loop-d.invariant = element-there c.loop-d.invariant c.loop-d-test.true in
-    omega (arith, element-few element)
+overflow_add-d c = omega (arith, element-few (element-there c.loop-d.invariant c.loop-d-test.true))
 
 pub loop-d-smaller : goal.loop-d-smaller
-loop-d-smaller c =
-    let element : Element c.loop-d.invariant = element-there c.loop-d.invariant c.loop-d-test.true in
-    element-less element
+loop-d-smaller c = element-less (element-there c.loop-d.invariant c.loop-d-test.true)
 
 pub loop-d-preserved : goal.loop-d-preserved
-loop-d-preserved c =
-    let element : Element c.loop-d.invariant = element-there c.loop-d.invariant c.loop-d-test.true in
-    element-walked element c.walk_rows-s.ensures
+loop-d-preserved c = element-walked (element-there c.loop-d.invariant c.loop-d-test.true) c.walk_rows-s.ensures
 
 pub shape_of-nodes : goal.shape_of-nodes
 shape_of-nodes c = c.loop-d.invariant.kept.nodes.long ∙ (c.start-s.ensures.kept []).nodes.long

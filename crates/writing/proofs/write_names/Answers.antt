@@ -6,10 +6,10 @@ pub loop-d-init : goal.loop-d-init
 loop-d-init c = naming-none
 
 pub load_state-requires : goal.load_state-requires
-load_state-requires c = element-fits c.requires.1 c.loop-d-test.true
+load_state-requires c = element-fits c.requires.1 (omega arith)
 
 pub names-named-requires : goal.names-named-requires
-names-named-requires c = (c.requires.0, element-inside c.requires.1 c.loop-d-test.true c.load_state.ensures c.node_set.ensures)
+names-named-requires c = (c.requires.0, element-inside c.requires.1 (omega arith) c.load_state.ensures c.node_set.ensures)
 
 pub loop-d-preserved : goal.loop-d-preserved
 loop-d-preserved c =

@@ -1,10 +1,6 @@
 -- `writing::write_names` meets its contract: the invariant is that the names of the elements below `d` are written over the area.
-use Prim.Native.Nat.{◌-◌}
 use Rattle.writing.specs.WritingLaws.{Naming}
 use Rattle.writing.proofs.write_names.Given as goal
 
 abbrev pub invariant-loop-d : goal.invariant-loop-d
 invariant-loop-d l = Naming l.problem l.nodes l.count l.initial.elements l.d l.elements
-
-abbrev pub decreases-loop-d : goal.decreases-loop-d
-decreases-loop-d l = l.count - l.d

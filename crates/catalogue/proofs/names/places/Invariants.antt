@@ -5,6 +5,3 @@ use Rattle.catalogue.proofs.names.places.Given as goal
 
 abbrev pub invariant-loop-k : goal.invariant-loop-k
 invariant-loop-k l = PlacesFrom l.kind (table_of l.problem) l.k l.places
-
-abbrev pub decreases-loop-k : goal.decreases-loop-k
-decreases-loop-k l = l.k

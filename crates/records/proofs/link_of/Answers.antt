@@ -1,7 +1,0 @@
--- `records::link_of` meets its contract: the code that it reads is that of the definition.
-use Rattle.records.specs.Records.{node_in}
-use Rattle.records.proofs.link_of.Goals as goal
-
-pub returns : goal.returns
-unfolding node_in
-returns c = cc
