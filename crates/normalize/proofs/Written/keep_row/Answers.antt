@@ -1,10 +1,10 @@
--- `normalize::keep_row` meets its contract: the row is an inclusion by its kind, and its word stands for it.
+-- `Written::keep_row` meets its contract: the row is an inclusion by its kind, and its word stands for it.
 -- Assumes nothing.
 use native.Mathlib.Omega.{arith}
 use borrow.Author.Rules.{rules}
 use Rattle.normalize.specs.ShapeLaws.{draft-parted}
 use Rattle.normalize.specs.KeepCases.{kept-room, kept_row, kept-other}
-use Rattle.normalize.proofs.keep_row.Goals as goal
+use Rattle.normalize.proofs.Written.keep_row.Goals as goal
 
 pub row_byte-requires : goal.row_byte-requires
 row_byte-requires c = (draft-parted c.requires.0.draft, c.requires.1, omega arith)
@@ -15,8 +15,8 @@ row_byte-requires-then-row_byte-eq-INCLUSION c = (draft-parted c.requires.0.draf
 pub row_byte-requires-then-row_byte-eq-INCLUSION-2 : goal.row_byte-requires-then-row_byte-eq-INCLUSION-2
 row_byte-requires-then-row_byte-eq-INCLUSION-2 c = (draft-parted c.requires.0.draft, c.requires.1, omega arith)
 
-pub bounds-written-n : goal.bounds-written-n
-bounds-written-n c = kept-room c.requires.0 c.requires.1
+pub bounds-self-n : goal.bounds-self-n
+bounds-self-n c = omega (arith, kept-room c.requires.0 c.requires.1, c.requires.0.held.size)
 
 pub returns-then-row_byte-eq-INCLUSION : goal.returns-then-row_byte-eq-INCLUSION
 returns-then-row_byte-eq-INCLUSION c =
@@ -24,5 +24,5 @@ returns-then-row_byte-eq-INCLUSION c =
     c.row_byte-then-row_byte-eq-INCLUSION-2.ensures (search rules) (search rules)
     c.row_word.ensures
 
-pub returns : goal.returns
-returns c = kept-other c.requires.0 c.requires.1 c.row_byte.ensures c.if-row_byte-eq-INCLUSION.false
+pub returns-else-row_byte-eq-INCLUSION : goal.returns-else-row_byte-eq-INCLUSION
+returns-else-row_byte-eq-INCLUSION c = kept-other c.requires.0 c.requires.1 c.row_byte.ensures c.if-row_byte-eq-INCLUSION.false
