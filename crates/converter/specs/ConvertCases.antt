@@ -2,7 +2,7 @@
 --
 -- In order: answers by their names; a draft that passed the checks; its inclusions, its rules and its wanted row, put one after the other; too many rows;
 -- the file's bytes; a file that does not fit, or does; the call.
-use Rattle.std.specs.Prelude.{◌≡◌, true, false, ◌||◌, ℕ, ◌+◌, ◌*◌, ◌≤◌, ◌<◌, ltb, Result, Ok, Err}
+use Rattle.std.specs.Prelude.{◌≡◌, true, false, ◌||◌, ℕ, ◌+◌, ◌*◌, ◌≤◌, ◌<◌, ltb, Result, Ok, Err, IsErr}
 use Rattle.std.proofs.Math.Path.{refl, ap}
 use Rattle.std.proofs.Common.{sym, ◌∙◌, subst, length-take-le}
 use Rattle.std.proofs.lemmas.List.{get_or-take}
@@ -41,7 +41,7 @@ use Rattle.normalize.specs.declared.Written.{Written}
 use Rattle.normalize.specs.declared.TooLarge.{TooLarge}
 use Rattle.encoder.specs.Encoder.{word_bytes, words_bytes, parts_bytes, FileAsks}
 use Rattle.encoder.specs.EncoderLaws.{words_bytes-table}
-use Rattle.converter.specs.Clauses.{refused_numbers, Converts, result, FinishAsks}
+use Rattle.converter.specs.Clauses.{refused_numbers, numbers_given, Converts, result, FinishAsks}
 
 -- ---- answers by their names
 
@@ -51,6 +51,15 @@ list-as {b} {list} {w} {w'} {places} {places'} G e = subst (ListGives b list w w
 
 pub numbers_as : {b before : Bytes} {r q : ConversionNumbers} {after : Bytes} → Converts b before r after → q ≡ r → Converts b before q after
 numbers_as C e = record { numbers_are = e ∙ C.numbers_are; area_is = C.area_is }
+
+pub given_as : {b before after : Bytes} (r : Result ℕ TooLarge) → Converts b before (refused_numbers 12) after → IsErr r
+    → Converts b before (numbers_given r) after
+given_as (Ok n) C q = absurd (cc)
+given_as (Err e) C q = C
+
+pub given-is : {b before after : Bytes} {r s : Result ℕ TooLarge} → Converts b before (numbers_given r) after → r ≡ s
+    → Converts b before (numbers_given s) after
+given-is {b} {before} {after} C e = subst (λ (x : Result ℕ TooLarge). Converts b before (numbers_given x) after) e C
 
 -- ---- a draft that passed the checks
 
@@ -225,11 +234,11 @@ module _ {b : Bytes} {l : Layout} {w : Written} {list : List ℕ} {wanted : ℕ}
   unfolding too_large
   tests room size e = rw (row_count_lem, le-ltb most_rows n A.held.few, e)
 
-  pub finish-refused : {before : Bytes} {size : ℕ} → size ≡ l.text + 4 * n + l.rules + 8 → (ltb 4096 size || ltb (length before) size) ≡ true
+  pub finish-refused : (before : Bytes) {size : ℕ} → (ltb 4096 size || ltb (length before) size) ≡ true → size ≡ l.text + 4 * n + l.rules + 8
       → Converts b before (refused_numbers 12) before
-  finish-refused {before} {size} e h = refused-large A.laid (tests (length before) size (e ∙ result-size) ∙ h)
+  finish-refused before {size} h e = refused-large A.laid (tests (length before) size (e ∙ result-size) ∙ h)
 
-  module _ (before : Bytes) {size : ℕ} (e : size ≡ l.text + 4 * n + l.rules + 8) (h : (ltb 4096 size || ltb (length before) size) ≡ false) where
+  module _ (before : Bytes) {size : ℕ} (h : (ltb 4096 size || ltb (length before) size) ≡ false) (e : size ≡ l.text + 4 * n + l.rules + 8) where
     pub finish-room : (size ≤ 4096) × (size ≤ length before)
     finish-room = let (p, q) = or-neither (ltb 4096 size) (ltb (length before) size) h in (ltb-false 4096 size p, ltb-false (length before) size q)
 

@@ -82,10 +82,7 @@ pub fn convert(draft: &[u8], area: &mut [u8]) -> Conversion
     match read(draft, DRAFT_KINDS) {
         Outcome::Refused(n) => refused(n as u32),
         Outcome::Accepted(layout) => match convert_accepted(draft, layout, area) {
-            Ok(length) => Conversion {
-                refusal: 0,
-                length,
-            },
+            Ok(length) => Conversion { refusal: 0, length },
             Err(TooLarge) => refused(TOO_LARGE),
         },
     }

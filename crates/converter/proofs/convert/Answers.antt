@@ -3,7 +3,7 @@ use mathlib.Core.Path.{sym, ◌∙◌}
 use Rattle.rulefile.specs.Format.{wanted_rows}
 use Rattle.reader.specs.PartLaws.{reads-refused, reads-accepted}
 use Rattle.decoding.specs.Decoding.{draft_kinds}
-use Rattle.converter.specs.ConvertCases.{numbers_as, refused-converts, converts-promise}
+use Rattle.converter.specs.ConvertCases.{numbers_as, given-is, refused-converts, converts-promise}
 use Rattle.converter.proofs.convert.Goals as goal
 
 pub convert_accepted-requires : goal.convert_accepted-requires
@@ -15,5 +15,8 @@ returns-in-Refused c =
     (sym c.in-Refused.is ∙ c.read.ensures) in
     converts-promise (numbers_as (refused-converts c.args.draft.now c.in-Refused.n refused) c.refused.ensures)
 
-pub returns-in-Accepted : goal.returns-in-Accepted
-returns-in-Accepted c = converts-promise c.convert_accepted.ensures
+pub returns-in-Ok : goal.returns-in-Ok
+returns-in-Ok c = converts-promise (given-is c.convert_accepted.ensures c.in-Ok.is)
+
+pub returns-in-Err : goal.returns-in-Err
+returns-in-Err c = converts-promise (numbers_as (given-is c.convert_accepted.ensures c.in-Err.is) c.refused-in-Err.ensures)
