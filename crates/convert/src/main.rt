@@ -7,7 +7,7 @@ ghost use Rattle.std.specs.Prelude.{◌≤◌, length, IfOk};
 ghost use Rattle.convert.specs.Output.{Outputs};
 
 use converter::convert;
-use printing::line_of_one;
+use printing::line;
 use std::io;
 use std::io::Read;
 
@@ -26,7 +26,7 @@ fn output(draft: &[u8], area: &mut [u8; AREA]) -> usize
     if written {
         return conversion.length as usize;
     }
-    line_of_one(area, 0, b"REFUSED", conversion.refusal)
+    line(area, 0, b"REFUSED", &[conversion.refusal])
 }
 
 // Reads until the room is full or the input ends: answers how many bytes stand at its start.

@@ -2,9 +2,10 @@
 --
 -- In order: answers by their names; a draft that passed the checks; its inclusions, its rules and its wanted row, put one after the other; too many rows;
 -- the file's bytes; a file that does not fit, or does; the call.
-use Rattle.std.specs.Prelude.{◌≡◌, true, false, ◌||◌, ℕ, ◌+◌, ◌*◌, ◌≤◌, ◌<◌, ltb, replicate}
+use Rattle.std.specs.Prelude.{◌≡◌, true, false, ◌||◌, ℕ, ◌+◌, ◌*◌, ◌≤◌, ◌<◌, ltb, Result, Ok, Err, IsErr}
 use Rattle.std.proofs.Math.Path.{refl, ap}
 use Rattle.std.proofs.Common.{sym, ◌∙◌, subst, length-take-le}
+use Rattle.std.proofs.lemmas.List.{get_or-take}
 use mathlib.Core.List.{List, [], ◌∷◌, Memᴰ}
 use native.Mathlib.Omega.{arith}
 use Rattle.std.proofs.Math.ListN.{length, get_or, take}
@@ -30,27 +31,35 @@ use Rattle.drafts.proofs.EncodingLaws.{length-file_bytes}
 use Rattle.drafts.specs.Conversion.{draft_reading, Conversion, ConversionNumbers, refused_with, written, too_large, written_or, numbers, conversion, area_after}
 use Rattle.drafts.specs.Promise.{ConversionPromise}
 use Rattle.drafts.proofs.Kept.{conversion-refused, conversion-accepted, promise-kept}
-use Rattle.normalize.specs.Words.{row_in, rows_in}
+use Rattle.normalize.specs.Words.{row_in}
 use Rattle.normalize.specs.WordLaws.{own-parts, length-rows_in, concept_at-rows_in}
-use Rattle.normalize.specs.Shapes.{table_of, slots, no_place}
+use Rattle.normalize.specs.Shapes.{table_of}
 use Rattle.normalize.specs.ShapeLaws.{draft-parted, draft-ordered, draft-rows}
-use Rattle.normalize.specs.Clauses.{Draft, ListAsks, ListGives, KeepAsks, KeepGives}
+use Rattle.normalize.specs.Clauses.{Draft, rows_of, ListAsks, ListGives, KeepAsks, KeepGives}
 use Rattle.normalize.specs.PutCases.{remembers-none}
-use Rattle.normalize.specs.declared.Listed.{Listed}
-use Rattle.normalize.specs.declared.Listed.TheVariants.{Rows, Full}
+use Rattle.normalize.specs.declared.Written.{Written}
+use Rattle.normalize.specs.declared.TooLarge.{TooLarge}
 use Rattle.encoder.specs.Encoder.{word_bytes, words_bytes, parts_bytes, FileAsks}
 use Rattle.encoder.specs.EncoderLaws.{words_bytes-table}
-use Rattle.converter.specs.Clauses.{refused_numbers, Converts, result, FinishAsks}
+use Rattle.converter.specs.Clauses.{refused_numbers, numbers_given, Converts, result, FinishAsks}
 
 -- ---- answers by their names
 
-pub list-as : {b list ws : List ℕ} {n : ℕ} {memo' ws' places places' : List ℕ} {r q : Listed}
-    → ListGives b list ws n memo' ws' places places' r → r ≡ q
-    → ListGives b list ws n memo' ws' places places' q
-list-as {b} {list} {ws} {n} {memo'} {ws'} {places} {places'} G e = subst (ListGives b list ws n memo' ws' places places') e G
+pub list-as : {b list : List ℕ} {w w' : Written} {places places' : List ℕ} {r q : Result (Unit {0}) TooLarge}
+    → ListGives b list w w' places places' r → r ≡ q → ListGives b list w w' places places' q
+list-as {b} {list} {w} {w'} {places} {places'} G e = subst (ListGives b list w w' places places') e G
 
 pub numbers_as : {b before : Bytes} {r q : ConversionNumbers} {after : Bytes} → Converts b before r after → q ≡ r → Converts b before q after
 numbers_as C e = record { numbers_are = e ∙ C.numbers_are; area_is = C.area_is }
+
+pub given_as : {b before after : Bytes} (r : Result ℕ TooLarge) → Converts b before (refused_numbers 12) after → IsErr r
+    → Converts b before (numbers_given r) after
+given_as (Ok n) C q = absurd (cc)
+given_as (Err e) C q = C
+
+pub given-is : {b before after : Bytes} {r s : Result ℕ TooLarge} → Converts b before (numbers_given r) after → r ≡ s
+    → Converts b before (numbers_given s) after
+given-is {b} {before} {after} C e = subst (λ (x : Result ℕ TooLarge). Converts b before (numbers_given x) after) e C
 
 -- ---- a draft that passed the checks
 
@@ -75,26 +84,25 @@ module _ {b : Bytes} {l : Layout} (L : Laid draft_kinds b l) where
   abbrev kit_places : PutList
   kit_places = put_list (table_of b) (wanted_rows b) rule_places.rows
 
-  pub inclusions-asks : (ws : List ℕ) → length ws ≡ most_rows → KeepAsks b l.rows ws
-  inclusions-asks ws words = record { draft = laid-draft; rows = ap (λ (x : Layout). x.rows) (laid-placed L).layout; size = words }
+  pub inclusions-asks : KeepAsks b l.rows
+  inclusions-asks = record { draft = laid-draft; rows = ap (λ (x : Layout). x.rows) (laid-placed L).layout }
 
-  module _ {list : List ℕ} (is-rules : list ≡ rules b) {ws : List ℕ} {n₀ : ℕ} (I : KeepGives b ws n₀) (places : List ℕ)
-      (room : length places ≡ most_rules) where
-    pub rules-asks : ListAsks b list (replicate slots no_place) ws n₀ places
+  module _ {list : List ℕ} (is-rules : list ≡ rules b) {w₀ : Written} (I : KeepGives b w₀) (places : List ℕ) (room : length places ≡ most_rules) where
+    pub rules-asks : ListAsks b list w₀ places
     rules-asks = record {
       draft = laid-draft;
       listed = λ k m. omega (arith, laid-admitted.well_formed.rule_rows k (subst (λ (ks : List ℕ). Memᴰ k ks) is-rules m), draft-rows laid-draft);
       idle = λ k m. laid-admitted.well_formed.serving k (as_rule (subst (λ (ks : List ℕ). Memᴰ k ks) is-rules m));
       held = I.held;
-      remembered = remembers-none (rows_in ws n₀) (draft-parted laid-draft).few_rows;
+      remembered = rw I.nothing_put (remembers-none (rows_of w₀) (draft-parted laid-draft).few_rows);
       room = omega (arith, ap length is-rules, laid-admitted.few_rules);
     }
 
-    rules-put : put_list (table_of b) list (rows_in ws n₀) ≡ rule_places
+    rules-put : put_list (table_of b) list (rows_of w₀) ≡ rule_places
     rules-put = rw (is-rules, I.rows)
 
     -- too many rows
-    pub rules-full : {memo' ws' places' : List ℕ} → ListGives b list ws n₀ memo' ws' places places' Full
+    pub rules-full : {w' : Written} {places' : List ℕ} {e : TooLarge} → ListGives b list w₀ w' places places' (Err e)
         → most_rows < length (result b).table
     unfolding normalized
     rules-full G =
@@ -105,9 +113,9 @@ module _ {b : Bytes} {l : Layout} (L : Laid draft_kinds b l) where
               (put_list-grown (table_of b) (draft-ordered laid-draft) (wanted_rows b) rule_places.rows).more,
         )
 
-    module _ {memo' ws' places' : List ℕ} {n : ℕ} (G : ListGives b list ws n₀ memo' ws' places places' (Rows n)) {kit : List ℕ}
+    module _ {w' : Written} {places' : List ℕ} {u : Unit {0}} (G : ListGives b list w₀ w' places places' (Ok u)) {kit : List ℕ}
         (is-kit : kit ≡ wanted_rows b) where
-      pub kit-asks : ListAsks b kit memo' ws' n (0 ∷ [])
+      pub kit-asks : ListAsks b kit w' (0 ∷ [])
       kit-asks = record {
         draft = laid-draft;
         listed = λ k m. omega (arith, laid-admitted.well_formed.wanted_rows k (subst (λ (ks : List ℕ). Memᴰ k ks) is-kit m), draft-rows laid-draft);
@@ -117,17 +125,17 @@ module _ {b : Bytes} {l : Layout} (L : Laid draft_kinds b l) where
         room = omega (arith, ap length is-kit);
       }
 
-      kit-put : put_list (table_of b) kit (rows_in ws' n) ≡ kit_places
+      kit-put : put_list (table_of b) kit (rows_of w') ≡ kit_places
       kit-put = rw (is-kit, G.got.rows, rules-put)
 
-      pub kit-full : {memo'' ws'' wanted' : List ℕ} → ListGives b kit ws' n memo'' ws'' (0 ∷ []) wanted' Full
+      pub kit-full : {w'' : Written} {wanted' : List ℕ} {e : TooLarge} → ListGives b kit w' w'' (0 ∷ []) wanted' (Err e)
           → most_rows < length (result b).table
       unfolding normalized
       kit-full F = rw kit-put at F.got
 
       -- ---- all rows are known
-      pub finish-asks : {memo'' ws'' wanted' : List ℕ} {m : ℕ} → ListGives b kit ws' n memo'' ws'' (0 ∷ []) wanted' (Rows m)
-          → FinishAsks b l ws'' m places' (get_or wanted' 0 0)
+      pub finish-asks : {w'' : Written} {wanted' : List ℕ} {v : Unit {0}} → ListGives b kit w' w'' (0 ∷ []) wanted' (Ok v)
+          → FinishAsks b l w'' places' (get_or wanted' 0 0)
       unfolding normalized
       finish-asks {wanted' = wanted'} F =
           let P = laid-placed L in
@@ -162,9 +170,18 @@ module _ {b : Bytes} {l : Layout} (L : Laid draft_kinds b l) {before : Bytes} wh
 
 -- ---- the file's bytes
 
-module _ {b : Bytes} {l : Layout} {ws : List ℕ} {n : ℕ} {list : List ℕ} {wanted : ℕ} (A : FinishAsks b l ws n list wanted) where
+module _ {b : Bytes} {l : Layout} {w : Written} {list : List ℕ} {wanted : ℕ} (A : FinishAsks b l w list wanted) where
   abbrev f : RuleFile
   f = result b
+
+  abbrev n : ℕ
+  n = w.count
+
+  abbrev words : List ℕ
+  words = take n w.words
+
+  pub words-size : length words ≡ n
+  words-size = length-take-le n w.words (omega (arith, A.held.few, A.held.size))
 
   -- its parts are small
   pub finish-small : (l.text ≤ length b) × (l.text ≤ 4096) × (l.rules ≤ most_rules) × (n ≤ most_rows)
@@ -181,7 +198,7 @@ module _ {b : Bytes} {l : Layout} {ws : List ℕ} {n : ℕ} {list : List ℕ} {w
   text-size = ap length (sym text_at) ∙ length-take-le l.text b (omega (arith, whole (laid-placed A.laid)))
 
   row_count_lem : length f.table ≡ n
-  row_count_lem = ap length (sym A.rows) ∙ length-rows_in ws n
+  row_count_lem = ap length (sym A.rows) ∙ length-rows_in w.words n
 
   rule-count : length f.tbox ≡ l.rules
   rule-count = ap length (sym A.tbox) ∙ length-take-le l.rules list A.listed
@@ -197,17 +214,18 @@ module _ {b : Bytes} {l : Layout} {ws : List ℕ} {n : ℕ} {list : List ℕ} {w
   result-size = omega (arith, length-file_bytes f, text-size, row_count_lem, rule-count)
 
   -- the words are its rows
-  word_row : (i : ℕ) → i < n → word_bytes (get_or ws i 0) ≡ row_bytes (concept_at f.table i)
-  word_row i h =
+  word_row : (i : ℕ) → i < length words → word_bytes (get_or words i 0) ≡ row_bytes (concept_at f.table i)
+  word_row i inside =
+      let h : i < n = omega (arith, words-size) in
       let (k, o, x, y) = own-parts (A.held.own i h) in
-      let row : concept_at f.table i ≡ row_in (get_or ws i 0) = ap (λ (t : Table). concept_at t i) (sym A.rows) ∙ concept_at-rows_in ws n i h in
-      rw (row, k, o, x, y)
+      let row : concept_at f.table i ≡ row_in (get_or w.words i 0) = ap (λ (t : Table). concept_at t i) (sym A.rows) ∙ concept_at-rows_in w.words n i h in
+      rw (get_or-take n w.words i 0 h, row, k, o, x, y)
 
-  parts_are : parts_bytes (take l.text b) (words_bytes ws n) (take l.rules list) n wanted ≡ file_bytes f
+  parts_are : parts_bytes (take l.text b) (words_bytes words) (take l.rules list) (length words) wanted ≡ file_bytes f
   unfolding parts_bytes file_bytes trailer
   parts_are =
       let kit : wanted ≡ get_or f.wanted 0 0 = ap (λ (ks : List ℕ). get_or ks 0 0) A.kit in
-      rw (text_at, words_bytes-table ws n f.table row_count_lem word_row, A.tbox, kit, ← row_count_lem)
+      rw (text_at, words_bytes-table words f.table (row_count_lem ∙ sym words-size) word_row, A.tbox, kit, words-size, ← row_count_lem)
 
   -- ---- a file that does not fit, or does
 
@@ -216,26 +234,25 @@ module _ {b : Bytes} {l : Layout} {ws : List ℕ} {n : ℕ} {list : List ℕ} {w
   unfolding too_large
   tests room size e = rw (row_count_lem, le-ltb most_rows n A.held.few, e)
 
-  pub finish-refused : {before : Bytes} {size : ℕ} → size ≡ l.text + 4 * n + l.rules + 8 → (ltb 4096 size || ltb (length before) size) ≡ true
+  pub finish-refused : (before : Bytes) {size : ℕ} → (ltb 4096 size || ltb (length before) size) ≡ true → size ≡ l.text + 4 * n + l.rules + 8
       → Converts b before (refused_numbers 12) before
-  finish-refused {before} {size} e h = refused-large A.laid (tests (length before) size (e ∙ result-size) ∙ h)
+  finish-refused before {size} h e = refused-large A.laid (tests (length before) size (e ∙ result-size) ∙ h)
 
-  module _ (before : Bytes) {size : ℕ} (e : size ≡ l.text + 4 * n + l.rules + 8) (h : (ltb 4096 size || ltb (length before) size) ≡ false) where
+  module _ (before : Bytes) {size : ℕ} (h : (ltb 4096 size || ltb (length before) size) ≡ false) (e : size ≡ l.text + 4 * n + l.rules + 8) where
     pub finish-room : (size ≤ 4096) × (size ≤ length before)
     finish-room = let (p, q) = or-neither (ltb 4096 size) (ltb (length before) size) h in (ltb-false 4096 size p, ltb-false (length before) size q)
 
-    pub finish-file : FileAsks before (take l.text b) ws n (take l.rules list)
+    pub finish-file : FileAsks before (take l.text b) words (take l.rules list)
     finish-file =
         let (short, room) = finish-room in
         record {
-          held = omega (arith, A.held.few, A.held.size);
-          few_rows = A.held.few;
+          few_rows = omega (arith, A.held.few, words-size);
           few_rules = omega (arith, finish-small, rules-part);
           short_text = omega (arith, finish-small, text-part);
-          room = omega (arith, text-part, rules-part);
+          room = omega (arith, text-part, rules-part, words-size);
         }
 
-    pub finish-written : {after : Bytes} → after ≡ overwrite (parts_bytes (take l.text b) (words_bytes ws n) (take l.rules list) n wanted) before
+    pub finish-written : {after : Bytes} → after ≡ overwrite (parts_bytes (take l.text b) (words_bytes words) (take l.rules list) (length words) wanted) before
         → Converts b before (record { refusal = 0; length = size }) after
     unfolding written_or numbers area_after
     finish-written {after} w =

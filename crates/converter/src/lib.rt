@@ -7,13 +7,13 @@ ghost use Rattle.std.specs.Prelude.{◌≡◌};
 ghost use Rattle.decoding.specs.Decoding.{draft_kinds};
 ghost use Rattle.reader.specs.Read.{Laid};
 ghost use Rattle.drafts.specs.Promise.{ConversionPromise};
-ghost use Rattle.converter.specs.Clauses.{numbers_of, refused_numbers, FinishAsks, Converts};
+ghost use Rattle.converter.specs.Clauses.{numbers_of, refused_numbers, numbers_given, FinishAsks, Converts};
 
 use decoding::DRAFT_KINDS;
 use encoder::write_file;
-use normalize::{Listed, NO_PLACE, SLOTS, keep_inclusions, put_list};
+use normalize::{TooLarge, Written};
 use reader::{Layout, read, rules_of, wanted_of};
-use rulefile::{LONGEST, MOST_ROWS, MOST_RULES, ROW, TRAILER};
+use rulefile::{LONGEST, MOST_RULES, ROW, TRAILER};
 
 // The refusal's number and 0, or 0 and the length of the file that is written.
 #[repr(C)]
@@ -38,60 +38,41 @@ fn refused(n: u32) -> Conversion
     }
 }
 
-// Writes the file that has these rows, rules and this wanted row, if it has room.
+// Writes the file that has these rows, rules and this wanted row, if it has room, and tells its length.
 fn finish(
     draft: &[u8],
     layout: Layout,
-    written: &[u32],
-    count: usize,
+    written: &Written,
     rules: &[u8],
     wanted: u8,
     area: &mut [u8],
-) -> Conversion
-    requires { FinishAsks draft.now layout written.now count rules.now wanted }
-    ensures { Converts draft.now area.old (numbers_of result) area.new }
+) -> Result<u32, TooLarge>
+    requires { FinishAsks draft.now layout written.now rules.now wanted }
+    ensures { Converts draft.now area.old (numbers_given result) area.new }
 {
+    let rows = written.rows();
     let first = layout.text;
     let list = layout.rules;
-    let length = first + ROW * count + list + TRAILER;
+    let length = first + ROW * rows.len() + list + TRAILER;
     if (LONGEST < length) | (area.len() < length) {
-        return refused(TOO_LARGE);
+        return Err(TooLarge);
     }
-    write_file(
-        area,
-        &draft[..first],
-        written,
-        count,
-        &rules[..list],
-        wanted,
-    );
-    Conversion {
-        refusal: 0,
-        length: length as u32,
-    }
+    write_file(area, &draft[..first], rows, &rules[..list], wanted);
+    Ok(length as u32)
 }
 
-// Converts a draft that passed the checks: its inclusions first, then what its rules and its wanted row need. Rows are kept aside until all is known to fit.
-fn convert_accepted(draft: &[u8], layout: Layout, area: &mut [u8]) -> Conversion
+// Converts a draft that passed the checks, and tells the file's length: its inclusions first, then what its rules and its wanted row need. Rows are kept
+// aside until all is known to fit.
+fn convert_accepted(draft: &[u8], layout: Layout, area: &mut [u8]) -> Result<u32, TooLarge>
     requires { Laid draft_kinds draft.now layout }
-    ensures { Converts draft.now area.old (numbers_of result) area.new }
+    ensures { Converts draft.now area.old (numbers_given result) area.new }
 {
-    let mut memo = [NO_PLACE; SLOTS];
-    let mut written = [0u32; MOST_ROWS];
     let mut rules = [0u8; MOST_RULES];
     let mut wanted = [0u8; 1];
-    let tbox = rules_of(draft, layout);
-    let kit = wanted_of(draft);
-    let inclusions = keep_inclusions(draft, layout.rows, &mut written);
-    match put_list(draft, tbox, &mut memo, &mut written, inclusions, &mut rules) {
-        Listed::Rows(n) => {
-            match put_list(draft, kit, &mut memo, &mut written, n, &mut wanted) {
-                Listed::Rows(m) => finish(draft, layout, &written, m, &rules, wanted[0], area),
-                Listed::Full => refused(TOO_LARGE),
-            }
-        }
-        Listed::Full => refused(TOO_LARGE),
-    }
+    let mut written = Written::keep_inclusions(draft, layout.rows);
+    written.put_list(draft, rules_of(draft, layout), &mut rules)?;
+    written.put_list(draft, wanted_of(draft), &mut wanted)?;
+    finish(draft, layout, &written, &rules, wanted[0], area)
 }
 
 // Converts a draft into a rule file, written into the area. What is promised of the answer and of the area is `ConversionPromise`, for every draft.
@@ -100,6 +81,9 @@ pub fn convert(draft: &[u8], area: &mut [u8]) -> Conversion
 {
     match read(draft, DRAFT_KINDS) {
         Err(refusal) => refused(refusal.number() as u32),
-        Ok(layout) => convert_accepted(draft, layout, area),
+        Ok(layout) => match convert_accepted(draft, layout, area) {
+            Ok(length) => Conversion { refusal: 0, length },
+            Err(TooLarge) => refused(TOO_LARGE),
+        },
     }
 }

@@ -1,9 +1,9 @@
 -- The bytes of a rule file (01, The rule file: "text, rows, rule list, trailer"), made of its parts, and what the functions that write them ask.
 -- Laws are in EncoderLaws.
 --
--- In order: a word's bytes, and those of the first words; the trailer; the whole; what the writers ask; how far one has come.
+-- In order: a word's bytes, and those of some words; the trailer; the whole; what the writers ask; how far one has come.
 -- A row comes as a word of 32 bits that holds its four bytes.
-use Rattle.std.specs.Prelude.{◌≡◌, List, [], ◌∷◌, ◌++◌, ℕ, zero, suc, ◌+◌, ◌*◌, ◌/◌, ◌%◌, ◌≤◌, ◌<◌, length, get_or}
+use Rattle.std.specs.Prelude.{◌≡◌, List, [], ◌∷◌, ◌++◌, ℕ, ◌+◌, ◌*◌, ◌/◌, ◌%◌, ◌≤◌, ◌<◌, length}
 use Rattle.std.proofs.lemmas.List.Edits.{sets}
 use Rattle.concepts.specs.Lists.{Bytes}
 use Rattle.rulefile.specs.Format.{most_rows, most_rules}
@@ -14,10 +14,10 @@ use Rattle.rulefile.specs.Format.{most_rows, most_rules}
 abbrev pub word_bytes : ℕ → Bytes
 word_bytes w = w % 256 ∷ w / 256 % 256 ∷ w / 65536 % 256 ∷ w / 16777216 % 256 ∷ []
 
--- the bytes of the first n words
-unfoldable pub words_bytes : List ℕ → ℕ → Bytes
-words_bytes ws zero = []
-words_bytes ws (suc n) = words_bytes ws n ++ word_bytes (get_or ws n 0)
+-- the bytes of words, one after the other
+unfoldable pub words_bytes : List ℕ → Bytes
+words_bytes [] = []
+words_bytes (w ∷ ws) = word_bytes w ++ words_bytes ws
 
 -- "place of the first row (2 bytes, low byte first), number of rows, number of rules, number of the wanted row (1 byte each), then hexadecimal 46 49 54"
 abbrev pub trailer_bytes : (first count rules wanted : ℕ) → Bytes
@@ -29,11 +29,6 @@ parts_bytes text rows rules count wanted = text ++ (rows ++ (rules ++ trailer_by
 
 -- ---- what the writers ask
 
--- the words are there, and the area has room for their bytes from place `at` on
-pub record RowsAsk (area : Bytes) (at : ℕ) (written : List ℕ) (count : ℕ) : Type 0 where
-  pub held : count ≤ length written
-  pub room : at + 4 * count ≤ length area
-
 -- each number of the trailer fits its bytes, and the area has room for it from place `at` on
 pub record TrailerAsks (area : Bytes) (at first count rules : ℕ) : Type 0 where
   pub place : first < 65536
@@ -41,13 +36,12 @@ pub record TrailerAsks (area : Bytes) (at first count rules : ℕ) : Type 0 wher
   pub list : rules < 256
   pub room : at + 8 ≤ length area
 
--- the words are there, each number of the trailer fits its bytes, and the area has room for the file
-pub record FileAsks (area text : Bytes) (written : List ℕ) (count : ℕ) (rules : Bytes) : Type 0 where
-  pub held : count ≤ length written
-  pub few_rows : count ≤ most_rows
+-- each number of the trailer fits its bytes, and the area has room for the file
+pub record FileAsks (area text : Bytes) (written : List ℕ) (rules : Bytes) : Type 0 where
+  pub few_rows : length written ≤ most_rows
   pub few_rules : length rules ≤ most_rules
   pub short_text : length text ≤ 4096
-  pub room : length text + 4 * count + length rules + 8 ≤ length area
+  pub room : length text + 4 * length written + length rules + 8 ≤ length area
 
 -- ---- how far a writer has come
 

@@ -3,10 +3,10 @@
 // In order: bytes, a word, the rows, the trailer, the file.
 #![tactic(auto)]
 
-ghost use Rattle.std.specs.Prelude.{◌≡◌, ◌+◌, ◌≤◌, length};
+ghost use Rattle.std.specs.Prelude.{◌≡◌, ◌+◌, ◌*◌, ◌≤◌, length};
 ghost use Rattle.std.proofs.lemmas.List.Edits.{sets};
 ghost use Rattle.words.specs.Words.{overwrite};
-ghost use Rattle.encoder.specs.Encoder.{word_bytes, words_bytes, trailer_bytes, parts_bytes, RowsAsk, TrailerAsks, FileAsks};
+ghost use Rattle.encoder.specs.Encoder.{word_bytes, words_bytes, trailer_bytes, parts_bytes, TrailerAsks, FileAsks};
 
 use rulefile::ROW;
 
@@ -15,11 +15,7 @@ fn copy(area: &mut [u8], at: usize, bytes: &[u8])
     requires { at + length bytes.now ≤ length area.old }
     ensures { area.new ≡ sets area.old at bytes.now }
 {
-    let mut i = 0;
-    while i < bytes.len() {
-        area[at + i] = bytes[i];
-        i += 1;
-    }
+    area[at..at + bytes.len()].copy_from_slice(bytes);
 }
 
 // Writes the four bytes of a word, low byte first.
@@ -27,24 +23,16 @@ fn put_word(area: &mut [u8], at: usize, word: u32)
     requires { at + 4 ≤ length area.old }
     ensures { area.new ≡ sets area.old at (word_bytes word) }
 {
-    let bytes = [
-        (word % 256) as u8,
-        (word / 0x100 % 256) as u8,
-        (word / 0x1_0000 % 256) as u8,
-        (word / 0x100_0000 % 256) as u8,
-    ];
-    copy(area, at, &bytes);
+    copy(area, at, &word.to_le_bytes());
 }
 
-// Writes the rows: the first `count` words.
-fn write_rows(area: &mut [u8], at: usize, written: &[u32], count: usize)
-    requires { RowsAsk area.old at written.now count }
-    ensures { area.new ≡ sets area.old at (words_bytes written.now count) }
+// Writes the rows, each a word.
+fn write_rows(area: &mut [u8], at: usize, written: &[u32])
+    requires { at + 4 * length written.now ≤ length area.old }
+    ensures { area.new ≡ sets area.old at (words_bytes written.now) }
 {
-    let mut i = 0;
-    while i < count {
-        put_word(area, at + ROW * i, written[i]);
-        i += 1;
+    for (i, word) in written.iter().enumerate() {
+        put_word(area, at + ROW * i, *word);
     }
 }
 
@@ -54,9 +42,10 @@ fn write_trailer(area: &mut [u8], at: usize, first: usize, count: usize, rules: 
     requires { TrailerAsks area.old at first count rules }
     ensures { area.new ≡ sets area.old at (trailer_bytes first count rules wanted) }
 {
+    let [low, high] = (first as u16).to_le_bytes();
     let bytes = [
-        (first % 256) as u8,
-        (first / 256) as u8,
+        low,
+        high,
         count as u8,
         rules as u8,
         wanted,
@@ -68,24 +57,17 @@ fn write_trailer(area: &mut [u8], at: usize, first: usize, count: usize, rules: 
 }
 
 // Writes a rule file, "text, rows, rule list, trailer", over the first bytes of the area.
-pub fn write_file(
-    area: &mut [u8],
-    text: &[u8],
-    written: &[u32],
-    count: usize,
-    rules: &[u8],
-    wanted: u8,
-)
-    requires { FileAsks area.old text.now written.now count rules.now }
+pub fn write_file(area: &mut [u8], text: &[u8], written: &[u32], rules: &[u8], wanted: u8)
+    requires { FileAsks area.old text.now written.now rules.now }
     ensures { area.new ≡ overwrite
-        (parts_bytes text.now (words_bytes written.now count) rules.now count wanted)
+        (parts_bytes text.now (words_bytes written.now) rules.now (length written.now) wanted)
         area.old }
 {
     let first = text.len();
-    let list = first + ROW * count;
+    let list = first + ROW * written.len();
     let trailer = list + rules.len();
     copy(area, 0, text);
-    write_rows(area, first, written, count);
+    write_rows(area, first, written);
     copy(area, list, rules);
-    write_trailer(area, trailer, first, count, rules.len(), wanted);
+    write_trailer(area, trailer, first, written.len(), rules.len(), wanted);
 }

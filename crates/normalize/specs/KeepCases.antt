@@ -1,7 +1,7 @@
 -- The ways through the functions that write the inclusions of a draft, on plain values.
 --
 -- In order: no row yet; a draft without an inclusion; a row that is an inclusion; a row that is none; all rows.
-use Rattle.std.specs.Prelude.{◌≡◌, refl, Bool, false, not, ℕ, ◌+◌, ◌*◌, ◌≤◌, ◌<◌, T, eqb, length, get_or, set}
+use Rattle.std.specs.Prelude.{◌≡◌, refl, Bool, false, not, ℕ, ◌+◌, ◌*◌, ◌≤◌, ◌<◌, T, eqb, length, get_or, set, replicate}
 use Rattle.std.proofs.Math.Path.{sym, ap}
 use Rattle.std.proofs.Common.{◌∙◌, subst, add-one, arith, take-suc, take_all}
 use mathlib.Core.List.{List, [], ◌∷◌, ◌++◌, append-nil, Memᴰ}
@@ -13,25 +13,34 @@ use Rattle.concepts.specs.ListLaws.{mem-get_or, none-any-range, select-append, s
 use Rattle.concepts.specs.Concept.{Concept, atomic, inclusion, Table, concept_at, is_inclusion}
 use Rattle.decoding.specs.RowParts.{of_parts}
 use Rattle.decoding.specs.RowPartLaws.{parts-own}
-use Rattle.rulefile.specs.Format.{row_count, row_byte, inclusion_at, some_inclusion}
+use Rattle.rulefile.specs.Format.{row_count, row_byte, inclusion_at, some_inclusion, most_rows}
 use Rattle.rulefile.specs.ReadingLaws as Reader
 use Rattle.drafts.specs.Normalize.{inclusion_rows}
-use Rattle.normalize.specs.Words.{rows_in}
+use Rattle.normalize.specs.declared.Written.{Written}
+use Rattle.normalize.specs.Words.{rows_in, Held}
 use Rattle.normalize.specs.WordLaws.{inclusion-row, rows_in-more, held_more}
-use Rattle.normalize.specs.Shapes.{table_of}
+use Rattle.normalize.specs.Shapes.{table_of, slots, no_place}
 use Rattle.normalize.specs.ShapeLaws.{draft-parted, draft-rows, parts_at}
 use Rattle.normalize.specs.Clauses.{KeepAsks, Kept, KeepGives}
 
 -- ---- no row yet
 
-pub kept-none : {b : Bytes} {count : ℕ} {ws : List ℕ} → KeepAsks b count ws → Kept b 0 ws 0
+-- what is written at first
+abbrev pub none-written : Written
+none-written = record { words = replicate most_rows 0; count = 0; memo = replicate slots no_place }
+
+none-held : Held none-written.words 0
+none-held = record { size = refl; few = omega arith; own = λ i h. absurd (omega (arith, h)) }
+
+pub kept-none : {b : Bytes} {count : ℕ} → KeepAsks b count → Kept b 0 none-written
 unfolding rows_in range inclusion_rows select
 kept-none A = record {
   draft = A.draft;
   within = omega arith;
   few = omega arith;
-  held = record { size = A.size; few = omega arith; own = λ i h. absurd (omega (arith, h)) };
+  held = none-held;
   rows = refl;
+  nothing_put = refl;
 }
 
 -- ---- a draft without an inclusion
@@ -41,10 +50,11 @@ unfolding select
 none-selected f [] n = refl
 none-selected f (x ∷ xs) n = select-out f x xs (as-false (f x) (n x (Memᴰ.head refl))) ∙ none-selected f xs (λ y m. n y (Memᴰ.tail m))
 
-pub kept-without : {b : Bytes} {count : ℕ} {ws : List ℕ} → KeepAsks b count ws → some_inclusion b ≡ false → KeepGives b ws 0
+pub kept-without : {b : Bytes} {count : ℕ} → KeepAsks b count → some_inclusion b ≡ false → KeepGives b none-written
 unfolding rows_in range inclusion_rows
 kept-without {b} A e = record {
-  held = record { size = A.size; few = omega arith; own = λ i h. absurd (omega (arith, h)) };
+  held = none-held;
+  nothing_put = refl;
   rows = sym (none-selected is_inclusion (table_of b) (λ c m. no_row c (mem-get_or (table_of b) c (atomic 0) m)));
 }
   where
@@ -54,7 +64,7 @@ kept-without {b} A e = record {
         let none-there = sym (Reader.inclusion-row b i inside) ∙ none-any-range (inclusion_at b) (row_count b) e i inside in
         subst (λ (x : Concept). T (not (is_inclusion x))) q (from_false _ ((parts_at A.draft i inside).inclusion-is ∙ none-there))
 
-module _ {b : Bytes} {k : ℕ} {ws : List ℕ} {n : ℕ} (K : Kept b k ws n) where
+module _ {b : Bytes} {k : ℕ} {w : Written} (K : Kept b k w) where
   abbrev t : Table
   t = table_of b
 
@@ -71,30 +81,32 @@ module _ {b : Bytes} {k : ℕ} {ws : List ℕ} {n : ℕ} (K : Kept b k ws n) whe
 
     -- ---- a row that is an inclusion
 
-    pub kept-room : n < length ws
+    pub kept-room : w.count < length w.words
     kept-room = omega (arith, K.few, K.held.size, (draft-parted K.draft).few_rows)
 
-    pub kept_row : {kind role left w : ℕ} → kind ≡ row_byte b k 0 → kind ≡ 7 → role ≡ row_byte b k 1 → left ≡ row_byte b k 2 → role < 256
+    pub kept_row : {kind role left word : ℕ} → kind ≡ row_byte b k 0 → kind ≡ 7 → role ≡ row_byte b k 1 → left ≡ row_byte b k 2 → role < 256
         → left < 256
-        → w ≡ 7 + 256 * role + 65536 * left + 16777216 * 0 → Kept b (k + 1) (set ws n w) (n + 1)
+        → word ≡ 7 + 256 * role + 65536 * left + 16777216 * 0
+        → Kept b (k + 1) (record { words = set w.words w.count word; count = w.count + 1; memo = w.memo })
     unfolding of_parts
-    kept_row {kind} {role} {left} {w} q e r l a c word =
+    kept_row {kind} {role} {left} {word} q e r l a c packed =
         let P = parts_at K.draft k h in
         let seven : row_byte b k 0 ≡ 7 = sym q ∙ e in
         let row : concept_at t k ≡ inclusion role left = sym (parts-own (concept_at t k)) ∙ rw (P.kind-is, seven, P.role-is, ← r, P.left_is, ← l) in
         let passes = select-pass is_inclusion (concept_at t k) (from-true _ (by_kind ∙ eq-eqb (row_byte b k 0) 7 seven)) in
-        let R = inclusion-row a c word in
+        let R = inclusion-row a c packed in
         record {
           draft = K.draft;
           within = omega arith;
           few = omega (arith, K.few);
-          held = held_more ws n w K.held (omega (arith, kept-room, K.held.size)) R.own;
-          rows = rows_in-more ws n w kept-room ∙ rw (R.row, K.rows, next-rows, passes, row);
+          held = held_more w.words w.count word K.held (omega (arith, kept-room, K.held.size)) R.own;
+          nothing_put = K.nothing_put;
+          rows = rows_in-more w.words w.count word kept-room ∙ rw (R.row, K.rows, next-rows, passes, row);
         }
 
     -- ---- a row that is none
 
-    pub kept-other : {kind : ℕ} → kind ≡ row_byte b k 0 → (kind ≡ 7 → ⊥) → Kept b (k + 1) ws n
+    pub kept-other : {kind : ℕ} → kind ≡ row_byte b k 0 → (kind ≡ 7 → ⊥) → Kept b (k + 1) w
     kept-other q e =
         let other : eqb (row_byte b k 0) 7 ≡ false = ne_eqb (row_byte b k 0) 7 (λ x. e (q ∙ x)) in
         record {
@@ -102,14 +114,16 @@ module _ {b : Bytes} {k : ℕ} {ws : List ℕ} {n : ℕ} (K : Kept b k ws n) whe
           within = omega arith;
           few = omega (arith, K.few);
           held = K.held;
+          nothing_put = K.nothing_put;
           rows = K.rows ∙ sym (next-rows ∙ rw (select-fail is_inclusion (concept_at t k) (from_false _ (by_kind ∙ other)))
               (append-nil (inclusion_rows (take k t))));
         }
 
   -- ---- all rows
 
-  pub kept-all : {count : ℕ} → count ≡ row_count b → count ≤ k → KeepGives b ws n
+  pub kept-all : {count : ℕ} → count ≡ row_count b → count ≤ k → KeepGives b w
   kept-all e h = record {
     held = K.held;
+    nothing_put = K.nothing_put;
     rows = K.rows ∙ ap inclusion_rows (take_all k t (omega (arith, draft-rows K.draft)));
   }

@@ -1,7 +1,7 @@
 -- The ways through the loop that puts a list of rows, on plain values.
 --
 -- In order: how far the loop has come (`Course`); its start; the next row; a turn; a turn that finds no place; its end.
-use Rattle.std.specs.Prelude.{◌≡◌, refl, ℕ, suc, ◌+◌, ◌≤◌, ◌<◌, get_or, set}
+use Rattle.std.specs.Prelude.{◌≡◌, refl, ℕ, suc, ◌+◌, ◌≤◌, ◌<◌, get_or, set, Result, Ok, Err, IsErr}
 use Rattle.std.proofs.Math.Path.{sym, ap}
 use Rattle.std.proofs.Common.{◌∙◌, add-one, arith, length-set, drop-cons, take-suc-set}
 use mathlib.Core.List.{List, [], ◌∷◌, ◌++◌, append-nil, append_assoc}
@@ -13,31 +13,31 @@ use Rattle.rulefile.specs.Format.{most_rows}
 use Rattle.drafts.specs.Normalize as Normalize
 use Rattle.drafts.specs.Normalize.{as_is, put, put_list}
 use Rattle.drafts.proofs.PutListLaws.{put_list-grown}
-use Rattle.normalize.specs.declared.Placement.TheVariants.{At, Full}
-use Rattle.normalize.specs.declared.Listed.TheVariants as Listed
-use Rattle.normalize.specs.Words.{rows_in, Held}
+use Rattle.normalize.specs.declared.TooLarge.{TooLarge}
+use Rattle.normalize.specs.declared.Written.{Written}
+use Rattle.normalize.specs.Words.{Held}
 use Rattle.normalize.specs.Shapes.{table_of}
 use Rattle.normalize.specs.ShapeLaws.{draft-ordered}
-use Rattle.normalize.specs.Clauses.{Remembers, PutAsks, PutGives, ListAsks, ListGives}
+use Rattle.normalize.specs.Clauses.{Remembers, rows_of, PutAsks, PutGives, ListAsks, ListGives}
 
 -- ---- how far the loop has come: i rows are put, and the rest of the list comes to what the whole does
 
-pub record Course (b list ws₀ : List ℕ) (n₀ : ℕ) (places₀ memo ws places : List ℕ) (n i : ℕ) : Type 0 where
+pub record Course (b list : List ℕ) (w₀ : Written) (places₀ : List ℕ) (w : Written) (places : List ℕ) (i : ℕ) : Type 0 where
   pub within : i ≤ length list
-  pub held : Held ws n
-  pub remembered : Remembers b (rows_in ws n) memo
+  pub held : Held w.words w.count
+  pub remembered : Remembers b (rows_of w) w.memo
   pub place_size : length places ≡ length places₀
-  pub rows : (put_list (table_of b) (drop i list) (rows_in ws n)).rows ≡ (put_list (table_of b) list (rows_in ws₀ n₀)).rows
-  pub told : take i places ++ (put_list (table_of b) (drop i list) (rows_in ws n)).places ≡ (put_list (table_of b) list (rows_in ws₀ n₀)).places
+  pub rows : (put_list (table_of b) (drop i list) (rows_of w)).rows ≡ (put_list (table_of b) list (rows_of w₀)).rows
+  pub told : take i places ++ (put_list (table_of b) (drop i list) (rows_of w)).places ≡ (put_list (table_of b) list (rows_of w₀)).places
 
-module _ {b list memo₀ ws₀ : List ℕ} {n₀ : ℕ} {places₀ : List ℕ} (A : ListAsks b list memo₀ ws₀ n₀ places₀) where
+module _ {b list : List ℕ} {w₀ : Written} {places₀ : List ℕ} (A : ListAsks b list w₀ places₀) where
   abbrev t : Table
   t = table_of b
 
-  pub course-start : Course b list ws₀ n₀ places₀ memo₀ ws₀ places₀ n₀ 0
+  pub course-start : Course b list w₀ places₀ w₀ places₀ 0
   course-start = record { within = omega arith; held = A.held; remembered = A.remembered; place_size = refl; rows = refl; told = refl }
 
-  module _ {memo ws places : List ℕ} {n i : ℕ} (C : Course b list ws₀ n₀ places₀ memo ws places n i) where
+  module _ {w : Written} {places : List ℕ} {i : ℕ} (C : Course b list w₀ places₀ w places i) where
     -- ---- the next row
 
     module _ (h : i < length list) where
@@ -45,9 +45,9 @@ module _ {b list memo₀ ws₀ : List ℕ} {n₀ : ℕ} {places₀ : List ℕ} (
       k = get_or list i 0
 
       abbrev p : Normalize.Put
-      p = put t as_is k (rows_in ws n)
+      p = put t as_is k (rows_of w)
 
-      pub course-asks : PutAsks b memo ws n k
+      pub course-asks : PutAsks b w k
       course-asks =
           record {
             draft = A.draft;
@@ -61,20 +61,19 @@ module _ {b list memo₀ ws₀ : List ℕ} {n₀ : ℕ} {places₀ : List ℕ} (
       course-room = omega (arith, A.room, C.place_size)
 
       -- the rest of the list is this row and the rest after it
-      rest-rows : (put_list t (drop i list) (rows_in ws n)).rows ≡ (put_list t (drop (suc i) list) p.rows).rows
+      rest-rows : (put_list t (drop i list) (rows_of w)).rows ≡ (put_list t (drop (suc i) list) p.rows).rows
       unfolding put_list
-      rest-rows = ap (λ (ks : List ℕ). (put_list t ks (rows_in ws n)).rows) (drop-cons list i 0 h)
+      rest-rows = ap (λ (ks : List ℕ). (put_list t ks (rows_of w)).rows) (drop-cons list i 0 h)
 
-      rest-places : (put_list t (drop i list) (rows_in ws n)).places ≡ p.at ∷ (put_list t (drop (suc i) list) p.rows).places
+      rest-places : (put_list t (drop i list) (rows_of w)).places ≡ p.at ∷ (put_list t (drop (suc i) list) p.rows).places
       unfolding put_list
-      rest-places = ap (λ (ks : List ℕ). (put_list t ks (rows_in ws n)).places) (drop-cons list i 0 h)
+      rest-places = ap (λ (ks : List ℕ). (put_list t ks (rows_of w)).places) (drop-cons list i 0 h)
 
       -- ---- a turn
 
-      module _ {memo' ws' : List ℕ} where
-        pub course-more : {place n' : ℕ} → PutGives b ws n k as_is memo' ws' (At place n')
-            → Course b list ws₀ n₀ places₀ memo' ws' (set places i place) n' (i + 1)
-        course-more {place} {n'} G = record {
+      module _ {w' : Written} where
+        pub course-more : {place : ℕ} → PutGives b w k as_is w' (Ok place) → Course b list w₀ places₀ w' (set places i place) (i + 1)
+        course-more {place} G = record {
           within = omega arith;
           held = G.gives.held;
           remembered = G.still;
@@ -87,15 +86,16 @@ module _ {b list memo₀ ws₀ : List ℕ} {n₀ : ℕ} {places₀ : List ℕ} (
 
         -- ---- no place
 
-        pub course-full : PutGives b ws n k as_is memo' ws' Full → ListGives b list ws₀ n₀ memo' ws' places₀ places Listed.Full
-        course-full G =
+        pub course-full : {e : TooLarge} {r : Result (Unit {0}) TooLarge} → PutGives b w k as_is w' (Err e) → IsErr r → ListGives b list w₀ w' places₀ places r
+        course-full {r = Ok u} G q = absurd (cc)
+        course-full {r = Err f} G q =
             let more = (put_list-grown t (draft-ordered A.draft) (drop (suc i) list) p.rows).more in
             let long : most_rows < length (put_list t (drop (suc i) list) p.rows).rows = omega (arith, G.gives, begins-length p.rows _ more) in
             record { memo_size = G.memo_size; size = G.size; place_size = C.place_size; got = rw (sym rest-rows ∙ C.rows) at long }
 
     -- ---- the end
 
-    pub course-end : length list ≤ i → ListGives b list ws₀ n₀ memo ws places₀ places (Listed.Rows n)
+    pub course-end : {u : Unit {0}} → length list ≤ i → ListGives b list w₀ w places₀ places (Ok u)
     unfolding put_list
     course-end h =
         let whole : i ≡ length list = omega (arith, C.within) in
@@ -107,9 +107,9 @@ module _ {b list memo₀ ws₀ : List ℕ} {n₀ : ℕ} {places₀ : List ℕ} (
           got = record {
             held = C.held;
             remembered = C.remembered;
-            rows = ap (λ (ks : List ℕ). (put_list t ks (rows_in ws n)).rows) (sym none) ∙ C.rows;
+            rows = ap (λ (ks : List ℕ). (put_list t ks (rows_of w)).rows) (sym none) ∙ C.rows;
             told =
                 ap (λ (j : ℕ). take j places) (sym whole) ∙ sym (append-nil (take i places))
-                ∙ ap (λ (ks : List ℕ). take i places ++ (put_list t ks (rows_in ws n)).places) (sym none) ∙ C.told;
+                ∙ ap (λ (ks : List ℕ). take i places ++ (put_list t ks (rows_of w)).places) (sym none) ∙ C.told;
           };
         }

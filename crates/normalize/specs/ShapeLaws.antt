@@ -82,6 +82,20 @@ pub record RowRead (b : Bytes) (k : ℕ) (s : Sign) (kind role left right writte
   pub right_is : right ≡ row_byte b k 3
   pub written_is : written ≡ written_kind kind s
 
+pub row_read : {b : Bytes} {k : ℕ} {s : Sign} {kind role left right written : ℕ} → Draft b × (k < row_count b) × NoInclusion (table_of b) k
+    → kind ≡ row_byte b k 0 → role ≡ row_byte b k 1 → left ≡ row_byte b k 2 → right ≡ row_byte b k 3 → written ≡ written_kind kind s
+    → RowRead b k s kind role left right written
+row_read (D, h, n) kind role left right written = record {
+  draft = D;
+  row = h;
+  idle = n;
+  kind-is = kind;
+  role-is = role;
+  left_is = left;
+  right_is = right;
+  written_is = written;
+}
+
 written-literal : (kind : ℕ) (s : Sign) → 0 < kind → kind ≤ 2 → IsLiteral (written_kind kind s)
 unfolding written_kind
 written-literal zero s p h = absurd (omega arith)

@@ -2,10 +2,16 @@
 --
 -- In order: a row as a word, and back (`row_in-packed`), by its kind (`literal-row`, `modal-row`, `pair_row`, `inclusion-row`), and its bytes
 -- (`own-parts`); equal words are equal rows (`own_same`); the rows in words (`concept_at-rows_in`, `rows_in-more`, `held_more`); the first equal word is
--- the first equal row (`found-row`, `found_none`).
-use Rattle.std.specs.Prelude.{◌≡◌, Bool, true, false, cond, List, [], ◌∷◌, ◌++◌, ℕ, ◌+◌, ◌*◌, ◌/◌, ◌%◌, ◌<◌, eqb, length, get_or, set}
+-- the first equal row (`found-place`, `found-nowhere`).
+use Rattle.std.specs.Prelude.{◌≡◌, ◌==◌, Bool, true, false, cond, List, [], ◌∷◌, ◌++◌, ℕ, ◌+◌, ◌*◌, ◌/◌, ◌%◌, ◌<◌, ◌≤◌, eqb, ltb, length, get_or, set, take}
+use Rattle.std.specs.Prelude.{position, None, Some}
+use Rattle.std.specs.List.{position_or_len}
 use Rattle.std.proofs.Math.Path.{refl}
-use Rattle.std.proofs.Common.{sym, ap, ◌∙◌, inl, inr, arith, length-set, get_or-set_same, get_or-set_other}
+use Rattle.std.proofs.Common.{sym, ap, ◌∙◌, inl, inr, arith, length-set, get_or-set_same, get_or-set_other, ltb-false, eqb-true, length-take-le}
+use Rattle.std.proofs.lemmas.Bool.{eqb-false}
+use Rattle.std.proofs.lemmas.List.{get_or-take}
+use Rattle.std.proofs.lemmas.List.Sums.{fails_before_first}
+use Rattle.std.proofs.lemmas.List.Quantifiers.{position-Some}
 use Rattle.std.proofs.Math.Decide.{ℕ_discrete}
 use Rattle.std.proofs.Math.Dec.{not_T}
 use Rattle.concepts.specs.Tests.{as-true, as-false}
@@ -15,10 +21,10 @@ use Rattle.concepts.specs.Concept.{Concept, atomic, negated, conj, disj, univ, e
 use Rattle.decoding.specs.RowParts.{kind_of, left_of, right_of, of_parts}
 use Rattle.decoding.specs.RowPartLaws.{kind_of-lt}
 use Rattle.rulefile.specs.Format.{most_rows}
-use Rattle.drafts.specs.Normalize.{same_row}
+use Rattle.drafts.specs.Normalize.{same_row, place_of}
 use Rattle.drafts.specs.ShareLaws.{equal_at}
-use Rattle.drafts.proofs.ShareLaws.{same_row-path, same_row-refl}
-use Rattle.normalize.specs.Words.{word_of, row_in, Own, rows_in, Held, Finds}
+use Rattle.drafts.proofs.ShareLaws.{same_row-path, same_row-refl, place_of-at, place_of-nowhere}
+use Rattle.normalize.specs.Words.{word_of, row_in, Own, rows_in, Held}
 use Rattle.normalize.specs.Shapes.{IsLiteral, IsModal, IsPair}
 
 -- ---- a row
@@ -145,13 +151,42 @@ held_more ws n w H h o = record {
 
 -- ---- the first equal word is the first equal row
 
-module _ {ws : List ℕ} {n w r : ℕ} (H : Held ws n) (o : Own w) (F : Finds ws n w r) where
-  pub found_none : NoneBelow (equal_at (row_in w) (rows_in ws n)) r
-  found_none j h =
-      let inside : j < n = omega (arith, F.within) in
+-- where a search finds nothing, every element fails
+position-None : (p : ℕ → Bool) (xs : List ℕ) → position p xs ≡ None → (k : ℕ) → k < length xs → p (get_or xs k 0) ≡ false
+position-None p xs e k h = go (ltb (position_or_len p xs) (length xs)) refl
+  where
+    go : (b : Bool) → ltb (position_or_len p xs) (length xs) ≡ b → p (get_or xs k 0) ≡ false
+    go true q = let s : Some (position_or_len p xs) ≡ None = rw q at e in absurd (cc)
+    go false q = fails_before_first p xs k 0 (omega (arith, ltb-false (position_or_len p xs) (length xs) q))
+
+module _ {ws : List ℕ} {n w : ℕ} (H : Held ws n) (o : Own w) where
+  -- so are the words
+  abbrev equal_word : ℕ → Bool
+  equal_word v = v == w
+
+  none-equal : (r : ℕ) → r ≤ n → ((j : ℕ) → j < r → equal_word (get_or (take n ws) j 0) ≡ false) → NoneBelow (equal_at (row_in w) (rows_in ws n)) r
+  none-equal r h fails j below =
+      let inside : j < n = omega arith in
       as-false (equal_at (row_in w) (rows_in ws n) j) (not_T (equal_at (row_in w) (rows_in ws n) j) (λ t.
       let same : row_in w ≡ row_in (get_or ws j 0) = same_row-path (row_in w) (concept_at (rows_in ws n) j) (as-true _ t) ∙ concept_at-rows_in ws n j inside in
-      F.before j h (own_same (H.own j inside) o (sym same))))
+      let other : eqb (get_or ws j 0) w ≡ false = rw (get_or-take n ws j 0 inside) at (fails j below) in
+      eqb-false (get_or ws j 0) w other (own_same (H.own j inside) o (sym same))))
 
-  pub found-row : r < n → equal_at (row_in w) (rows_in ws n) r ≡ true
-  found-row h = ap (same_row (row_in w)) (concept_at-rows_in ws n r h ∙ ap row_in (F.there h)) ∙ same_row-refl (row_in w)
+  taken : length (take n ws) ≡ n
+  taken = length-take-le n ws (omega (arith, H.few, H.size))
+
+  pub found-place : (r : ℕ) → position (λ v. v == w) (take n ws) ≡ Some r → (r < n) × (place_of (row_in w) (rows_in ws n) ≡ Some r)
+  found-place r e =
+      let (inside, here, before) = position-Some equal_word (take n ws) r 0 e in
+      let h : r < n = omega (arith, taken) in
+      let there : get_or ws r 0 ≡ w = sym (get_or-take n ws r 0 h) ∙ eqb-true (get_or (take n ws) r 0) w here in (
+        h,
+        place_of-at (row_in w) (rows_in ws n) r (omega (arith, length-rows_in ws n)) (none-equal r (omega arith) before)
+            (ap (same_row (row_in w)) (concept_at-rows_in ws n r h ∙ ap row_in there) ∙ same_row-refl (row_in w)),
+      )
+
+  pub found-nowhere : position (λ v. v == w) (take n ws) ≡ None → place_of (row_in w) (rows_in ws n) ≡ None
+  found-nowhere e =
+      let fails = position-None equal_word (take n ws) e in
+      place_of-nowhere (row_in w) (rows_in ws n)
+      (none-equal (length (rows_in ws n)) (omega (arith, length-rows_in ws n)) (λ j l. fails j (omega (arith, taken, length-rows_in ws n))))

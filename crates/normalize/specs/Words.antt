@@ -1,6 +1,6 @@
 -- Written rows as words: each word is a row's four bytes, low byte first. Laws are in WordLaws.
 --
--- In order: a row as a word, and back; the rows at the start of a list of words; the first equal word.
+-- In order: a row as a word, and back; the rows at the start of a list of words.
 use Rattle.std.specs.Prelude.{◌≡◌, List, map, ℕ, ◌+◌, ◌*◌, ◌/◌, ◌%◌, ◌≤◌, ◌<◌, length, get_or}
 use Rattle.concepts.specs.Lists.{range}
 use Rattle.concepts.specs.Concept.{Concept, Table, role_of}
@@ -30,9 +30,3 @@ pub record Held (ws : List ℕ) (n : ℕ) : Type 0 where
   pub size : length ws ≡ most_rows
   pub few : n ≤ most_rows
   pub own : (i : ℕ) → i < n → Own (get_or ws i 0)
-
--- ---- the first of n words that is equal to w, or n
-pub record Finds (ws : List ℕ) (n w r : ℕ) : Type 0 where
-  pub within : r ≤ n
-  pub before : (j : ℕ) → j < r → get_or ws j 0 ≡ w → ⊥
-  pub there : r < n → get_or ws r 0 ≡ w

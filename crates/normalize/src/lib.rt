@@ -1,14 +1,12 @@
 // The rows of a draft in negation normal form (02, [1] and [6]): its role inclusions, then what its rules and its wanted row need, each row once.
 //
-// In order: what becomes of a row; rows as words, and sharing equal ones; a row with all that it needs; a list of rows; the inclusions.
-// Rows that are written stand in words, so many at the start of a slice. Which place a row of the draft, or its opposite, has got is remembered, so
-// that each is put once.
+// In order: what becomes of a row; rows as words; what is written: sharing equal rows; a row with all that it needs; a list of rows; the inclusions.
+// Which place a row of the draft, or its opposite, has got is remembered, so that each is put once.
 #![tactic(auto)]
 
-ghost use Rattle.std.specs.Prelude.{◌≡◌, ◌+◌, ◌*◌, ◌≤◌, ◌<◌, length};
+ghost use Rattle.std.specs.Prelude.{◌≡◌, ◌+◌, ◌*◌, ◌≤◌, ◌<◌, ◌==◌, length, take, position};
 ghost use Rattle.concepts.specs.Concept.{NoInclusion};
 ghost use Rattle.rulefile.specs.Format.{row_count, most_rows};
-ghost use Rattle.normalize.specs.Words.{Finds};
 ghost use Rattle.normalize.specs.Shapes.{table_of, written_kind, ShapeAt, slots, slot_of};
 ghost use Rattle.normalize.specs.Clauses.{Draft, ShareAsks, SharesRow, PutAsks, PutGives, ListAsks, ListGives, KeepAsks, Kept, KeepGives};
 
@@ -27,25 +25,11 @@ enum Shape {
     Binary(u8, bool, u8, bool, u8),
 }
 
-// Where a row stands, and how many rows are written; or there are more than a file can have.
-#[derive(Clone, Copy)]
-enum Placement {
-    At(u8, usize),
-    Full,
-}
-
-// How many rows are written; or there are more than a file can have.
-#[derive(Clone, Copy)]
-pub enum Listed {
-    Rows(usize),
-    Full,
-}
-
 // Places that are remembered: two for each row of a draft.
-pub const SLOTS: usize = 2 * MOST_ROWS;
+const SLOTS: usize = 2 * MOST_ROWS;
 
 // No place yet.
-pub const NO_PLACE: u8 = 255;
+const NO_PLACE: u8 = 255;
 
 // The kind that is written for a row of a kind, or for its opposite.
 fn written_kind(kind: u8, sign: bool) -> u8
@@ -97,38 +81,7 @@ fn shape_of(draft: &[u8], k: usize, sign: bool) -> Shape
 fn row_word(kind: u8, role: u8, left: u8, right: u8) -> u32
     ensures { result ≡ kind + 256 * role + 65536 * left + 16777216 * right }
 {
-    kind as u32 + 256 * role as u32 + 65536 * left as u32 + 16777216 * right as u32
-}
-
-// The first of the written rows that is equal to this one, or their number.
-fn find(written: &[u32], count: usize, word: u32) -> usize
-    requires { count ≤ length written.now }
-    ensures { Finds written.now count word result }
-{
-    let mut i: usize = 0;
-    while i < count {
-        if written[i] == word {
-            return i;
-        }
-        i += 1;
-    }
-    count
-}
-
-// The place of a row: that of an equal row, or a new one.
-fn share(written: &mut [u32], count: usize, word: u32) -> Placement
-    requires { ShareAsks written.old count word }
-    ensures { SharesRow written.old count word written.new result }
-{
-    let at = find(written, count, word);
-    if at < count {
-        return Placement::At(at as u8, count);
-    }
-    if count < MOST_ROWS {
-        written[count] = word;
-        return Placement::At(count as u8, count + 1);
-    }
-    Placement::Full
+    u32::from_le_bytes([kind, role, left, right])
 }
 
 // Where the place of a row, or of its opposite, is remembered.
@@ -139,124 +92,127 @@ fn slot(k: usize, sign: bool) -> usize
     if sign { 2 * k } else { 2 * k + 1 }
 }
 
-// Puts row k of the draft, or its opposite, which was not put before.
-#[cycle(put_put_new)]
-fn put_new(
-    draft: &[u8],
-    memo: &mut [u8],
-    written: &mut [u32],
-    count: usize,
-    k: usize,
-    sign: bool,
-) -> Placement
-    requires { PutAsks draft.now memo.old written.old count k }
-    ensures { PutGives draft.now written.old count k sign memo.new written.new result }
-{
-    match shape_of(draft, k, sign) {
-        Shape::Literal(kind, name) => share(written, count, row_word(kind, 0, name, 0)),
-        Shape::Other(s, l) => put(draft, memo, written, count, l as usize, s),
-        Shape::Unary(kind, role, s, l) => {
-            match put(draft, memo, written, count, l as usize, s) {
-                Placement::At(i, n) => share(written, n, row_word(kind, role, i, 0)),
-                Placement::Full => Placement::Full,
-            }
-        }
-        Shape::Binary(kind, ls, l, rs, r) => {
-            match put(draft, memo, written, count, l as usize, ls) {
-                Placement::At(i, n) => {
-                    match put(draft, memo, written, n, r as usize, rs) {
-                        Placement::At(j, m) => share(written, m, row_word(kind, 0, i, j)),
-                        Placement::Full => Placement::Full,
-                    }
-                }
-                Placement::Full => Placement::Full,
-            }
-        }
-    }
+// What a draft becomes is too large: here, it has more rows than a file can have.
+#[derive(Clone, Copy)]
+pub struct TooLarge;
+
+// What is written so far: rows as words, so many at the start; and for each row of the draft, and for its opposite, which place it has got.
+#[derive(Clone, Copy)]
+pub struct Written {
+    pub words: [u32; MOST_ROWS],
+    pub count: usize,
+    pub memo: [u8; SLOTS],
 }
 
-// Puts row k of the draft, or its opposite, with all that it needs.
-#[cycle(put_put_new)]
-fn put(
-    draft: &[u8],
-    memo: &mut [u8],
-    written: &mut [u32],
-    count: usize,
-    k: usize,
-    sign: bool,
-) -> Placement
-    requires { PutAsks draft.now memo.old written.old count k }
-    ensures { PutGives draft.now written.old count k sign memo.new written.new result }
-{
-    let at = slot(k, sign);
-    let known = memo[at];
-    if known < NO_PLACE {
-        return Placement::At(known, count);
+impl Written {
+    // The words.
+    pub fn rows(&self) -> &[u32]
+        requires { self.now.count ≤ length self.now.words }
+        ensures { result.now ≡ take self.now.count self.now.words }
+    {
+        &self.words[..self.count]
     }
-    match put_new(draft, memo, written, count, k, sign) {
-        Placement::At(place, n) => {
-            memo[at] = place;
-            Placement::At(place, n)
+
+    // The first of the rows that is equal to this one.
+    fn find(&self, word: u32) -> Option<usize>
+        requires { self.now.count ≤ length self.now.words }
+        ensures { result ≡ position (λ w. w == word) (take self.now.count self.now.words) }
+    {
+        self.rows().iter().position(|w| *w == word)
+    }
+
+    // The place of a row: that of an equal row, or a new one.
+    fn share(&mut self, word: u32) -> Result<u8, TooLarge>
+        requires { ShareAsks self.old word }
+        ensures { SharesRow self.old word self.new result }
+    {
+        if let Some(at) = self.find(word) {
+            return Ok(at as u8);
         }
-        Placement::Full => Placement::Full,
+        let at = self.count;
+        if at == MOST_ROWS {
+            return Err(TooLarge);
+        }
+        self.words[at] = word;
+        self.count = at + 1;
+        Ok(at as u8)
     }
-}
 
-// Puts the rows of a list, one after the other, and tells the place of each.
-pub fn put_list(
-    draft: &[u8],
-    list: &[u8],
-    memo: &mut [u8],
-    written: &mut [u32],
-    count: usize,
-    places: &mut [u8],
-) -> Listed
-    requires { ListAsks draft.now list.now memo.old written.old count places.old }
-    ensures { ListGives draft.now list.now written.old count memo.new written.new
-        places.old places.new result }
-{
-    let mut n = count;
-    let mut i: usize = 0;
-    while i < list.len() {
-        match put(draft, memo, written, n, list[i] as usize, true) {
-            Placement::At(place, more) => {
-                places[i] = place;
-                n = more;
+    // Puts row k of the draft, or its opposite, which was not put before.
+    #[cycle(put_put_new)]
+    fn put_new(&mut self, draft: &[u8], k: usize, sign: bool) -> Result<u8, TooLarge>
+        requires { PutAsks draft.now self.old k }
+        ensures { PutGives draft.now self.old k sign self.new result }
+    {
+        match shape_of(draft, k, sign) {
+            Shape::Literal(kind, name) => self.share(row_word(kind, 0, name, 0)),
+            Shape::Other(s, l) => self.put(draft, l as usize, s),
+            Shape::Unary(kind, role, s, l) => {
+                let i = self.put(draft, l as usize, s)?;
+                self.share(row_word(kind, role, i, 0))
             }
-            Placement::Full => {
-                return Listed::Full;
+            Shape::Binary(kind, ls, l, rs, r) => {
+                let i = self.put(draft, l as usize, ls)?;
+                let j = self.put(draft, r as usize, rs)?;
+                self.share(row_word(kind, 0, i, j))
             }
         }
-        i += 1;
     }
-    Listed::Rows(n)
-}
 
-// Writes row k of the draft behind the n words, if it is an inclusion, and tells how many words there are then.
-fn keep_row(draft: &[u8], k: usize, written: &mut [u32], n: usize) -> usize
-    requires { Kept draft.now k written.old n × (k < row_count draft.now) }
-    ensures { Kept draft.now (k + 1) written.new result }
-{
-    if row_byte(draft, k, 0) == INCLUSION {
-        written[n] = row_word(INCLUSION, row_byte(draft, k, 1), row_byte(draft, k, 2), 0);
-        return n + 1;
+    // Puts row k of the draft, or its opposite, with all that it needs.
+    #[cycle(put_put_new)]
+    fn put(&mut self, draft: &[u8], k: usize, sign: bool) -> Result<u8, TooLarge>
+        requires { PutAsks draft.now self.old k }
+        ensures { PutGives draft.now self.old k sign self.new result }
+    {
+        let at = slot(k, sign);
+        let known = self.memo[at];
+        if known < NO_PLACE {
+            return Ok(known);
+        }
+        let place = self.put_new(draft, k, sign)?;
+        self.memo[at] = place;
+        Ok(place)
     }
-    n
-}
 
-// Writes the inclusions of a draft of so many rows, in their order, and tells how many there are. Most drafts have none.
-pub fn keep_inclusions(draft: &[u8], rows: usize, written: &mut [u32]) -> usize
-    requires { KeepAsks draft.now rows written.old }
-    ensures { KeepGives draft.now written.new result }
-{
-    if !some_inclusion(draft) {
-        return 0;
+    // Puts the rows of a list, one after the other, and tells the place of each.
+    pub fn put_list(&mut self, draft: &[u8], list: &[u8], places: &mut [u8]) -> Result<(), TooLarge>
+        requires { ListAsks draft.now list.now self.old places.old }
+        ensures { ListGives draft.now list.now self.old self.new places.old places.new result }
+    {
+        for (i, k) in list.iter().enumerate() {
+            places[i] = self.put(draft, *k as usize, true)?;
+        }
+        Ok(())
     }
-    let mut n: usize = 0;
-    let mut k: usize = 0;
-    while k < rows {
-        n = keep_row(draft, k, written, n);
-        k += 1;
+
+    // Writes row k of the draft, if it is an inclusion.
+    fn keep_row(&mut self, draft: &[u8], k: usize)
+        requires { Kept draft.now k self.old × (k < row_count draft.now) }
+        ensures { Kept draft.now (k + 1) self.new }
+    {
+        if row_byte(draft, k, 0) == INCLUSION {
+            let n = self.count;
+            self.words[n] = row_word(INCLUSION, row_byte(draft, k, 1), row_byte(draft, k, 2), 0);
+            self.count = n + 1;
+        }
     }
-    n
+
+    // The inclusions of a draft of so many rows, in their order, and nothing else. Most drafts have none.
+    pub fn keep_inclusions(draft: &[u8], rows: usize) -> Written
+        requires { KeepAsks draft.now rows }
+        ensures { KeepGives draft.now result }
+    {
+        let mut written = Written {
+            words: [0; MOST_ROWS],
+            count: 0,
+            memo: [NO_PLACE; SLOTS],
+        };
+        if some_inclusion(draft) {
+            for k in 0..rows {
+                written.keep_row(draft, k);
+            }
+        }
+        written
+    }
 }

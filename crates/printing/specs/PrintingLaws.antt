@@ -4,7 +4,7 @@
 -- answer; which lines are printed.
 use Rattle.std.specs.Prelude.{◌≡◌, refl, Bool, true, false, ◌≢◌, List, [], ◌∷◌, ◌++◌, ℕ, suc, ◌+◌, ◌-◌, ◌*◌, ◌/◌, ◌%◌, ◌^◌, ◌≤◌, ◌<◌, eqb, length, get_or, set, take, drop}
 use Rattle.std.proofs.Math.Path.{sym}
-use Rattle.std.proofs.Common.{ap, ap₂, subst, ◌∙◌, append-nil, append_assoc, mul-suc, arith, length-append, length-drop, length-take-le, take_all, take_at, drop_at, eqb-true, eq-eqb, ne_eqb}
+use Rattle.std.proofs.Common.{ap, ap₂, subst, ◌∙◌, append-nil, append_assoc, add-one, mul-suc, arith, take-suc, length-append, length-drop, length-take-le, take_all, take_at, drop_at, eqb-true, eq-eqb, ne_eqb}
 use Rattle.std.proofs.lemmas.List.Edits.{sets}
 use Rattle.std.proofs.Math.Seq.{length-sets, set_out, take-length}
 use Rattle.std.proofs.lemmas.Bool.{eqb-false}
@@ -18,7 +18,8 @@ use Rattle.run.specs.Printed.{ascii, digit, hexadecimal, decimal, spaced, line, 
 use Rattle.run.specs.Printed.{link_lines, used_line, refusal_counts, refused_line}
 use Rattle.run.specs.Printed.{can_lines, cannot_lines, printed}
 use Rattle.run.specs.PrintedLaws.{decimal-last, decimal-more, length-decimal-word, hexadecimal-byte, hexadecimal-bytes}
-use Rattle.printing.specs.Printing.{element_most, Wrote, Pieces, Prints}
+use Rattle.printing.specs.declared.Text.{Text}
+use Rattle.printing.specs.Printing.{element_most, line_most, Wrote, Writes, Pieces, Prints}
 
 -- ---- pieces
 
@@ -26,33 +27,39 @@ sets-append : (out : Bytes) (at : ℕ) (xs ys : Bytes) → sets out at (xs ++ ys
 sets-append out at [] ys = ap (λ (k : ℕ). sets out k ys) (omega arith)
 sets-append out at (x ∷ xs) ys = sets-append (set out at x) (suc at) xs ys ∙ ap (λ (k : ℕ). sets (sets (set out at x) (suc at) xs) k ys) (omega arith)
 
--- nothing written yet
-pub wrote_nothing : (out : Bytes) (at : ℕ) → Wrote 0 [] out at out at
-wrote_nothing out at = record { stored = refl; after = omega arith; bounded = omega arith }
-
 module _ {most : ℕ} {text out : Bytes} {at : ℕ} {out' : Bytes} {next : ℕ} (w : Wrote most text out at out' next) where
-  -- one piece right after another
-  pub wrote_then : {more : ℕ} {text' out'' : Bytes} {next' : ℕ} → Wrote more text' out' next out'' next'
-      → Wrote (most + more) (text ++ text') out at out'' next'
-  wrote_then {more} {text'} {out''} {next'} v = record {
-    stored =
-        v.stored ∙ ap (λ (b : Bytes). sets b next text') w.stored
-        ∙ ap (λ (k : ℕ). sets (sets out at text) k text') w.after
-        ∙ sym (sets-append out at text text');
-    after = simp length-append (omega (arith, w.after, v.after));
-    bounded = simp length-append (omega (arith, w.bounded, v.bounded));
-  }
-
   pub wrote-size : length out' ≡ length out
   wrote-size = ap length w.stored ∙ length-sets out at text
 
   -- the same text by another name
-  pub wrote_as : {text' : Bytes} {most' : ℕ} → text ≡ text' → most ≤ most' → Wrote most' text' out at out' next
+  wrote_as : {text' : Bytes} {most' : ℕ} → text ≡ text' → most ≤ most' → Wrote most' text' out at out' next
   wrote_as e h = record {
     stored = w.stored ∙ ap (sets out at) e;
     after = w.after ∙ ap (λ (b : Bytes). at + length b) e;
     bounded = omega (arith, w.bounded, ap length e);
   }
+
+-- nothing written yet
+pub writes_nothing : (t : Text) → Writes 0 [] t t
+writes_nothing t = record { wrote = record { stored = refl; after = omega arith; bounded = omega arith }; same_reference = refl }
+
+module _ {most : ℕ} {text : Bytes} {t t₁ : Text} (w : Writes most text t t₁) where
+  -- one piece right after another
+  pub writes_then : {more : ℕ} {text' : Bytes} {t₂ : Text} → Writes more text' t₁ t₂ → Writes (most + more) (text ++ text') t t₂
+  writes_then {more} {text'} {t₂} v = record {
+    wrote = record {
+      stored =
+          v.wrote.stored ∙ ap (λ (b : Bytes). sets b t₁.at text') w.wrote.stored
+          ∙ ap (λ (k : ℕ). sets (sets t.out.now t.at text) k text') w.wrote.after
+          ∙ sym (sets-append t.out.now t.at text text');
+      after = simp length-append (omega (arith, w.wrote.after, v.wrote.after));
+      bounded = simp length-append (omega (arith, w.wrote.bounded, v.wrote.bounded));
+    };
+    same_reference = v.same_reference ∙ w.same_reference;
+  }
+
+  pub writes_as : {text' : Bytes} {most' : ℕ} → text ≡ text' → most ≤ most' → Writes most' text' t t₁
+  writes_as e h = record { wrote = wrote_as w.wrote e h; same_reference = w.same_reference }
 
 -- ---- the whole
 
@@ -77,6 +84,10 @@ wrote-start {text = text} {out = out} {next = next} w h =
     ap (take next) (w.stored ∙ sets-cut text out
     ∙ take_all (length out) (overwrite text out) (simp (length-append, length-drop) (omega (arith, w.after))))
     ∙ take_at text (drop (length text) out) next (omega (arith, w.after))
+
+-- the area by another name
+pub wrote_in : {most : ℕ} {text out out' out'' : Bytes} {at next : ℕ} → Wrote most text out at out' next → out' ≡ out'' → Wrote most text out at out'' next
+wrote_in {most} {text} {out} {at = at} {next = next} w e = subst (λ (b : Bytes). Wrote most text out at b next) e w
 
 pub wrote-whole : {n : Numbers} {elements links text out out' : Bytes} {most next : ℕ} → Wrote most text out 0 out' next
     → text ≡ printed n elements links
@@ -123,21 +134,21 @@ module _ {n : Numbers} {elements links out out' : Bytes} {count : ℕ} (p : Prin
 
 -- ---- numbers
 
-pub wrote-digit : {out out' : Bytes} {at next n b : ℕ} → n < 10 → b ≡ digit n → Wrote 1 (b ∷ []) out at out' next
-    → Wrote 10 (decimal n) out at out' next
-wrote-digit {n = n} h e w = wrote_as w (ap (λ (x : ℕ). x ∷ []) e ∙ sym (decimal-last n h)) (omega arith)
+pub writes-digit : {t t' : Text} {n b : ℕ} → n < 10 → b ≡ digit n → Writes 1 (b ∷ []) t t' → Writes 10 (decimal n) t t'
+writes-digit {n = n} h e w = writes_as w (ap (λ (x : ℕ). x ∷ []) e ∙ sym (decimal-last n h)) (omega arith)
 
-pub wrote-digits : {out out' out'' : Bytes} {at middle next n b : ℕ} → 10 ≤ n → n < 2 ^ 32
-    → Wrote 10 (decimal (n / 10)) out at out' middle → b ≡ digit (n % 10) → Wrote 1 (b ∷ []) out' middle out'' next
-    → Wrote 10 (decimal n) out at out'' next
-wrote-digits {n = n} h fits w e v =
-    let t = wrote_as (wrote_then w v) {most' = 11} (ap (λ (x : ℕ). decimal (n / 10) ++ x ∷ []) e ∙ sym (decimal-more n h)) (omega arith) in
-    record { stored = t.stored; after = t.after; bounded = length-decimal-word n fits }
+pub writes-digits : {t t₁ t₂ : Text} {n b : ℕ} → 10 ≤ n → n < 2 ^ 32 → Writes 10 (decimal (n / 10)) t t₁ → b ≡ digit (n % 10)
+    → Writes 1 (b ∷ []) t₁ t₂ → Writes 10 (decimal n) t t₂
+writes-digits {n = n} h fits w e v =
+    let x = writes_as (writes_then w v) {most' = 11} (ap (λ (x : ℕ). decimal (n / 10) ++ x ∷ []) e ∙ sym (decimal-more n h)) (omega arith) in
+    record {
+      wrote = record { stored = x.wrote.stored; after = x.wrote.after; bounded = length-decimal-word n fits };
+      same_reference = x.same_reference;
+    }
 
-pub wrote-byte : (x : ℕ) → x < 256 → {out out' out'' : Bytes} {at middle next high low : ℕ} → high ≡ digit (x / 16)
-    → Wrote 1 (high ∷ []) out at out' middle
-    → low ≡ digit (x % 16) → Wrote 1 (low ∷ []) out' middle out'' next → Wrote 2 (hexadecimal 2 x) out at out'' next
-wrote-byte x h eh w el v = wrote_as (wrote_then w v) (ap₂ (λ (p q : ℕ). p ∷ q ∷ []) eh el ∙ sym (hexadecimal-byte x h)) (omega arith)
+pub writes-byte : (x : ℕ) → x < 256 → {t t₁ t₂ : Text} {high low : ℕ} → high ≡ digit (x / 16) → Writes 1 (high ∷ []) t t₁
+    → low ≡ digit (x % 16) → Writes 1 (low ∷ []) t₁ t₂ → Writes 2 (hexadecimal 2 x) t t₂
+writes-byte x h eh w el v = writes_as (writes_then w v) (ap₂ (λ (p q : ℕ). p ∷ q ∷ []) eh el ∙ sym (hexadecimal-byte x h)) (omega arith)
 
 -- the digits of the i highest of n bytes
 abbrev pub highest : Bytes → ℕ → ℕ → ℕ → Bytes
@@ -153,62 +164,52 @@ highest-more area from n i h small =
 -- ---- a loop over pieces
 
 module _ {up_to : ℕ → Bytes} {each count : ℕ} where
-  pub pieces_none : (out : Bytes) (at : ℕ) → up_to 0 ≡ [] → Pieces up_to each count out at out at 0
-  pieces_none out at e = record { within = omega arith; wrote = wrote_as (wrote_nothing out at) (sym e) (omega arith) }
+  pub pieces_none : (t : Text) → up_to 0 ≡ [] → Pieces up_to each count t t 0
+  pieces_none t e = record { within = omega arith; writes = writes_as (writes_nothing t) (sym e) (omega arith) }
 
-  pub pieces_more : {out out' out'' piece : Bytes} {at middle next i : ℕ} → Pieces up_to each count out at out' middle i → i < count
-      → up_to (i + 1) ≡ up_to i ++ piece → Wrote each piece out' middle out'' next → Pieces up_to each count out at out'' next (i + 1)
+  pub pieces_more : {t t₁ t₂ : Text} {piece : Bytes} {i : ℕ} → Pieces up_to each count t t₁ i → i < count
+      → up_to (i + 1) ≡ up_to i ++ piece → Writes each piece t₁ t₂ → Pieces up_to each count t t₂ (i + 1)
   pieces_more {i = i} s h e w =
       let s' : i + 1 ≡ suc i = omega arith in
       let m : each * (i + 1) ≡ each * i + each = ap (λ (k : ℕ). each * k) s' ∙ mul-suc each i in
-      record { within = omega arith; wrote = wrote_as (wrote_then s.wrote w) (sym e) (omega arith) }
+      record { within = omega arith; writes = writes_as (writes_then s.writes w) (sym e) (omega arith) }
 
-  pub pieces-all : {out out' : Bytes} {at next i : ℕ} → Pieces up_to each count out at out' next i → count ≤ i
-      → Wrote (each * count) (up_to count) out at out' next
-  pieces-all {out} {out'} {at} {next} {i} s h =
+  pub pieces-all : {t t' : Text} {i : ℕ} → Pieces up_to each count t t' i → count ≤ i → Writes (each * count) (up_to count) t t'
+  pieces-all {t} {t'} {i} s h =
       let e : i ≡ count = omega (arith, s.within) in
-      subst (λ (k : ℕ). Wrote (each * k) (up_to k) out at out' next) e s.wrote
+      subst (λ (k : ℕ). Writes (each * k) (up_to k) t t') e s.writes
 
 -- a word, byte by byte
-pub wrote-word : {word out out' : Bytes} {at next : ℕ} → Wrote (1 * length word) (take (length word) word) out at out' next
-    → Wrote (length word) word out at out' next
-wrote-word {word} w = wrote_as w (take-length word) (omega arith)
+pub writes-word : (word : Bytes) {t t' : Text} → Writes (1 * length word) (take (length word) word) t t' → Writes (length word) word t t'
+writes-word word w = writes_as w (take-length word) (omega arith)
 
 -- ---- lines
 
-joined-one : (w x end : Bytes) → w ++ x ++ end ≡ w ++ (x ++ []) ++ end
-joined-one w x end = simp append-nil
+spaced-snoc : (ns : List ℕ) (n : ℕ) → spaced (ns ++ n ∷ []) ≡ spaced ns ++ (32 ∷ decimal n)
+unfolding spaced
+spaced-snoc [] n = append-nil (32 ∷ decimal n)
+spaced-snoc (m ∷ ns) n =
+    ap (λ (b : Bytes). (32 ∷ decimal m) ++ b) (spaced-snoc ns n) ∙ sym (append_assoc (32 ∷ decimal m) (spaced ns) (32 ∷ decimal n))
 
-joined-two : (w x y end : Bytes) → w ++ x ++ y ++ end ≡ w ++ (x ++ (y ++ [])) ++ end
-joined-two w x y end = simp (append_assoc, append-nil)
+-- the first numbers
+abbrev pub spaced_to : List ℕ → ℕ → Bytes
+spaced_to ns i = spaced (take i ns)
 
-joined-three : (w x y z end : Bytes) → w ++ x ++ y ++ z ++ end ≡ w ++ (x ++ (y ++ (z ++ []))) ++ end
-joined-three w x y z end = simp (append_assoc, append-nil)
+pub spaced_to-none : (ns : List ℕ) → spaced_to ns 0 ≡ []
+unfolding spaced
+spaced_to-none ns = refl
 
--- a word is written and then numbers and a line feed, one after another
-module _ {w out out₁ : Bytes} {at p₁ : ℕ} (word : Wrote (length w) w out at out₁ p₁) where
-  pub wrote-line-one : (a : ℕ) {out₂ out₃ : Bytes} {p₂ p₃ : ℕ} → Wrote 11 (32 ∷ decimal a) out₁ p₁ out₂ p₂
-      → Wrote 1 (10 ∷ []) out₂ p₂ out₃ p₃
-      → Wrote (length w + 12) (line w (a ∷ [])) out at out₃ p₃
-  unfolding line spaced
-  wrote-line-one a x end = wrote_as (wrote_then (wrote_then word x) end) (joined-one w (32 ∷ decimal a) (10 ∷ [])) (omega arith)
+pub spaced_to-more : (ns : List ℕ) (i : ℕ) → i < length ns → spaced_to ns (i + 1) ≡ spaced_to ns i ++ (32 ∷ decimal (get_or ns i 0))
+spaced_to-more ns i h = rw add-one (ap spaced (take-suc ns i 0 h) ∙ spaced-snoc (take i ns) (get_or ns i 0))
 
-  pub wrote-line-two : (a b : ℕ) {out₂ out₃ out₄ : Bytes} {p₂ p₃ p₄ : ℕ} → Wrote 11 (32 ∷ decimal a) out₁ p₁ out₂ p₂
-      → Wrote 11 (32 ∷ decimal b) out₂ p₂ out₃ p₃
-      → Wrote 1 (10 ∷ []) out₃ p₃ out₄ p₄ → Wrote (length w + 23) (line w (a ∷ b ∷ [])) out at out₄ p₄
-  unfolding line spaced
-  wrote-line-two a b x y end =
-      wrote_as (wrote_then (wrote_then (wrote_then word x) y) end) (joined-two w (32 ∷ decimal a) (32 ∷ decimal b) (10 ∷ [])) (omega arith)
+pub writes-spaced : (ns : List ℕ) {t t' : Text} → Writes (11 * length ns) (spaced_to ns (length ns)) t t' → Writes (11 * length ns) (spaced ns) t t'
+writes-spaced ns w = writes_as w (ap spaced (take-length ns)) (omega arith)
 
-  pub wrote-line-three : (a b c : ℕ) {out₂ out₃ out₄ out₅ : Bytes} {p₂ p₃ p₄ p₅ : ℕ} → Wrote 11 (32 ∷ decimal a) out₁ p₁ out₂ p₂
-      → Wrote 11 (32 ∷ decimal b) out₂ p₂ out₃ p₃ → Wrote 11 (32 ∷ decimal c) out₃ p₃ out₄ p₄
-      → Wrote 1 (10 ∷ []) out₄ p₄ out₅ p₅
-      → Wrote (length w + 34) (line w (a ∷ b ∷ c ∷ [])) out at out₅ p₅
-  unfolding line spaced
-  wrote-line-three a b c x y z end =
-      wrote_as (wrote_then (wrote_then (wrote_then (wrote_then word x) y) z) end)
-      (joined-three w (32 ∷ decimal a) (32 ∷ decimal b) (32 ∷ decimal c) (10 ∷ []))
-      (omega arith)
+-- a word is written, then numbers and a line feed, one after another
+pub writes-line : {w : Bytes} (ns : List ℕ) {t t₁ t₂ t₃ : Text} → Writes (length w) w t t₁ → Writes (11 * length ns) (spaced ns) t₁ t₂
+    → Writes 1 (10 ∷ []) t₂ t₃ → Writes (line_most w ns) (line w ns) t t₃
+unfolding line
+writes-line ns word numbers end = writes_then (writes_then word numbers) end
 
 -- ---- the line of an element and of a link
 
@@ -216,48 +217,42 @@ element-joined : (d s : ℕ) → ascii "E" ++ (32 ∷ decimal d) ++ 32 ∷ [] ++
 unfolding element_line spaced
 element-joined d s = ap (λ (b : Bytes). ascii "E" ++ b ++ 32 ∷ [] ++ hexadecimal (2 * set_size) s ++ 10 ∷ []) (sym (append-nil (32 ∷ decimal d)))
 
-pub wrote-element : (d s : ℕ) {out out₁ out₂ out₃ out₄ out₅ : Bytes} {at p₁ p₂ p₃ p₄ p₅ : ℕ} → Wrote 1 (ascii "E") out at out₁ p₁
-    → Wrote 11 (32 ∷ decimal d) out₁ p₁ out₂ p₂ → Wrote 1 (32 ∷ []) out₂ p₂ out₃ p₃
-    → Wrote (2 * set_size) (hexadecimal (2 * set_size) s) out₃ p₃ out₄ p₄
-    → Wrote 1 (10 ∷ []) out₄ p₄ out₅ p₅
-    → Wrote element_most (element_line d s) out at out₅ p₅
-wrote-element d s x number space set end =
-    wrote_as (wrote_then (wrote_then (wrote_then (wrote_then x number) space) set) end) (element-joined d s) (omega arith)
+pub writes-element : (d s : ℕ) {t t₁ t₂ t₃ t₄ t₅ : Text} → Writes 1 (ascii "E") t t₁ → Writes 11 (32 ∷ decimal d) t₁ t₂
+    → Writes 1 (32 ∷ []) t₂ t₃
+    → Writes (2 * set_size) (hexadecimal (2 * set_size) s) t₃ t₄ → Writes 1 (10 ∷ []) t₄ t₅ → Writes element_most (element_line d s) t t₅
+writes-element d s x number space set end =
+    writes_as (writes_then (writes_then (writes_then (writes_then x number) space) set) end) (element-joined d s) (omega arith)
 
-pub wrote-link : (links : Bytes) (i : ℕ) {from role to : ℕ} {out out' : Bytes} {at next : ℕ} → from ≡ (link_at links i).from
-    → role ≡ (link_at links i).role
-    → to ≡ (link_at links i).to → Wrote 35 (line (ascii "L") (from ∷ role ∷ to ∷ [])) out at out' next
-    → Wrote 35 (link_line (link_at links i)) out at out' next
+pub writes-link : (links : Bytes) (i : ℕ) {from role to : ℕ} {t t' : Text} → from ≡ (link_at links i).from → role ≡ (link_at links i).role
+    → to ≡ (link_at links i).to → Writes 35 (line (ascii "L") (from ∷ role ∷ to ∷ [])) t t' → Writes 35 (link_line (link_at links i)) t t'
 unfolding link_line
-wrote-link links i f r t w = wrote_as w (cc) (omega arith)
+writes-link links i f r e w = writes_as w (cc) (omega arith)
 
 -- ---- the lines of an answer
 
-pub wrote-used : (n : Numbers) {out out' : Bytes} {at next : ℕ}
-    → Wrote 38 (line (ascii "USED") (n.nodes ∷ n.edges ∷ n.alternatives ∷ [])) out at out' next
-    → Wrote 38 (used_line n) out at out' next
+pub writes-used : (n : Numbers) {t t' : Text} → Writes 38 (line (ascii "USED") (n.nodes ∷ n.edges ∷ n.alternatives ∷ [])) t t'
+    → Writes 38 (used_line n) t t'
 unfolding used_line
-wrote-used n w = w
+writes-used n w = w
 
-pub wrote-can : (n : Numbers) (elements links : Bytes) {out out₁ out₂ out₃ out₄ : Bytes} {p₁ p₂ p₃ p₄ : ℕ}
-    → Wrote 26 (line (ascii "CAN") (n.elements ∷ n.links ∷ [])) out 0 out₁ p₁ → Wrote 38 (used_line n) out₁ p₁ out₂ p₂
-    → Wrote (element_most * n.elements) (element_lines elements n.elements) out₂ p₂ out₃ p₃
-    → Wrote (35 * n.links) (link_lines links n.links) out₃ p₃ out₄ p₄
-    → Wrote (64 + element_most * n.elements + 35 * n.links) (can_lines n elements links) out 0 out₄ p₄
+pub writes-can : (n : Numbers) (elements links : Bytes) {t t₁ t₂ t₃ t₄ : Text}
+    → Writes 26 (line (ascii "CAN") (n.elements ∷ n.links ∷ [])) t t₁ → Writes 38 (used_line n) t₁ t₂
+    → Writes (element_most * n.elements) (element_lines elements n.elements) t₂ t₃
+    → Writes (35 * n.links) (link_lines links n.links) t₃ t₄
+    → Writes (64 + element_most * n.elements + 35 * n.links) (can_lines n elements links) t t₄
 unfolding can_lines
-wrote-can n elements links head used es ls = wrote_then (wrote_then (wrote_then head used) es) ls
+writes-can n elements links head used es ls = writes_then (writes_then (writes_then head used) es) ls
 
-pub wrote-cannot : (n : Numbers) {out out₁ out₂ : Bytes} {p₁ p₂ : ℕ} → Wrote 7 (ascii "CANNOT\n") out 0 out₁ p₁
-    → Wrote 38 (used_line n) out₁ p₁ out₂ p₂
-    → Wrote 64 (cannot_lines n) out 0 out₂ p₂
-unfolding cannot_lines line spaced
-wrote-cannot n head used = wrote_as (wrote_then head used) refl (omega arith)
+pub writes-cannot : (n : Numbers) {t t₁ t₂ : Text} → Writes 7 (line (ascii "CANNOT") []) t t₁ → Writes 38 (used_line n) t₁ t₂
+    → Writes 64 (cannot_lines n) t t₂
+unfolding cannot_lines
+writes-cannot n head used = writes_as (writes_then head used) refl (omega arith)
 
 -- with whatever counts stand after the number
-pub wrote-refused : (n : Numbers) {counts : List ℕ} {most : ℕ} {out out' : Bytes} {next : ℕ} → refusal_counts n ≡ counts → most ≤ 64
-    → Wrote most (line (ascii "REFUSED") (n.refusal ∷ counts)) out 0 out' next → Wrote 64 (refused_line n) out 0 out' next
+pub writes-refused : (n : Numbers) {counts : List ℕ} {most : ℕ} {t t' : Text} → refusal_counts n ≡ counts → most ≤ 64
+    → Writes most (line (ascii "REFUSED") (n.refusal ∷ counts)) t t' → Writes 64 (refused_line n) t t'
 unfolding refused_line
-wrote-refused n e few w = wrote_as w (ap (λ (k : List ℕ). line (ascii "REFUSED") (n.refusal ∷ k)) (sym e)) (omega (arith, few))
+writes-refused n e few w = writes_as w (ap (λ (k : List ℕ). line (ascii "REFUSED") (n.refusal ∷ k)) (sym e)) (omega (arith, few))
 
 -- ---- which lines are printed
 

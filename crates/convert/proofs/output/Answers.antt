@@ -9,4 +9,4 @@ returns-then-written c = outputs-file c.convert-conversion.ensures (omega arith)
 
 pub returns : goal.returns
 returns c =
-    outputs-refused c.convert-conversion.ensures (omega arith) (omega arith) (omega arith) c.line_of_one.ensures
+    outputs-refused c.convert-conversion.ensures (omega arith) (omega arith) (omega arith) c.line.ensures

@@ -5,7 +5,7 @@ use Rattle.reader.specs.Read.{numbered}
 use Rattle.reader.specs.PartLaws.{reads-refused, reads-accepted}
 use Rattle.decoding.specs.Decoding.{draft_kinds}
 use Rattle.converter.specs.Clauses.{refused_numbers}
-use Rattle.converter.specs.ConvertCases.{numbers_as, refused-converts, converts-promise}
+use Rattle.converter.specs.ConvertCases.{numbers_as, given-is, refused-converts, converts-promise}
 use Rattle.converter.proofs.convert.Goals as goal
 
 pub convert_accepted-requires : goal.convert_accepted-requires
@@ -18,4 +18,7 @@ returns-in-Err c =
     converts-promise (numbers_as (refused-converts c.args.draft.now _ refused) (c.refused.ensures ∙ ap refused_numbers c.number.ensures))
 
 pub returns-in-Ok : goal.returns-in-Ok
-returns-in-Ok c = converts-promise c.convert_accepted.ensures
+returns-in-Ok c = converts-promise (given-is c.convert_accepted.ensures c.in-Ok.is)
+
+pub returns-in-Err : goal.returns-in-Err
+returns-in-Err c = converts-promise (numbers_as (given-is c.convert_accepted.ensures c.in-Err.is) c.refused-in-Err.ensures)

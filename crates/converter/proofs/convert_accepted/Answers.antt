@@ -2,42 +2,39 @@
 use mathlib.Core.Path.{◌≡◌, refl}
 use Rattle.rulefile.specs.Format.{wanted_rows}
 use Rattle.reader.specs.PartLaws.{laid-placed}
-use Rattle.converter.specs.ConvertCases.{list-as, numbers_as, inclusions-asks, rules-asks, rules-full, kit-asks, kit-full, finish-asks, too_many}
+use Rattle.converter.specs.ConvertCases.{list-as, given_as, inclusions-asks, rules-asks, rules-full, kit-asks, kit-full, finish-asks, too_many}
 use Rattle.converter.proofs.convert_accepted.Goals as goal
 
-pub rules_of-tbox-requires : goal.rules_of-tbox-requires
-rules_of-tbox-requires c = laid-placed c.requires
+pub keep_inclusions-written-requires : goal.keep_inclusions-written-requires
+keep_inclusions-written-requires c = inclusions-asks c.requires
 
-pub keep_inclusions-inclusions-requires : goal.keep_inclusions-inclusions-requires
-keep_inclusions-inclusions-requires c = inclusions-asks c.requires _ refl
+pub rules_of-requires : goal.rules_of-requires
+rules_of-requires c = laid-placed c.requires
 
 pub put_list-requires : goal.put_list-requires
-put_list-requires c = rules-asks c.requires c.rules_of-tbox.ensures c.keep_inclusions-inclusions.ensures _ refl
+put_list-requires c = rules-asks c.requires c.rules_of.ensures c.keep_inclusions-written.ensures _ refl
 
-pub put_list-requires-in-Rows : goal.put_list-requires-in-Rows
-put_list-requires-in-Rows c =
-    let the-kit : c.wanted_of-kit.result.now ≡ wanted_rows c.args.draft.now = c.wanted_of-kit.ensures.0 (laid-placed c.requires).parts.least in
-    kit-asks c.requires c.rules_of-tbox.ensures c.keep_inclusions-inclusions.ensures _ refl (list-as c.put_list.ensures c.in-Rows.is)
-    the-kit
+pub returns-in_err-put_list : goal.returns-in_err-put_list
+returns-in_err-put_list c =
+    given_as _ (too_many c.requires
+    (rules-full c.requires c.rules_of.ensures c.keep_inclusions-written.ensures _ refl (list-as c.put_list.ensures c.in_err-put_list.was)))
+    c.from_residual.ensures.0
+
+pub put_list-requires-2 : goal.put_list-requires-2
+put_list-requires-2 c =
+    let the-kit : c.wanted_of.result.now ≡ wanted_rows c.args.draft.now = c.wanted_of.ensures.0 (laid-placed c.requires).parts.least in
+    kit-asks c.requires c.rules_of.ensures c.keep_inclusions-written.ensures _ refl (list-as c.put_list.ensures c.in_ok-put_list.was) the-kit
+
+pub returns-in_err-put_list-2 : goal.returns-in_err-put_list-2
+returns-in_err-put_list-2 c =
+    let the-kit : c.wanted_of.result.now ≡ wanted_rows c.args.draft.now = c.wanted_of.ensures.0 (laid-placed c.requires).parts.least in
+    given_as _ (too_many c.requires
+    (kit-full c.requires c.rules_of.ensures c.keep_inclusions-written.ensures _ refl (list-as c.put_list.ensures c.in_ok-put_list.was) the-kit
+    (list-as c.put_list-2.ensures c.in_err-put_list-2.was)))
+    c.from_residual-in_err-put_list-2.ensures.0
 
 pub finish-requires : goal.finish-requires
 finish-requires c =
-    let the-kit : c.wanted_of-kit.result.now ≡ wanted_rows c.args.draft.now = c.wanted_of-kit.ensures.0 (laid-placed c.requires).parts.least in
-    finish-asks c.requires c.rules_of-tbox.ensures c.keep_inclusions-inclusions.ensures _ refl (list-as c.put_list.ensures c.in-Rows.is)
-    the-kit
-    (list-as c.put_list-in-Rows.ensures c.in-Rows-put_list.is)
-
-pub returns-in-Full-put_list : goal.returns-in-Full-put_list
-returns-in-Full-put_list c =
-    let the-kit : c.wanted_of-kit.result.now ≡ wanted_rows c.args.draft.now = c.wanted_of-kit.ensures.0 (laid-placed c.requires).parts.least in
-    numbers_as (too_many c.requires
-    (kit-full c.requires c.rules_of-tbox.ensures c.keep_inclusions-inclusions.ensures _ refl (list-as c.put_list.ensures c.in-Rows.is)
-    the-kit
-    (list-as c.put_list-in-Rows.ensures c.in-Full-put_list.is))) c.refused.ensures
-
-pub returns-in-Full : goal.returns-in-Full
-returns-in-Full c =
-    numbers_as (too_many c.requires
-    (rules-full c.requires c.rules_of-tbox.ensures c.keep_inclusions-inclusions.ensures _ refl
-    (list-as c.put_list.ensures c.in-Full.is)))
-    c.refused-in-Full.ensures
+    let the-kit : c.wanted_of.result.now ≡ wanted_rows c.args.draft.now = c.wanted_of.ensures.0 (laid-placed c.requires).parts.least in
+    finish-asks c.requires c.rules_of.ensures c.keep_inclusions-written.ensures _ refl (list-as c.put_list.ensures c.in_ok-put_list.was) the-kit
+    (list-as c.put_list-2.ensures c.in_ok-put_list-2.was)

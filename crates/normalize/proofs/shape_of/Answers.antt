@@ -1,7 +1,7 @@
 -- `normalize::shape_of` meets its contract: at each `return` the tests that led there say which case of the definition holds.
 -- Assumes nothing.
 use native.Mathlib.Omega.{arith}
-use Rattle.normalize.specs.ShapeLaws.{draft-parted, RowRead, literal-case, unary-case, negation-case, implication-case, binary-case}
+use Rattle.normalize.specs.ShapeLaws.{draft-parted, row_read, literal-case, unary-case, negation-case, implication-case, binary-case}
 use Rattle.normalize.proofs.shape_of.Goals as goal
 
 pub row_byte-kind-requires : goal.row_byte-kind-requires
@@ -18,80 +18,25 @@ row_byte-right-requires c = (draft-parted c.requires.0, c.requires.1, omega arit
 
 pub returns-then-kind-le-NEGATED : goal.returns-then-kind-le-NEGATED
 returns-then-kind-le-NEGATED c =
-    let row_read : let left =
-    c.row_byte-left in RowRead c.args.draft.now c.args.k c.args.sign c.row_byte-kind.result c.row_byte-role.result left.result c.row_byte-right.result
-    c.written_kind-written.result = record {
-      draft = c.requires.0;
-      row = c.requires.1;
-      idle = c.requires.2;
-      kind-is = c.row_byte-kind.ensures;
-      role-is = c.row_byte-role.ensures;
-      left_is = c.row_byte-left.ensures;
-      right_is = c.row_byte-right.ensures;
-      written_is = c.written_kind-written.ensures;
-    } in
-    literal-case row_read c.if-kind-le-NEGATED.true
+    literal-case (row_read c.requires c.row_byte-kind.ensures c.row_byte-role.ensures c.row_byte-left.ensures c.row_byte-right.ensures c.written_kind-written.ensures)
+    c.if-kind-le-NEGATED.true
 
 pub returns-then-kind : goal.returns-then-kind
 returns-then-kind c =
-    let row_read : let left =
-    c.row_byte-left in RowRead c.args.draft.now c.args.k c.args.sign c.row_byte-kind.result c.row_byte-role.result left.result c.row_byte-right.result
-    c.written_kind-written.result = record {
-      draft = c.requires.0;
-      row = c.requires.1;
-      idle = c.requires.2;
-      kind-is = c.row_byte-kind.ensures;
-      role-is = c.row_byte-role.ensures;
-      left_is = c.row_byte-left.ensures;
-      right_is = c.row_byte-right.ensures;
-      written_is = c.written_kind-written.ensures;
-    } in
-    unary-case row_read c.if-kind-le-NEGATED.false c.if-kind.true
+    unary-case (row_read c.requires c.row_byte-kind.ensures c.row_byte-role.ensures c.row_byte-left.ensures c.row_byte-right.ensures c.written_kind-written.ensures)
+    c.if-kind-le-NEGATED.false c.if-kind.true
 
 pub returns-then-kind-eq-NEG : goal.returns-then-kind-eq-NEG
 returns-then-kind-eq-NEG c =
-    let row_read : let left =
-    c.row_byte-left in RowRead c.args.draft.now c.args.k c.args.sign c.row_byte-kind.result c.row_byte-role.result left.result c.row_byte-right.result
-    c.written_kind-written.result = record {
-      draft = c.requires.0;
-      row = c.requires.1;
-      idle = c.requires.2;
-      kind-is = c.row_byte-kind.ensures;
-      role-is = c.row_byte-role.ensures;
-      left_is = c.row_byte-left.ensures;
-      right_is = c.row_byte-right.ensures;
-      written_is = c.written_kind-written.ensures;
-    } in
-    negation-case row_read c.if-kind-le-NEGATED.false c.if-kind.false c.if-kind-eq-NEG.true
+    negation-case (row_read c.requires c.row_byte-kind.ensures c.row_byte-role.ensures c.row_byte-left.ensures c.row_byte-right.ensures c.written_kind-written.ensures)
+    c.if-kind-le-NEGATED.false c.if-kind.false c.if-kind-eq-NEG.true
 
 pub returns-then-kind-eq-IMPL : goal.returns-then-kind-eq-IMPL
 returns-then-kind-eq-IMPL c =
-    let row_read : let left =
-    c.row_byte-left in RowRead c.args.draft.now c.args.k c.args.sign c.row_byte-kind.result c.row_byte-role.result left.result c.row_byte-right.result
-    c.written_kind-written.result = record {
-      draft = c.requires.0;
-      row = c.requires.1;
-      idle = c.requires.2;
-      kind-is = c.row_byte-kind.ensures;
-      role-is = c.row_byte-role.ensures;
-      left_is = c.row_byte-left.ensures;
-      right_is = c.row_byte-right.ensures;
-      written_is = c.written_kind-written.ensures;
-    } in
-    implication-case row_read c.if-kind-le-NEGATED.false c.if-kind.false c.if-kind-eq-NEG.false c.if-kind-eq-IMPL.true
+    implication-case (row_read c.requires c.row_byte-kind.ensures c.row_byte-role.ensures c.row_byte-left.ensures c.row_byte-right.ensures c.written_kind-written.ensures)
+    c.if-kind-le-NEGATED.false c.if-kind.false c.if-kind-eq-NEG.false c.if-kind-eq-IMPL.true
 
 pub returns : goal.returns
 returns c =
-    let row_read : let left =
-    c.row_byte-left in RowRead c.args.draft.now c.args.k c.args.sign c.row_byte-kind.result c.row_byte-role.result left.result c.row_byte-right.result
-    c.written_kind-written.result = record {
-      draft = c.requires.0;
-      row = c.requires.1;
-      idle = c.requires.2;
-      kind-is = c.row_byte-kind.ensures;
-      role-is = c.row_byte-role.ensures;
-      left_is = c.row_byte-left.ensures;
-      right_is = c.row_byte-right.ensures;
-      written_is = c.written_kind-written.ensures;
-    } in
-    binary-case row_read c.if-kind-le-NEGATED.false c.if-kind.false c.if-kind-eq-NEG.false c.if-kind-eq-IMPL.false
+    binary-case (row_read c.requires c.row_byte-kind.ensures c.row_byte-role.ensures c.row_byte-left.ensures c.row_byte-right.ensures c.written_kind-written.ensures)
+    c.if-kind-le-NEGATED.false c.if-kind.false c.if-kind-eq-NEG.false c.if-kind-eq-IMPL.false

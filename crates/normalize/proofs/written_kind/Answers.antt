@@ -1,5 +1,7 @@
 -- `normalize::written_kind` meets its contract: each arm is a case of the definition.
 -- Assumes nothing.
+use Rattle.std.proofs.lemmas.Grind.{common_steps}
+use Rattle.std.proofs.Common.{arith}
 use borrow.Author.Tests.{ne_eqb}
 use Rattle.normalize.specs.Shapes.{written_kind}
 use Rattle.normalize.proofs.written_kind.Goals as goal
@@ -38,6 +40,4 @@ returns-in-6 c = rw (c.if-sign.false, c.in-6.is)
 
 pub returns-in_default : goal.returns-in_default
 unfolding written_kind
-returns-in_default c =
-    let r = c.in_default.in_default-own.rest in
-    rw (c.if-sign.false, ne_eqb _ 1 r.0.0.0.0.0.1, ne_eqb _ 2 r.0.0.0.0.1, ne_eqb _ 3 r.0.0.0.1, ne_eqb _ 4 r.0.0.1, ne_eqb _ 5 r.0.1, ne_eqb _ 6 r.1)
+returns-in_default c = grind (arith, common_steps)

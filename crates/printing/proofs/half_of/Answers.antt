@@ -8,4 +8,12 @@ use Rattle.printing.proofs.half_of.Goals as goal
 pub returns : goal.returns
 returns c =
     let a = c.args in
-    omega (arith, le_at-add a.area.now a.at 1 1, le_at-one a.area.now a.at, le_at-one a.area.now (a.at + 1))
+    omega (
+      arith,
+      c.from_le_bytes.ensures,
+      c.byte_of.ensures,
+      c.byte_of-2.ensures,
+      le_at-add a.area.now a.at 1 1,
+      le_at-one a.area.now a.at,
+      le_at-one a.area.now (a.at + 1),
+    )

@@ -1,0 +1,17 @@
+-- `Text::decimal` meets its contract: a number below 10 is its digit, any other its tenth and one digit more.
+-- Assumes nothing.
+use native.Mathlib.Omega.{arith}
+use Rattle.printing.specs.PrintingLaws.{writes-digit, writes-digits}
+use Rattle.printing.proofs.Text.+decimal.Goals as goal
+
+pub returns-then-n-lt10 : goal.returns-then-n-lt10
+returns-then-n-lt10 t c = writes-digit c.if-n-lt10.true c.digit.ensures c.put.ensures
+
+pub decimal-requires : goal.decimal-requires
+decimal-requires t c = (omega arith, omega arith)
+
+pub put-requires-2 : goal.put-requires-2
+put-requires-2 t c = omega (arith, c.decimal.ensures.wrote.after, c.decimal.ensures.wrote.bounded)
+
+pub returns : goal.returns
+returns t c = writes-digits c.if-n-lt10.false (omega arith) c.decimal.ensures c.digit-2.ensures c.put-2.ensures
