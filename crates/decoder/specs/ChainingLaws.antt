@@ -162,7 +162,7 @@ module _ {ρ σ : ℕ} (hρ : ρ < 32) (hσ : σ < 32) {w v u : List ℕ} (I : I
       let same : used_of u ≡ used_of w = used-beside pair-kept (omega arith) (omega arith) in
       record {
         few = omega (arith, same, I.few);
-        None = λ c h k l.
+        none = λ c h k l.
             let test = mem c (get_or w (narrows_at + ρ) 0) in
             row-there c h k
             ∙ ap₂ (λ (x y : Bool). x || (test && y)) (I.none c h k (omega (arith, same))) (I.none σ hσ k (omega (arith, same))) ∙ and-nothing test;
@@ -207,7 +207,7 @@ module _ {w v : List ℕ} (K : RowsKept w v) where
       let same : used_of v ≡ used_of w = used-beside K (omega arith) (omega arith) in
       record {
         few = omega (arith, same, ok.used.0);
-        None = λ ρ h k l.
+        none = λ ρ h k l.
             let beyond : length (table_of w) ≤ k = omega (arith, same, ok.used.1, length-table_of w) in
             (reach ρ h).rows k ∙ ap (λ (x : Bool). x && universal R ρ (concept_at (table_of w) k)) (le-ltb k (length (table_of w)) beyond);
       }
