@@ -19,10 +19,8 @@ pub fn put_sames(out: &mut [u64])
     requires { room ≤ length out.old }
     ensures { Sames 32 out.old out.new }
 {
-    let mut code: usize = 0;
-    while code < ROLES {
+    for code in 0..ROLES {
         out[NARROWS + code] = 1u64 << code;
-        code += 1;
     }
 }
 
@@ -37,11 +35,9 @@ fn join_word(out: &mut [u64], narrow: usize, wide: usize, j: usize)
         return;
     }
     let narrower = out[NARROWS + narrow];
-    let mut code: usize = 0;
-    while code < ROLES {
+    for code in 0..ROLES {
         let i = UNIVERSALS + SET_WORDS * code + j;
-        out[i] = out[i] | word_if((narrower >> code) % 2 == 1, reached);
-        code += 1;
+        out[i] |= word_if((narrower >> code) % 2 == 1, reached);
     }
 }
 
@@ -50,11 +46,8 @@ fn join_universals(out: &mut [u64], narrow: usize, wide: usize)
     requires { (narrow < 32) × (wide < 32) × (room ≤ length out.old) × InUse out.old }
     ensures { JoinsUniversals narrow wide out.old out.new }
 {
-    let n = out[USED] as usize;
-    let mut j: usize = 0;
-    while j < n {
+    for j in 0..out[USED] as usize {
         join_word(out, narrow, wide, j);
-        j += 1;
     }
 }
 
@@ -64,11 +57,9 @@ fn join_narrows(out: &mut [u64], narrow: usize, wide: usize)
     ensures { JoinsNarrows 32 narrow wide out.old out.new }
 {
     let narrower = out[NARROWS + narrow];
-    let mut code: usize = 0;
-    while code < ROLES {
+    for code in 0..ROLES {
         let known = out[NARROWS + code];
         out[NARROWS + code] = known | word_if((known >> wide) % 2 == 1, narrower);
-        code += 1;
     }
 }
 
@@ -86,10 +77,8 @@ fn put_inclusion(out: &mut [u64], k: usize)
     requires { (k < width) × (room ≤ length out.old) × InUse out.old × RolesAt out.old k }
     ensures { IncludesRow k out.old out.new }
 {
-    let row = out[ROWS + k];
-    if row % 256 == INCLUSION as u64 {
-        let narrow = (row / 256 % 256) as u8;
-        let wide = (row / 65536 % 256) as u8;
+    let [kind, narrow, wide, ..] = out[ROWS + k].to_le_bytes();
+    if kind == INCLUSION {
         chain(out, narrow as usize, wide as usize);
         chain(out, inverse(narrow) as usize, inverse(wide) as usize);
     }
@@ -100,10 +89,7 @@ pub fn put_inclusions(out: &mut [u64])
     requires { RowsDecoded out.old × Included out.old 0 out.old }
     ensures { Included out.old (count_of out.old) out.new }
 {
-    let n = out[COUNT] as usize;
-    let mut k: usize = 0;
-    while k < n {
+    for k in 0..out[COUNT] as usize {
         put_inclusion(out, k);
-        k += 1;
     }
 }

@@ -4,7 +4,7 @@
 // How the inclusions are written is in inclusions.rt.
 #![tactic(auto)]
 
-ghost use Rattle.std.specs.Prelude.{◌≡◌, cond, ◌+◌, ◌*◌, ◌≤◌, ◌<◌, length, set};
+ghost use Rattle.std.specs.Prelude.{◌≡◌, cond, ◌+◌, ◌*◌, ◌≤◌, ◌<◌, length};
 ghost use Rattle.concepts.specs.RowSet.{empty, from_list};
 ghost use Rattle.decoding.specs.Decoding.{rule_kinds};
 ghost use Rattle.reader.specs.Read.{LaidFor};
@@ -15,7 +15,7 @@ ghost use Rattle.problem.specs.Layout.{room};
 ghost use Rattle.problem.specs.Decoded.{table_of, problem_of, Decoded, DecodedFrom};
 ghost use Rattle.decoder.specs.FileProblem.{FileDecoded};
 ghost use Rattle.decoder.specs.Marking.{mask_place, PutsList};
-ghost use Rattle.decoder.specs.Writing.{along, put_row, words_for, put_counts, EmptyWords, Partly};
+ghost use Rattle.decoder.specs.Writing.{along, put_row, words_for, put_counts, EmptyWords, Partly, Placed};
 ghost use Rattle.decoder.specs.Want.{AllServe, with_wanted, with_rules, Poses};
 
 use decoding::kinds::UNIV;
@@ -29,30 +29,21 @@ use words::sizes::SET_WORDS;
 pub mod inclusions;
 
 // Byte i of row k.
-fn byte_at(rows: &[u8], k: usize, i: usize) -> usize
+fn byte_at(rows: &[u8], k: usize, i: usize) -> u8
     requires { (k < row_count rows.now) × (i < 4) }
     ensures { (result ≡ row_byte rows.now k i) × (result < 256) }
 {
-    rows[ROW * k + i] as usize
+    rows[ROW * k + i]
 }
 
 // The place of the second mask that a row is marked in.
-fn second_mask(kind: usize, role: usize) -> usize
-    requires { (kind < 256) × (role < 256) }
+fn second_mask(kind: u8, role: u8) -> usize
     ensures { result ≡ mask_place (along kind role) }
 {
-    if kind == UNIV as usize {
-        return UNIVERSALS + SET_WORDS * role;
+    if kind == UNIV {
+        return UNIVERSALS + SET_WORDS * role as usize;
     }
-    KINDS + SET_WORDS * kind
-}
-
-// Puts a number into a word.
-fn put(out: &mut [u64], at: usize, x: u64)
-    requires { at < length out.old }
-    ensures { out.new ≡ set out.old at x }
-{
-    out[at] = x;
+    KINDS + SET_WORDS * kind as usize
 }
 
 // Writes row k.
@@ -64,12 +55,8 @@ fn put_row(rows: &[u8], out: &mut [u64], k: usize)
     let role = byte_at(rows, k, 1);
     let left = byte_at(rows, k, 2);
     let right = byte_at(rows, k, 3);
-    put(
-        out,
-        ROWS + k,
-        (kind + role * 256 + left * 65536 + right * 16777216) as u64,
-    );
-    mark(out, KINDS + SET_WORDS * kind, k);
+    out[ROWS + k] = u32::from_le_bytes([kind, role, left, right]) as u64;
+    mark(out, KINDS + SET_WORDS * kind as usize, k);
     mark(out, second_mask(kind, role), k);
 }
 
@@ -78,11 +65,8 @@ fn put_rows(rows: &[u8], out: &mut [u64])
     requires { Rows rows.now × EmptyWords out.old }
     ensures { Partly rows.now (row_count rows.now) out.new }
 {
-    let n = rows.len() / ROW;
-    let mut k: usize = 0;
-    while k < n {
+    for k in 0..rows.len() / ROW {
         put_row(rows, out, k);
-        k += 1;
     }
 }
 
@@ -92,8 +76,8 @@ fn put_counts(out: &mut [u64], n: usize) -> usize
     ensures { (out.new ≡ put_counts n out.old) × (result ≡ words_for n) }
 {
     let used = (n + 63) / 64;
-    put(out, COUNT, n as u64);
-    put(out, USED, used as u64);
+    out[COUNT] = n as u64;
+    out[USED] = used as u64;
     used
 }
 
@@ -109,11 +93,9 @@ fn word_of(list: &[u8], j: usize) -> u64
     ensures { result ≡ word_of (from_list list.now) j }
 {
     let mut word: u64 = 0;
-    let mut i: usize = 0;
-    while i < list.len() {
-        let k = list[i] as usize;
-        word = word | word_if(k / 64 == j, 1u64 << (k % 64));
-        i += 1;
+    for row in list {
+        let k = *row as usize;
+        word |= word_if(k / 64 == j, 1u64 << (k % 64));
     }
     word
 }
@@ -123,11 +105,20 @@ fn put_list(out: &mut [u64], at: usize, list: &[u8], n: usize)
     requires { (at + n ≤ length out.old) × AllBelow (64 * n) list.now }
     ensures { PutsList at n list.now out.old out.new }
 {
-    let mut j: usize = 0;
-    while j < n {
+    for j in 0..n {
         out[at + j] = word_of(list, j);
-        j += 1;
     }
+}
+
+// Writes the rows, the counts, the rules and the wanted rows into words that are empty so far.
+fn place(rows: &[u8], rules: &[u8], wanted: &[u8], out: &mut [u64])
+    requires { Rows rows.now × ListsRows rows.now rules.now × ListsRows rows.now wanted.now × EmptyWords out.old }
+    ensures { Placed rows.now rules.now wanted.now out.new }
+{
+    put_rows(rows, out);
+    let used = put_counts(out, rows.len() / ROW);
+    put_list(out, RULES, rules, used);
+    put_list(out, WANTED, wanted, used);
 }
 
 // Decodes the rows, the rules and the wanted rows into words that are empty so far. Most files have no inclusion.
@@ -135,10 +126,7 @@ pub fn decode(rows: &[u8], rules: &[u8], wanted: &[u8], out: &mut [u64])
     requires { Rows rows.now × ListsRows rows.now rules.now × ListsRows rows.now wanted.now × EmptyWords out.old }
     ensures { DecodedFrom rows.now rules.now wanted.now out.new }
 {
-    put_rows(rows, out);
-    let used = put_counts(out, rows.len() / ROW);
-    put_list(out, RULES, rules, used);
-    put_list(out, WANTED, wanted, used);
+    place(rows, rules, wanted, out);
     if !is_empty_mask(out, INCLUSIONS, SET_WORDS) {
         put_sames(out);
         put_inclusions(out);

@@ -1,9 +1,7 @@
 -- A number in n words of p bits each, the lowest word first (`joined`), and sets of rows in n words of bytes and of words. Laws are in JoinedLaws and ByteLaws.
-use Rattle.std.specs.Prelude.{◌≡◌, Bool, true, false, ◌&&◌, ◌||◌, cond, List, ℕ, zero, suc, ◌+◌, ◌*◌, ◌^◌, ◌≤◌, ◌<◌, length, get_or}
+use Rattle.std.specs.Prelude.{◌≡◌, Bool, true, false, ◌&&◌, ◌||◌, cond, Option, Some, None, List, ℕ, zero, suc, ◌+◌, ◌*◌, ◌^◌, ◌≤◌, ◌<◌, length, get_or}
 use Rattle.concepts.specs.RowSet.{RowSet, mem, insert}
 use Rattle.words.specs.Words.{le_at, put_le}
-use Rattle.rowset.specs.declared.Next.{Next}
-use Rattle.rowset.specs.declared.Next.TheVariants.{At, End}
 
 unfoldable pub joined : ℕ → (ℕ → ℕ) → ℕ → ℕ
 joined p f zero = 0
@@ -45,6 +43,18 @@ pub record WordsPut (f : ℕ → ℕ) (b : List ℕ) (at n : ℕ) (c : List ℕ)
   pub size : length c ≡ length b
   pub is : c ≡ put_words b at f j
 
+-- n words from place at on are written over, each with one that R gives for its number and the word that stood there
+pub record WordsMade (R : ℕ → ℕ → ℕ → Type 0) (b : List ℕ) (at n : ℕ) (c : List ℕ) : Type 0 where
+  pub made : ℕ → ℕ
+  pub each : (j : ℕ) → j < n → R j (word_at b at j) (made j)
+  pub is : c ≡ put_words b at made n
+
+-- of those, the first j are written, over what was in b
+pub record WordsMaking (R : ℕ → ℕ → ℕ → Type 0) (b : List ℕ) (at n : ℕ) (c : List ℕ) (j : ℕ) : Type 0 where
+  pub made : ℕ → ℕ
+  pub each : (i : ℕ) → i < j → R i (word_at b at i) (made i)
+  pub put : WordsPut made b at n c j
+
 -- "both" of two rows, or "either"
 unfoldable pub junction : Bool → ℕ → ℕ → RowSet → Bool
 junction both left right s = cond both (mem left s && mem right s) (mem left s || mem right s)
@@ -67,7 +77,7 @@ Inserted b at k c = (n : ℕ) → k < 64 * n → set_at c at n ≡ insert k (set
 abbrev pub Marked : List ℕ → ℕ → ℕ → List ℕ → Type 0
 Marked ws at k vs = (n : ℕ) → k < 64 * n → mask_at vs at n ≡ insert k (mask_at ws at n)
 
--- the first row of the set from a row on, or the end
-abbrev pub IsNext : RowSet → ℕ → Next → Type 0
-IsNext s from (At k) = (mem k s ≡ true) × (from ≤ k) × ((j : ℕ) → from ≤ j → j < k → mem j s ≡ false)
-IsNext s from End = (j : ℕ) → from ≤ j → mem j s ≡ false
+-- the first row of the set from a row on, or none
+abbrev pub IsNext : RowSet → ℕ → Option ℕ → Type 0
+IsNext s from (Some k) = (mem k s ≡ true) × (from ≤ k) × ((j : ℕ) → from ≤ j → j < k → mem j s ≡ false)
+IsNext s from None = (j : ℕ) → from ≤ j → mem j s ≡ false

@@ -1,6 +1,8 @@
 -- Laws of Joined, for any number of words of any width.
-use Rattle.std.specs.Prelude.{◌≡◌, refl, Bool, true, false, not, ◌&&◌, ◌||◌, ℕ, zero, suc, ◌+◌, ◌-◌, ◌*◌, ◌/◌, ◌^◌, ◌≤◌, ◌<◌, eqb}
-use Rattle.std.proofs.Common.{sym, ap, ap₂, ◌∙◌, pow-suc, arith, pow_pos, eq-eqb, ne_eqb}
+use Rattle.std.specs.Prelude.{◌≡◌, refl, Bool, true, false, not, ◌&&◌, ◌||◌, ℕ, zero, suc, ◌+◌, ◌-◌, ◌*◌, ◌/◌, ◌^◌, ◌≤◌, ◌<◌, eqb, length, MatchBool, HoldsAt}
+use Rattle.std.specs.List.{AllWithin, range_with_len}
+use Rattle.std.proofs.lemmas.List.FromFn.{length-range_with_len, get_or-range_with_len}
+use Rattle.std.proofs.Common.{zero-add, subst, sym, ap, ap₂, ◌∙◌, pow-suc, arith, pow_pos, eq-eqb, ne_eqb}
 use Rattle.std.proofs.Math.Decide.{ℕ_discrete}
 use Rattle.std.proofs.Math.Dec.{not_T}
 use Rattle.std.specs.Int.Bits.{block_half, block_odd}
@@ -259,3 +261,15 @@ one_more P j h e m l = elim (ℕ_discrete m j) [
   | yes s ↦ rw s e
   | no d ↦ h m (omega arith)
 ]
+
+-- ---- a test of each word, as the chain `(0..n).all(..)` goes through them
+
+pub all_words : {n : ℕ} {Yes No : ℕ → Type 0} (r x : Bool)
+    → MatchBool r (AllWithin Yes (range_with_len 0 n) 0 (length (range_with_len 0 n))) ((k : ℕ) × (k < length (range_with_len 0 n)) × HoldsAt No (range_with_len 0 n) k)
+    → (((j : ℕ) → j < n → Yes j) → x ≡ true) → ((j : ℕ) → j < n → No j → x ≡ false) → r ≡ x
+all_words {n} {Yes} {No} true x h all one =
+    sym (all (λ j l. subst Yes (get_or-range_with_len 0 n j 0 l ∙ zero-add j) (h j 0 (omega arith) (omega (arith, length-range_with_len 0 n)))))
+all_words {n} {Yes} {No} false x h all one =
+    let k = h.0 in
+    let l : k < n = omega (arith, length-range_with_len 0 n, h.1) in
+    sym (one k l (subst No (get_or-range_with_len 0 n k 0 l ∙ zero-add k) (h.2 0)))

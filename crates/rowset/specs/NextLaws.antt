@@ -1,5 +1,5 @@
 -- Laws of going through the words of a set, up to a row.
-use Rattle.std.specs.Prelude.{◌≡◌, refl, Bool, true, false, ◌&&◌, List, ℕ, zero, suc, ◌+◌, ◌-◌, ◌*◌, ◌/◌, ◌%◌, ◌^◌, ◌≤◌, ◌<◌, eqb, leb, length, get_or, set}
+use Rattle.std.specs.Prelude.{◌≡◌, refl, Bool, Some, None, true, false, ◌&&◌, List, ℕ, zero, suc, ◌+◌, ◌-◌, ◌*◌, ◌/◌, ◌%◌, ◌^◌, ◌≤◌, ◌<◌, eqb, leb, length, get_or, set}
 use Rattle.std.proofs.Common.{sym, ap, ap₂, ◌∙◌, arith, get_or-set_same, get_or-set_other, le-leb, leb-true}
 use Rattle.std.proofs.Math.Decide.{ℕ_discrete}
 use Rattle.std.specs.Int.Bits.{bit_and}
@@ -9,7 +9,6 @@ use Rattle.concepts.specs.Tests.{and-true}
 use Rattle.concepts.specs.RowSet.{mem, common, insert}
 use Rattle.concepts.specs.RowSetLaws.{mem-empty}
 use Rattle.concepts.specs.Lowest.{Lowest, Above}
-use Rattle.rowset.specs.declared.Next.TheVariants.{At, End}
 use Rattle.rowset.specs.Joined.{joined, Fit, place, word_at, set_at, mask_at, IsNext}
 use Rattle.rowset.specs.JoinedLaws.{mem-high, mem-joined, joined-common, joined-insert, joined-true, joined-false, place-row}
 use Rattle.rowset.specs.ByteLaws.{AreBytes, word_fits, set_words_lem}
@@ -110,21 +109,22 @@ module _ (f : ℕ → ℕ) (fits : Fit 64 f) (n from : ℕ) where
         ∙ ap (λ (x : ℕ). leb from x && mem x (joined 64 f n)) (sym e) ∙ sym (p.rows i (omega arith)) ∙ ap (mem i) z ∙ mem-empty i
   ]
 
-  pub pass-next : (j m : ℕ) → m ≡ 0 → from < 64 * j + 64 → j + 1 < n → Passed f n from j m → Passed f n from (j + 1) (f (j + 1))
-  pass-next j m z a l p = record {
-    none = λ k b c. pass-none j m z p k b (omega arith);
+  -- a word after that of the row
+  pub pass-word : (j : ℕ) → j < n → from ≤ 64 * j → ((k : ℕ) → from ≤ k → k < 64 * j → mem k (joined 64 f n) ≡ false) → Passed f n from j (f j)
+  pass-word j l a none = record {
+    none = none;
     rows = λ i b.
-        sym (row_of f fits n from (j + 1) i l b)
-        ∙ ap (λ (x : Bool). x && mem (64 * (j + 1) + i) (joined 64 f n)) (sym (le-leb from (64 * (j + 1) + i) (omega arith)));
+        sym (row_of f fits n from j i l b) ∙ ap (λ (x : Bool). x && mem (64 * j + i) (joined 64 f n)) (sym (le-leb from (64 * j + i) (omega arith)));
   }
 
-  pub pass-end : (j m : ℕ) → m ≡ 0 → n ≤ j + 1 → Passed f n from j m → IsNext (joined 64 f n) from End
-  pass-end j m z l p k a = elim (ℕ_discrete (suc k - (64 * j + 64)) 0) [
-    | yes e ↦ pass-none j m z p k a (omega arith)
+  -- all words
+  pub pass-all : (j : ℕ) → n ≤ j → ((k : ℕ) → from ≤ k → k < 64 * j → mem k (joined 64 f n) ≡ false) → IsNext (joined 64 f n) from None
+  pass-all j l none k a = elim (ℕ_discrete (suc k - 64 * j) 0) [
+    | yes e ↦ none k a (omega arith)
     | no d ↦ joined-beyond n f fits k (omega arith)
   ]
 
-  pub pass-found : (j m t : ℕ) → Passed f n from j m → Lowest m t → t < 64 → IsNext (joined 64 f n) from (At (64 * j + t))
+  pub pass-found : (j m t : ℕ) → Passed f n from j m → Lowest m t → t < 64 → IsNext (joined 64 f n) from (Some (64 * j + t))
   pass-found j m t p low b =
       let k : ℕ = 64 * j + t in
       let both = and-true (leb from k) (mem k (joined 64 f n)) (sym (p.rows t b) ∙ low.member) in (

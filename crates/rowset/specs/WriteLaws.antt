@@ -1,7 +1,8 @@
 -- Laws of n words written one after the other: they are one number written.
-use Rattle.std.specs.Prelude.{◌≡◌, List, ℕ, zero, suc, ◌+◌, ◌*◌, ◌/◌, ◌%◌, ◌^◌, ◌≤◌, ◌<◌, length, set}
+use Rattle.std.specs.Prelude.{◌≡◌, Bool, cond, eqb, List, ℕ, zero, suc, ◌+◌, ◌*◌, ◌/◌, ◌%◌, ◌^◌, ◌≤◌, ◌<◌, length, set}
 use Rattle.std.proofs.Math.Path.{refl, ap, ap₂}
-use Rattle.std.proofs.Common.{sym, ◌∙◌, pow-add, pow-suc, mul_comm, mul_assoc, arith}
+use Rattle.std.proofs.Common.{sym, ◌∙◌, pow-add, pow-suc, mul_comm, mul_assoc, arith, eq-eqb, ne_eqb}
+use Rattle.std.proofs.Math.Decide.{ℕ_discrete}
 use Rattle.std.proofs.Math.Nat.{div-div-eq-div-mul}
 use Rattle.std.proofs.Math.Arith.{digits_div}
 use Rattle.std.proofs.Math.ListN.{get_or}
@@ -9,7 +10,7 @@ use Rattle.concepts.specs.RowSet.{union, minus}
 use Rattle.concepts.specs.RowSetLaws.{union-lt}
 use Rattle.words.specs.Words.{put_le}
 use Rattle.words.specs.WordLaws.{length-put_le, le_at-put_le}
-use Rattle.rowset.specs.Joined.{joined, Fit, low_word, word_at, set_at, put_words, WordsPut, mask_at}
+use Rattle.rowset.specs.Joined.{joined, Fit, low_word, word_at, set_at, put_words, WordsPut, WordsMade, WordsMaking, mask_at}
 use Rattle.rowset.specs.JoinedLaws.{joined-union, joined-minus, joined-none}
 use Rattle.rowset.specs.ByteLaws.{AreBytes, le_at-lt, set_words_lem, word_fits, word_kept}
 
@@ -97,6 +98,48 @@ module _ {f : ℕ → ℕ} {b : List ℕ} {at n : ℕ} where
 
   pub put-ends : {c : List ℕ} {j : ℕ} → WordsPut f b at n c j → n ≤ j → c ≡ put_words b at f n
   put-ends {c} {j} W l = W.is ∙ ap (put_words b at f) (omega (arith, W.few))
+
+-- ---- a loop that makes n words
+
+-- what is written is made of the words alone
+pub words_same : (n : ℕ) (b : List ℕ) (at : ℕ) (f g : ℕ → ℕ) → ((j : ℕ) → j < n → f j ≡ g j) → put_words b at f n ≡ put_words b at g n
+unfolding put_words
+words_same zero b at f g h = refl
+words_same (suc n) b at f g h =
+    ap (λ (v : ℕ). put_words (put_le b at 8 v) (at + 8) (λ (j : ℕ). f (suc j)) n) (h 0 (omega arith))
+    ∙ words_same n (put_le b at 8 (g 0)) (at + 8) (λ (j : ℕ). f (suc j)) (λ (j : ℕ). g (suc j)) (λ j l. h (suc j) (omega arith))
+
+module _ {R : ℕ → ℕ → ℕ → Type 0} {b : List ℕ} {at n : ℕ} where
+  pub making-begins : WordsMaking R b at n b 0
+  making-begins = record { made = λ j. 0; each = λ i l. absurd (omega arith); put = put-begins }
+
+  pub making-again : {c d : List ℕ} {j w v : ℕ} → WordsMaking R b at n c j → j < n → at + 8 * n ≤ length b → w ≡ word_at c at j → R j w v
+      → d ≡ put_le c (at + 8 * j) 8 v → WordsMaking R b at n d (j + 1)
+  making-again {c} {d} {j} {w} {v} M l room e r written =
+      let made : ℕ → ℕ = λ i. cond (eqb i j) v (M.made i) in
+      let here : (i : ℕ) → i ≡ j → made i ≡ v = λ i q. ap (λ (x : Bool). cond x v (M.made i)) (eq-eqb i j q) in
+      let before : (i : ℕ) → i < j → made i ≡ M.made i = λ i h. ap (λ (x : Bool). cond x v (M.made i)) (ne_eqb i j (λ q. omega arith)) in
+      let old : w ≡ word_at b at j = e ∙ put-unread M.put room in
+      let put : WordsPut made b at n c j = record {
+        few = M.put.few;
+        size = M.put.size;
+        is = M.put.is ∙ words_same j b at M.made made (λ i h. sym (before i h));
+      } in
+      record {
+        made = made;
+        each = λ i h. elim (ℕ_discrete i j) [
+          | yes q ↦ rw (q, here j refl, ← old) r
+          | no q ↦ rw (before i (omega arith)) (M.each i (omega arith))
+        ];
+        put = put-again put l written (sym (here j refl));
+      }
+
+  pub making-ends : {c : List ℕ} {j : ℕ} → WordsMaking R b at n c j → n ≤ j → WordsMade R b at n c
+  making-ends {c} {j} M l = record { made = M.made; each = λ i h. M.each i (omega arith); is = put-ends M.put l }
+
+  -- where R leaves one word at each place, those are written
+  pub made-words : {c : List ℕ} {f : ℕ → ℕ} → WordsMade R b at n c → ((j v : ℕ) → j < n → R j (word_at b at j) v → v ≡ f j) → c ≡ put_words b at f n
+  made-words {c} {f} M h = M.is ∙ words_same n b at M.made f (λ j l. h j (M.made j) l (M.each j l))
 
 pub joined-lt : (n : ℕ) (f : ℕ → ℕ) → Fit 64 f → joined 64 f n < 256 ^ (8 * n)
 unfolding joined

@@ -1,5 +1,5 @@
 -- `decoder::put_list` meets its contract: the invariant is that the words so far are those of the list's set (`list_put`).
-use Prim.Native.Nat.{◌+◌, ◌-◌, ◌≤◌}
+use Prim.Native.Nat.{◌+◌, ◌≤◌}
 use Rattle.concepts.specs.RowSet.{from_list}
 use Rattle.rowset.specs.WordOf.{word_of}
 use Rattle.decoder.specs.Remade.{Remade}
@@ -7,6 +7,3 @@ use Rattle.decoder.proofs.put_list.Given as goal
 
 abbrev pub invariant-loop-j : goal.invariant-loop-j
 invariant-loop-j l = (l.j ≤ l.n) × Remade (λ i. l.at + i) l.j (λ i _. word_of (from_list l.list) i) l.initial.out l.out
-
-abbrev pub decreases-loop-j : goal.decreases-loop-j
-decreases-loop-j l = l.n - l.j

@@ -4,10 +4,10 @@ use borrow.Author.Tests.{eq-eqb, ne_eqb}
 use Rattle.decoder.specs.Writing.{along}
 use Rattle.decoder.proofs.second_mask.Goals as goal
 
-pub returns-then-kind : goal.returns-then-kind
+pub returns-then-kind-eq-UNIV : goal.returns-then-kind-eq-UNIV
 unfolding along
-returns-then-kind c = rw (eq-eqb _ _ c.if-kind.true) (omega arith)
+returns-then-kind-eq-UNIV c = rw (eq-eqb _ _ c.if-kind-eq-UNIV.true) (omega arith)
 
 pub returns : goal.returns
 unfolding along
-returns c = rw (ne_eqb _ _ c.if-kind.false) (omega arith)
+returns c = rw (ne_eqb _ _ c.if-kind-eq-UNIV.false) (omega arith)

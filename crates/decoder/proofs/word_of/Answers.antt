@@ -11,26 +11,21 @@ use Rattle.concepts.specs.RowSetLaws.{empty-union}
 use Rattle.rowset.specs.WordOf.{word_of, word-drop, word_end}
 use Rattle.decoder.proofs.word_of.Goals as goal
 
-pub loop-i-init : goal.loop-i-init
-loop-i-init c = (omega arith, empty-union _)
+pub loop-row-init : goal.loop-row-init
+loop-row-init c = empty-union _
 
-pub overflow_cast-k : goal.overflow_cast-k
-overflow_cast-k c = omega (arith, c.shared_slice_known-in-loop-i-1.given c.loop-i.i)
-
-pub loop-i-preserved : goal.loop-i-preserved
+pub loop-row-preserved : goal.loop-row-preserved
 unfolding single union
-loop-i-preserved c =
+loop-row-preserved c =
     let a = c.args in
-    let l = c.loop-i in
-    let b : ℕ = get_or a.list.now l.i 0 % 64 in
+    let l = c.loop-row in
+    let b : ℕ = get_or a.list.now l.row-index 0 % 64 in
     let bit : (1 * 2 ^ b) % 2 ^ 64 ≡ 2 ^ b = shl_exact 1 b 64 (omega arith) (omega arith) ∙ one-mul (2 ^ b) in
-    let row = c.word_if-word.ensures ∙ ap (λ (x : ℕ). cond (eqb (get_or a.list.now l.i 0 / 64) a.j) x empty) bit in (
-      omega (arith, c.loop-i-test.true),
-      ap (λ (x : ℕ). union (union l.word x) (word_of (from_list (drop (l.i + 1) a.list.now)) a.j)) row
-          ∙ sym (word-drop a.list.now l.i a.j l.word c.loop-i-test.true) ∙ l.invariant.1,
-    )
+    let row = c.word_if-word.ensures ∙ ap (λ (x : ℕ). cond (eqb (get_or a.list.now l.row-index 0 / 64) a.j) x empty) bit in
+    ap (λ (x : ℕ). union (union l.word x) (word_of (from_list (drop (l.row-index + 1) a.list.now)) a.j)) row
+    ∙ sym (word-drop a.list.now l.row-index a.j l.word c.loop-row-test.true) ∙ l.invariant
 
 pub returns : goal.returns
 returns c =
-    let l = c.loop-i in
-    word_end c.args.list.now l.i c.args.j l.word c.loop-i-test.false ∙ l.invariant.1
+    let l = c.loop-row in
+    word_end c.args.list.now l.row-index c.args.j l.word c.loop-row-test.false ∙ l.invariant

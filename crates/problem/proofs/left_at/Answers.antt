@@ -1,9 +1,10 @@
--- `problem::left_at` meets its contract: that part of the row's word.
-use mathlib.Core.Path.{sym}
+-- `problem::left_at` meets its contract: that byte of the row's word.
+use Rattle.std.proofs.Common.{sym, ap, ◌∙◌, get_or, ℕ, List, arith}
 use Rattle.problem.specs.DecodedLaws.{word-parts, left_lt}
 use Rattle.problem.proofs.left_at.Goals as goal
 
 pub returns : goal.returns
 returns c =
     let (ok, h) = c.requires in
-    (sym (word-parts ok.rows c.args.k h).left_is, left_lt ok.rows c.args.k h)
+    let byte = ap (λ (bytes : List ℕ). get_or bytes 2 0) c.to_le_bytes.ensures in
+    (byte ∙ sym (word-parts ok.rows c.args.k h).left_is, omega (arith, byte, left_lt ok.rows c.args.k h))

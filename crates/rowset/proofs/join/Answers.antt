@@ -1,30 +1,16 @@
-use mathlib.Core.Path.{ap, ap₂, ◌∙◌}
-use mathlib.Core.List.{List}
-use Prim.Native.Nat.{ℕ}
-use native.Mathlib.Omega.{arith}
+-- `rowset::join` meets its contract: each word is the union of two.
+use Rattle.std.proofs.Common.{ap, ◌∙◌, ℕ, List, rules, arith}
 use Rattle.concepts.specs.RowSet.{union}
 use Rattle.rowset.specs.Joined.{set_at}
 use Rattle.rowset.specs.ByteLaws.{AreBytes}
-use Rattle.rowset.specs.WriteLaws.{put-begins, put-unread, put-again, put-ends, put-union, set-union}
+use Rattle.rowset.specs.WriteLaws.{made-words, put-union, set-union}
 use Rattle.rowset.proofs.join.Goals as goal
 
-pub loop-j-init : goal.loop-j-init
-loop-j-init c = put-begins
-
-pub loop-j-preserved : goal.loop-j-preserved
-unfolding union
-loop-j-preserved c =
-    let inv = c.loop-j.invariant in
-    put-again inv (omega arith) c.put_word.ensures
-    (ap₂ union (c.word.ensures ∙ put-unread inv (omega arith)) c.word-in-loop-j.ensures)
-
-pub shape_of-b : goal.shape_of-b
-shape_of-b c = c.loop-j.invariant.size
-
 pub returns : goal.returns
+unfolding union
 returns c =
     let a = c.args in
     let hb : AreBytes a.b.now = λ i. omega (arith, c.slice_known-1.given i) in
-    let hc : AreBytes a.c.now = λ i. omega (arith, c.shared_slice_known-1.given i) in
-    let put = put-ends c.loop-j.invariant (omega arith) ∙ put-union a.b.now a.c.now hb hc a.at a.there a.n in
+    let hc : AreBytes a.c.now = λ i. omega (arith, c.type_inv.c i) in
+    let put = made-words c.put_words.ensures (λ j v l e. search rules) ∙ put-union a.b.now a.c.now hb hc a.at a.there a.n in
     (put, ap (λ (x : List ℕ). set_at x a.at a.n) put ∙ set-union a.b.now a.c.now hb hc a.at a.there a.n (omega arith))

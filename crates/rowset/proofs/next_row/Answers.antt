@@ -1,92 +1,96 @@
-use mathlib.Core.Path.{◌≡◌, sym, ap, subst}
-use mathlib.Core.List.{List}
-use Prim.Native.Nat.{ℕ, ◌+◌, ◌*◌, ◌/◌, ◌%◌, ◌^◌, ◌<◌}
-use native.Mathlib.Decide.{ℕ_discrete}
-use native.Mathlib.Omega.{arith}
-use lib.Bits.{bit_and}
-use lib.Count.{trailing_le}
-use lib.ListN.{get_or}
-use Rattle.concepts.specs.RowSet.{RowSet, common}
+use Rattle.std.proofs.Common.{◌≡◌, ℕ, false, ◌≤◌, Option, Some, None, ◌+◌, ◌*◌, ◌/◌, ◌%◌, ◌^◌, ◌<◌, List, get_or, bit_and, sym, ap, subst, arith}
+use Rattle.std.proofs.Math.Decide.{ℕ_discrete}
+use Rattle.std.proofs.lemmas.Nat.{and_le_l}
+use Rattle.std.specs.Int.Count.{count_trailing_zeros}
+use Rattle.concepts.specs.RowSet.{RowSet, mem, common}
 use Rattle.concepts.specs.Lowest.{Above}
 use Rattle.concepts.specs.LowestLaws.{above-shifts, shifts_fit, trailing-lowest}
-use Rattle.rowset.specs.declared.Next.{Next}
-use Rattle.rowset.specs.declared.Next.TheVariants.{At, End}
-use Rattle.rowset.specs.Joined.{joined, set_at, mask_at, IsNext}
+use Rattle.rowset.specs.Joined.{joined, word_at, set_at, mask_at, IsNext}
 use Rattle.rowset.specs.ByteLaws.{AreBytes}
-use Rattle.rowset.specs.NextLaws.{Words, picked, picked_fits, picked_all, Passed, joined-beyond, pass-start, pass-next, pass-end, pass-found}
+use Rattle.rowset.specs.NextLaws.{Words, picked, picked_fits, picked_all, Passed, joined-beyond, pass-start, pass-none, pass-word, pass-all, pass-found}
 use Rattle.rowset.proofs.next_row.Goals as goal
 
--- what holds of the joined words holds of the common rows
-whole : (b : List ℕ) (at : ℕ) (ws : List ℕ) (mask n from : ℕ) → AreBytes b → Words ws → (r : Next) → IsNext (joined 64 (picked b at ws mask) n) from r →
-    IsNext (common (set_at b at n) (mask_at ws mask n)) from r
-whole b at ws mask n from hb hw r h = subst (λ (s : RowSet). IsNext s from r) (picked_all b at ws mask n hb hw) h
+module _ (b : List ℕ) (at : ℕ) (ws : List ℕ) (mask n from : ℕ) (hb : AreBytes b) where
+  -- what holds of the joined words holds of the common rows
+  whole : Words ws → (r : Option ℕ) → IsNext (joined 64 (picked b at ws mask) n) from r → IsNext (common (set_at b at n) (mask_at ws mask n)) from r
+  whole hw r h = subst (λ (s : RowSet). IsNext s from r) (picked_all b at ws mask n hb hw) h
+
+  -- the word of the row, without the rows below it
+  starts : (w : ℕ) → w ≡ word_at b at (from / 64) → from / 64 < n
+      → Passed (picked b at ws mask) n from (from / 64) ((bit_and w (get_or ws (mask + from / 64) 0) / 2 ^ (from % 64) * 2 ^ (from % 64)) % 2 ^ 64)
+  starts w e l =
+      let f : ℕ → ℕ = picked b at ws mask in
+      let fits = picked_fits b at ws mask hb in
+      let g : ℕ = from % 64 in
+      let x : ℕ = bit_and w (get_or ws (mask + from / 64) 0) in
+      let is : x ≡ f (from / 64) = ap (λ (v : ℕ). bit_and v (get_or ws (mask + from / 64) 0)) e in
+      let small : x < 2 ^ 64 = omega (arith, is, fits (from / 64)) in
+      let m : ℕ = (x / 2 ^ g * 2 ^ g) % 2 ^ 64 in
+      let above : Above x g m = subst (Above x g) (sym (shifts_fit 64 x g small)) (above-shifts x g) in
+      pass-start f fits n from m l (subst (λ (y : ℕ). Above y g m) is above)
+
+  -- the lowest row of word j that is left is the next
+  found : Words ws → (j m : ℕ) → m < 2 ^ 64 → (m ≡ 0 → ⊥) → Passed (picked b at ws mask) n from j m
+      → IsNext (common (set_at b at n) (mask_at ws mask n)) from (Some (64 * j + count_trailing_zeros 64 m))
+  found hw j m small d p =
+      let pos : 0 < m = elim (ℕ_discrete m 0) [ yes e ↦ absurd (d e) | no d ↦ omega arith ] in
+      let low = trailing-lowest 64 m pos small in
+      whole hw (Some _) (pass-found (picked b at ws mask) (picked_fits b at ws mask hb) n from j m _ p low.0 low.1)
 
 pub returns-then-n-start : goal.returns-then-n-start
 returns-then-n-start c =
     let a = c.args in
-    let hb : AreBytes a.b.now = λ i. omega (arith, c.shared_slice_known-1.given i) in
-    let hw : Words a.ws.now = λ i. omega (arith, c.shared_slice_known-2-1.given i) in
-    whole a.b.now a.at a.ws.now a.mask a.n a.from hb hw End
-    (λ k l. joined-beyond a.n (picked a.b.now a.at a.ws.now a.mask) (picked_fits a.b.now a.at a.ws.now a.mask hb) k
-    (omega arith))
+    let hb : AreBytes a.b.now = λ i. omega (arith, c.type_inv.b i) in
+    let hw : Words a.ws.now = λ i. omega (arith, c.type_inv.ws i) in
+    whole a.b.now a.at a.ws.now a.mask a.n a.from hb hw None
+    (λ k l. joined-beyond a.n (picked a.b.now a.at a.ws.now a.mask) (picked_fits a.b.now a.at a.ws.now a.mask hb) k (omega arith))
 
-pub loop-m-init : goal.loop-m-init
-loop-m-init c =
+pub returns-then-m-ne0 : goal.returns-then-m-ne0
+returns-then-m-ne0 c =
     let a = c.args in
-    let hb : AreBytes a.b.now = λ i. omega (arith, c.shared_slice_known-1.given i) in
-    let f : ℕ → ℕ = picked a.b.now a.at a.ws.now a.mask in
-    let g : ℕ = a.from % 64 in
-    let x : ℕ = bit_and c.word.result (get_or a.ws.now (a.mask + a.from / 64) 0) in
-    let e : x ≡ f (a.from / 64) = ap (λ (w : ℕ). bit_and w (get_or a.ws.now (a.mask + a.from / 64) 0)) c.word.ensures in
-    let fit : x < 2 ^ 64 = omega (arith, e, picked_fits a.b.now a.at a.ws.now a.mask hb (a.from / 64)) in
-    let ab : Above x g ((x / 2 ^ g * 2 ^ g) % 2 ^ 64) = subst (Above x g) (sym (shifts_fit 64 x g fit)) (above-shifts x g) in (
-      omega arith,
-      omega arith,
-      omega arith,
-      pass-start f (picked_fits a.b.now a.at a.ws.now a.mask hb) a.n a.from ((x / 2 ^ g * 2 ^ g) % 2 ^ 64) (omega arith)
-          (subst (λ (y : ℕ). Above y g ((x / 2 ^ g * 2 ^ g) % 2 ^ 64)) e ab),
-    )
+    let hb : AreBytes a.b.now = λ i. omega (arith, c.type_inv.b i) in
+    let hw : Words a.ws.now = λ i. omega (arith, c.type_inv.ws i) in
+    found a.b.now a.at a.ws.now a.mask a.n a.from hb hw (a.from / 64) _ (omega arith) c.if-m-ne0.true
+    (starts a.b.now a.at a.ws.now a.mask a.n a.from hb c.word.result c.word.ensures c.if-n-start.false)
 
-pub returns-then-n-j : goal.returns-then-n-j
-returns-then-n-j c =
-    let l = c.loop-m in
+pub loop-j-init : goal.loop-j-init
+loop-j-init c k l h =
     let a = c.args in
-    let hb : AreBytes a.b.now = λ i. omega (arith, c.shared_slice_known-1.given i) in
-    let hw : Words a.ws.now = λ i. omega (arith, c.shared_slice_known-2-1.given i) in
-    whole a.b.now a.at a.ws.now a.mask a.n a.from hb hw End
-    (pass-end (picked a.b.now a.at a.ws.now a.mask) (picked_fits a.b.now a.at a.ws.now a.mask hb) a.n a.from
-    l.j l.m c.loop-m-test.true c.if-n-j.true l.invariant.3)
+    let hb : AreBytes a.b.now = λ i. omega (arith, c.type_inv.b i) in
+    pass-none (picked a.b.now a.at a.ws.now a.mask) (picked_fits a.b.now a.at a.ws.now a.mask hb) a.n a.from (a.from / 64) _ c.if-m-ne0.false
+    (starts a.b.now a.at a.ws.now a.mask a.n a.from hb c.word.result c.word.ensures c.if-n-start.false) k l (omega arith)
 
-pub loop-m-preserved : goal.loop-m-preserved
-loop-m-preserved c =
-    let l = c.loop-m in
+-- word j is passed, or has the next row
+word-passed : (b : List ℕ) (at : ℕ) (ws : List ℕ) (mask n from : ℕ) → AreBytes b → (j w : ℕ) → w ≡ word_at b at j → from / 64 + 1 ≤ j → j < n
+    → ((k : ℕ) → from ≤ k → k < 64 * j → mem k (joined 64 (picked b at ws mask) n) ≡ false)
+    → Passed (picked b at ws mask) n from j (bit_and w (get_or ws (mask + j) 0))
+word-passed b at ws mask n from hb j w e a l none =
+    subst (Passed (picked b at ws mask) n from j) (ap (λ (v : ℕ). bit_and v (get_or ws (mask + j) 0)) (sym e))
+    (pass-word (picked b at ws mask) (picked_fits b at ws mask hb) n from j l (omega arith) none)
+
+pub returns-then-m-ne0-2 : goal.returns-then-m-ne0-2
+returns-then-m-ne0-2 c =
     let a = c.args in
-    let hb : AreBytes a.b.now = λ i. omega (arith, c.shared_slice_known-1.given i) in
-    let f : ℕ → ℕ = picked a.b.now a.at a.ws.now a.mask in
-    let x : ℕ = bit_and c.word-in-loop-m.result (get_or a.ws.now (a.mask + (l.j + 1)) 0) in
-    let e : x ≡ f (l.j + 1) = ap (λ (w : ℕ). bit_and w (get_or a.ws.now (a.mask + (l.j + 1)) 0)) c.word-in-loop-m.ensures in (
-      omega arith,
-      omega arith,
-      omega (arith, e, picked_fits a.b.now a.at a.ws.now a.mask hb (l.j + 1)),
-      subst (Passed f a.n a.from (l.j + 1)) (sym e)
-          (pass-next f (picked_fits a.b.now a.at a.ws.now a.mask hb) a.n a.from l.j l.m c.loop-m-test.true
-          l.invariant.1 (omega arith) l.invariant.3),
-    )
+    let hb : AreBytes a.b.now = λ i. omega (arith, c.type_inv.b i) in
+    let hw : Words a.ws.now = λ i. omega (arith, c.type_inv.ws i) in
+    let w = c.word-in-loop-j in
+    let small : bit_and w.result (get_or a.ws.now (a.mask + c.loop-j.j) 0) < 2 ^ 64 = omega (arith, and_le_l w.result (get_or a.ws.now (a.mask + c.loop-j.j) 0), w.type_inv) in
+    found a.b.now a.at a.ws.now a.mask a.n a.from hb hw c.loop-j.j _ small c.if-m-ne0-2.true
+    (word-passed a.b.now a.at a.ws.now a.mask a.n a.from hb c.loop-j.j w.result w.ensures (omega arith) c.loop-j-test.true c.loop-j.invariant)
 
-pub overflow_cast-result : goal.overflow_cast-result
-overflow_cast-result c = omega (arith, trailing_le 64 c.loop-m.m)
-
-pub overflow_add-result : goal.overflow_add-result
-overflow_add-result c = omega (arith, trailing_le 64 c.loop-m.m)
+pub loop-j-preserved : goal.loop-j-preserved
+loop-j-preserved c k l h =
+    let a = c.args in
+    let hb : AreBytes a.b.now = λ i. omega (arith, c.type_inv.b i) in
+    let w = c.word-in-loop-j in
+    pass-none (picked a.b.now a.at a.ws.now a.mask) (picked_fits a.b.now a.at a.ws.now a.mask hb) a.n a.from c.loop-j.j _ c.if-m-ne0-2.false
+    (word-passed a.b.now a.at a.ws.now a.mask a.n a.from hb c.loop-j.j w.result w.ensures (omega arith) c.loop-j-test.true c.loop-j.invariant)
+    k l (omega arith)
 
 pub returns : goal.returns
 returns c =
-    let l = c.loop-m in
     let a = c.args in
-    let hb : AreBytes a.b.now = λ i. omega (arith, c.shared_slice_known-1.given i) in
-    let hw : Words a.ws.now = λ i. omega (arith, c.shared_slice_known-2-1.given i) in
-    let pos : 0 < l.m = elim (ℕ_discrete l.m 0) [ yes e ↦ absurd (c.loop-m-test.false e) | no d ↦ omega arith ] in
-    let low = trailing-lowest 64 l.m pos l.invariant.2 in
-    whole a.b.now a.at a.ws.now a.mask a.n a.from hb hw (At _)
-    (pass-found (picked a.b.now a.at a.ws.now a.mask) (picked_fits a.b.now a.at a.ws.now a.mask hb) a.n a.from
-    l.j l.m _ l.invariant.3 low.0 low.1)
+    let hb : AreBytes a.b.now = λ i. omega (arith, c.type_inv.b i) in
+    let hw : Words a.ws.now = λ i. omega (arith, c.type_inv.ws i) in
+    whole a.b.now a.at a.ws.now a.mask a.n a.from hb hw None
+    (pass-all (picked a.b.now a.at a.ws.now a.mask) (picked_fits a.b.now a.at a.ws.now a.mask hb) a.n a.from c.loop-j.j c.loop-j-test.false c.loop-j.invariant)

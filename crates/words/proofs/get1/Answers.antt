@@ -1,6 +1,6 @@
 -- `words::get1` meets its contract: a byte is the number of one byte.
 -- Assumes nothing.
-use mathlib.Core.Path.{sym}
+use Rattle.std.proofs.Common.{sym}
 use Rattle.words.specs.WordLaws.{le_at-one}
 use Rattle.words.proofs.get1.Goals as goal
 

@@ -1,11 +1,7 @@
--- `words::get2` meets its contract: the two bytes that it reads make the number.
+-- `words::get2` meets its contract: std makes the number of the bytes from the place on.
 -- Assumes nothing.
-use Prim.Native.Nat.{◌+◌}
-use native.Mathlib.Omega.{arith}
-use Rattle.words.specs.WordLaws.{le_at-one, le_at-add}
+use Rattle.words.specs.WordLaws.{taken-le_at}
 use Rattle.words.proofs.get2.Goals as goal
 
 pub returns : goal.returns
-returns c =
-    let a = c.args in
-    omega (arith, le_at-add a.b.now a.at 1 1, le_at-one a.b.now a.at, le_at-one a.b.now (a.at + 1))
+returns c = let read = taken-le_at c.args.b.now c.args.at 1 in cc

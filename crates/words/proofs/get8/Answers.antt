@@ -1,11 +1,7 @@
--- `words::get8` meets its contract: the four numbers of two bytes that it reads make the number.
+-- `words::get8` meets its contract: std makes the number of the bytes from the place on.
 -- Assumes nothing.
-use native.Mathlib.Omega.{arith}
-use Rattle.words.specs.WordLaws.{le_at-add}
+use Rattle.words.specs.WordLaws.{taken-le_at}
 use Rattle.words.proofs.get8.Goals as goal
 
 pub returns : goal.returns
-returns c =
-    let a = c.args in
-    let add = le_at-add a.b.now a.at in
-    omega (arith, add 2 2, add 4 2, add 6 2)
+returns c = let read = taken-le_at c.args.b.now c.args.at 7 in cc

@@ -40,12 +40,6 @@ offset_bounds-out-code-in-loop-code c = omega (arith, c.loop-code-test.true)
 pub bounds-out-code-in-loop-code : goal.bounds-out-code-in-loop-code
 bounds-out-code-in-loop-code c = omega (arith, c.loop-code.invariant.2.longs, c.requires.2, c.loop-code-test.true)
 
-pub overflow_add-code : goal.overflow_add-code
-overflow_add-code c = omega (arith, c.loop-code-test.true)
-
-pub loop-code-smaller : goal.loop-code-smaller
-loop-code-smaller c = omega (arith, c.loop-code-test.true)
-
 pub loop-code-preserved : goal.loop-code-preserved
 unfolding mem union
 loop-code-preserved c =

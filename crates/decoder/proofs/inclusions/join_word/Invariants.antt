@@ -1,6 +1,6 @@
 -- `decoder::inclusions::join_word` meets its contract: the invariant is that the masks so far have joined.
 use mathlib.Core.Path.{◌≡◌}
-use Prim.Native.Nat.{◌+◌, ◌-◌, ◌≤◌}
+use Prim.Native.Nat.{◌+◌, ◌≤◌}
 use lib.ListN.{get_or}
 use Rattle.problem.specs.Layout.{narrows_at, role_place}
 use Rattle.decoder.specs.Chaining.{JoinsWord}
@@ -10,6 +10,3 @@ abbrev pub invariant-loop-code : goal.invariant-loop-code
 invariant-loop-code l = (l.narrower ≡ get_or l.initial.out (narrows_at + l.narrow) 0) × (l.reached ≡ get_or l.initial.out (role_place l.wide + l.j) 0) ×
     (l.code ≤ 32)
     × JoinsWord l.j l.code l.narrow l.wide l.initial.out l.out
-
-abbrev pub decreases-loop-code : goal.decreases-loop-code
-decreases-loop-code l = 32 - l.code
