@@ -25,15 +25,20 @@ unfolding range
 range-is i zero = refl
 range-is i (suc n) = ap (λ (xs : List ℕ). i ∷ xs) (range-is (i + 1) n ∙ ap (λ (j : ℕ). range j n) (add-one i))
 
+-- what `any` says of its calls of a test f that answers r: f was false at each item before the one that it ended at
+abbrev Ran : {S A F : Type 0} → (S → Option A → S → Type 0) → Mut F (A × Unit {0}) Bool → S → F → Bool → S → Type 0
+Ran {S} {A} {F} steps g s f r u =
+    (xs : List A) × (o : Option A) × (j : F) × YieldsThen steps s xs o u × FoldsTo (λ p x q. Called g p (x, tt) false q) f xs j
+    × MatchOption o (r ≡ false) (λ x. (r ≡ true) × ((h : F) × Called g j (x, tt) true h))
+
 module _ {F : Type 0} {f : F} {r : Bool} (test : ℕ → Bool) where
   pub any-range : {g : Mut F (ℕ × Unit {0}) Bool} {u : Range ℕ} {m : ℕ} (n : ℕ) → m ≡ n
-      → (xs : List ℕ) × (o : Option ℕ) × (j : F) × YieldsThen nat_range_steps (record { start = 0; end = m }) xs o u × FoldsTo (λ p x q. Called g p (x, tt) false q) f xs j × MatchOption o (r ≡ false) (λ x. (r ≡ true) × ((h : F) × Called g j (x, tt) true h))
+      → Ran nat_range_steps g (record { start = 0; end = m }) f r u
       → ((x : ℕ) (b : Bool) (q : F) → Called g f (x, tt) b q → (q ≡ f) × (b ≡ test x)) → r ≡ any test (range 0 n)
   any-range {u = u} {m = m} n e ran each =
       any_from_yields_List test u f r ran (YieldsList-from_range 0 m n refl (omega arith)) each
       ∙ list_any-is test (range_with_len 0 n) ∙ ap (any test) (range-is 0 n)
 
-  pub any-slice : {g : Mut F (Bor ℕ × Unit {0}) Bool} {s u : Iter ℕ} (ys : List ℕ) → iter_rest s ≡ ys
-      → (xs : List (Bor ℕ)) × (o : Option (Bor ℕ)) × (j : F) × YieldsThen fronts s xs o u × FoldsTo (λ p x q. Called g p (x, tt) false q) f xs j × MatchOption o (r ≡ false) (λ x. (r ≡ true) × ((h : F) × Called g j (x, tt) true h))
+  pub any-slice : {g : Mut F (Bor ℕ × Unit {0}) Bool} {s u : Iter ℕ} (ys : List ℕ) → iter_rest s ≡ ys → Ran fronts g s f r u
       → ((x : Bor ℕ) (b : Bool) (q : F) → Called g f (x, tt) b q → (q ≡ f) × (b ≡ test x.now)) → r ≡ any test ys
   any-slice {u = u} ys e ran each = any_from_yields_List test u f r ran (YieldsList-from_slice ys e) each ∙ list_any-is test ys

@@ -25,6 +25,9 @@ module _ (b : Bytes) where
       let next = NoneBelow-suc (refuses_at rule_kinds [] b) in
       parted rule_kinds [] b (next 3 (next 2 (next 1 (first_passed e₁) e₂) e₃) e₄) (omega arith)
 
+-- for the tactics
+pub ruleset passed = (long_passed, parted_passed)
+
 abbrev else : {B : Type 0} → Option B → Option B → Option B
 else o p = elim o [ None ↦ p | Some y ↦ Some y ]
 

@@ -101,6 +101,7 @@ fn rule(file: &[u8], i: usize) -> u8
 }
 
 // Whether the file is shorter than 8 or longer than 4,096 bytes: check 1.
+#[tactic(auto, unfolding(rulefile::specs::Format::bad_length))]
 fn bad_length(file: &[u8]) -> bool
     ensures { result ≡ Format.bad_length file.now }
 {
@@ -108,6 +109,7 @@ fn bad_length(file: &[u8]) -> bool
 }
 
 // Whether the last three bytes are not 46 49 54: check 2.
+#[tactic(auto, unfolding(rulefile::specs::Format::bad_mark))]
 fn bad_mark(file: &[u8]) -> bool
     requires { 8 ≤ length file.now }
     ensures { result ≡ Format.bad_mark file.now }
@@ -117,6 +119,7 @@ fn bad_mark(file: &[u8]) -> bool
 }
 
 // Whether there are 0 rows, or more rows or rules than a file has at most: check 3.
+#[tactic(auto, unfolding(rulefile::specs::Format::bad_counts))]
 fn bad_counts(file: &[u8]) -> bool
     requires { 8 ≤ length file.now }
     ensures { result ≡ Format.bad_counts file.now }
@@ -126,6 +129,7 @@ fn bad_counts(file: &[u8]) -> bool
 }
 
 // Whether the parts don't fill the file: check 4.
+#[tactic(auto, unfolding(rulefile::specs::Format::bad_place))]
 fn bad_place(file: &[u8]) -> bool
     requires { 8 ≤ length file.now }
     ensures { result ≡ Format.bad_place file.now }
@@ -221,6 +225,7 @@ fn past_rows(file: &[u8], list: &[u8]) -> bool
 }
 
 // Whether a rule or a wanted row isn't below the number of rows: check 8.
+#[tactic(auto, unfolding(rulefile::specs::Format::bad_rule))]
 fn bad_rule(file: &[u8], wanted: &[u8]) -> bool
     requires { Parted file.now }
     ensures { result ≡ Format.bad_rule wanted.now file.now }
@@ -236,6 +241,7 @@ fn refuse_if(test: bool, refusal: Refusal) -> Result<(), Refusal>
 }
 
 // Checks 1 to 4: after them the parts are known to fill the file.
+#[tactic(auto, using(crate::proofs::RefusalLaws::passed), unfolding(rulefile::specs::Format::checks, concepts::specs::Lists::first))]
 fn check_parts(file: &[u8]) -> Result<(), Refusal>
     ensures refusal { (kinds : Kinds) (wanted : List ℕ) → refusal_of result ≡ Format.refusal_by (take 4 (Format.checks kinds wanted)) file.now }
     ensures parted { OnOk result (Parted file.now) }
@@ -247,6 +253,7 @@ fn check_parts(file: &[u8]) -> Result<(), Refusal>
 }
 
 // Checks 5 to 8 and 16.
+#[tactic(auto, unfolding(rulefile::specs::Format::checks, concepts::specs::Lists::first))]
 fn check_rows(file: &[u8], kinds: u16, wanted: &[u8]) -> Result<(), Refusal>
     requires { Parted file.now }
     ensures { refusal_of result ≡ Format.refusal_by (drop 4 (Format.checks kinds wanted.now)) file.now }

@@ -1,6 +1,7 @@
 -- The parts of an accepted file.
 --
--- In order: what the reader answered; the layout; what the checks found; a file with its layout; its rows, rules and wanted row stand where the layout says; its text.
+-- In order: what the reader answered; the layout; what the checks found; a file with its layout; its rows, rules and wanted row stand where the layout
+-- says; its text.
 use Rattle.std.specs.Prelude.{◌≡◌, refl, List, [], ◌∷◌, map, ℕ, ◌+◌, ◌-◌, ◌*◌, ◌≤◌, length, get_or, take, drop, None, Some, Ok, Err}
 use Rattle.std.proofs.Common.{sym, ap, ◌∙◌, arith, length-take-le}
 use Rattle.concepts.specs.Tests.{impossible}

@@ -5,4 +5,6 @@ use Rattle.checks.proofs.AnyLaws.{any-slice}
 use Rattle.checks.proofs.past_rows.Goals as goal
 
 pub returns : goal.returns
-returns c = any-slice (leb (row_count c.args.file.now)) c.args.list.now (cc) c.any.ensures.ran (λ x b q k. search (rules, tests))
+returns c =
+    any-slice (leb (row_count c.args.file.now)) c.args.list.now (cc) c.any.ensures.ran
+    (λ x b q k. search (rules, tests))

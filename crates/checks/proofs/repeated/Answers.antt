@@ -6,4 +6,6 @@ use Rattle.checks.proofs.repeated.Goals as goal
 
 pub returns : goal.returns
 unfolding repeated
-returns c = any-range (same_row c.args.file.now c.args.k) c.args.k refl c.any.ensures.ran (λ x b q k. search (rules, tests))
+returns c =
+    any-range (same_row c.args.file.now c.args.k) c.args.k refl c.any.ensures.ran
+    (λ x b q k. search (rules, tests))

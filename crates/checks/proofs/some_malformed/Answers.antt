@@ -5,4 +5,6 @@ use Rattle.checks.proofs.AnyLaws.{any-range}
 use Rattle.checks.proofs.some_malformed.Goals as goal
 
 pub returns : goal.returns
-returns c = any-range (bad_row c.args.kinds c.args.file.now) (row_count c.args.file.now) c.row_count.ensures c.any.ensures.ran (λ x b q k. search (rules, tests))
+returns c =
+    any-range (bad_row c.args.kinds c.args.file.now) (row_count c.args.file.now) c.row_count.ensures c.any.ensures.ran
+    (λ x b q k. search (rules, tests))

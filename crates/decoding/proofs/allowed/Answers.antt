@@ -13,4 +13,5 @@ returns-then-kind-lt16 c = search rules
 pub returns-else-kind-lt16 : goal.returns-else-kind-lt16
 returns-else-kind-lt16 c =
     let a = c.args in
-    le-ltb a.kind 16 c.if-kind-lt16.false ∙ sym (as-false (mem a.kind a.kinds) (not_T (mem a.kind a.kinds) (λ m. omega (arith, mem-lt 16 a.kind a.kinds (omega arith) m))))
+    le-ltb a.kind 16 c.if-kind-lt16.false
+    ∙ sym (as-false (mem a.kind a.kinds) (not_T (mem a.kind a.kinds) (λ m. omega (arith, mem-lt 16 a.kind a.kinds (omega arith) m))))

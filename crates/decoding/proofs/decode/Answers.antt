@@ -34,29 +34,34 @@ returns-in_err-of c =
 pub returns-in-Atomic : goal.returns-in-Atomic
 returns-in-Atomic c =
     let a = c.args in
-    let known = of_kind a.kinds a.kind a.role a.left a.right _ _ c.allowed.ensures c.if-not-allowed.false c.of.ensures c.in_ok-of.was c.then_some.ensures in
+    let known = of_kind a.kinds a.kind a.role a.left a.right _ _ c.allowed.ensures c.if-not-allowed.false c.of.ensures c.in_ok-of.was
+    c.then_some.ensures in
     elim c.in-Atomic.is [ inl k ↦ known (rw k refl) | inr k ↦ known (rw k refl) ]
 
 pub returns-in-Conj : goal.returns-in-Conj
 returns-in-Conj c =
     let a = c.args in
-    let known = of_kind a.kinds a.kind a.role a.left a.right _ _ c.allowed.ensures c.if-not-allowed.false c.of.ensures c.in_ok-of.was c.then_some-in-Conj.ensures in
+    let known = of_kind a.kinds a.kind a.role a.left a.right _ _ c.allowed.ensures c.if-not-allowed.false c.of.ensures c.in_ok-of.was
+    c.then_some-in-Conj.ensures in
     elim c.in-Conj.is [ inl k ↦ known (rw k refl) | inr (inl k) ↦ known (rw k refl) | inr (inr k) ↦ known (rw k refl) ]
 
 pub returns-in-Univ : goal.returns-in-Univ
 returns-in-Univ c =
     let a = c.args in
-    let known = of_kind a.kinds a.kind a.role a.left a.right _ _ c.allowed.ensures c.if-not-allowed.false c.of.ensures c.in_ok-of.was c.then_some-in-Univ.ensures in
+    let known = of_kind a.kinds a.kind a.role a.left a.right _ _ c.allowed.ensures c.if-not-allowed.false c.of.ensures c.in_ok-of.was
+    c.then_some-in-Univ.ensures in
     elim c.in-Univ.is [ inl k ↦ known (rw k refl) | inr k ↦ known (rw k refl) ]
 
 pub returns-in-Inclusion : goal.returns-in-Inclusion
 returns-in-Inclusion c =
     let a = c.args in
-    of_kind a.kinds a.kind a.role a.left a.right _ _ c.allowed.ensures c.if-not-allowed.false c.of.ensures c.in_ok-of.was c.then_some-in-Inclusion.ensures
+    of_kind a.kinds a.kind a.role a.left a.right _ _ c.allowed.ensures c.if-not-allowed.false c.of.ensures c.in_ok-of.was
+    c.then_some-in-Inclusion.ensures
     (rw c.in-Inclusion.is refl)
 
 pub returns-in-Neg : goal.returns-in-Neg
 returns-in-Neg c =
     let a = c.args in
-    of_kind a.kinds a.kind a.role a.left a.right _ _ c.allowed.ensures c.if-not-allowed.false c.of.ensures c.in_ok-of.was c.then_some-in-Neg.ensures
+    of_kind a.kinds a.kind a.role a.left a.right _ _ c.allowed.ensures c.if-not-allowed.false c.of.ensures c.in_ok-of.was
+    c.then_some-in-Neg.ensures
     (rw c.in-Neg.is refl)

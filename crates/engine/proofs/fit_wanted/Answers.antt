@@ -1,6 +1,6 @@
 -- `engine::fit_wanted` meets its contract: the promise, for every file and all wanted rows.
 use mathlib.Core.Path.{sym, ap, ◌∙◌}
-use Rattle.run.specs.Run.{areas_of}
+use Rattle.run.specs.Run.{areas_of, refused_with}
 use Rattle.decoding.specs.Decoding.{rule_kinds}
 use Rattle.reader.specs.Read.{numbered}
 use Rattle.reader.specs.PartLaws.{reads-refused, reads-accepted}
@@ -15,7 +15,7 @@ returns-in-Err c =
     refused-answered c.args.wanted.now c.args.file.now
     (areas_of c.args.nodes.now c.args.edges.now c.args.alternatives.now c.args.elements.now c.args.links.now)
     _ (reads-refused rule_kinds c.args.wanted.now c.args.file.now _
-    (ap numbered (sym c.in-Err.is) ∙ c.read_for.ensures)) _ (c.refused.ensures ∙ ?)
+    (ap numbered (sym c.in-Err.is) ∙ c.read_for.ensures)) _ (c.refused.ensures ∙ ap refused_with c.number.ensures)
 
 pub returns-in-Ok : goal.returns-in-Ok
 returns-in-Ok c =

@@ -5,4 +5,6 @@ use Rattle.checks.proofs.AnyLaws.{any-range}
 use Rattle.checks.proofs.inclusions.inclusion_named.Goals as goal
 
 pub returns : goal.returns
-returns c = any-range (inclusion_named c.args.kinds c.args.file.now) (row_count c.args.file.now) c.row_count.ensures c.any.ensures.ran (λ x b q k. search (rules, tests))
+returns c =
+    any-range (inclusion_named c.args.kinds c.args.file.now) (row_count c.args.file.now) c.row_count.ensures c.any.ensures.ran
+    (λ x b q k. search (rules, tests))
