@@ -7,7 +7,8 @@ use Rattle.concepts.specs.Lists.{Bytes}
 use Rattle.words.specs.Sizes.{node_size, edge_size, alternative_size, most_records}
 use Rattle.records.specs.Areas.{Within, Beside}
 use Rattle.records.specs.AreaLaws.{within-beside, within_wider, within-then, beside-refl, beside-wider, beside-then}
-use Rattle.records.specs.Layout.{node_extent, node_chains, children_at, parents_at, alternatives_at, node_free, edge_extent, to_at, edge_chains, alternative_extent}
+use Rattle.records.specs.Layout.{node_extent, node_chains, children_at, parents_at, alternatives_at, node_free}
+use Rattle.records.specs.Layout.{edge_extent, to_at, edge_chains, alternative_extent}
 use Rattle.chains.specs.ChainLaws.{chain-empty}
 use Rattle.chains.specs.Places.{key_in, ChainIn, Sits, Appended, Begun}
 use Rattle.chains.specs.PlaceLaws.{chain-beside, chain-past, chain-appended, chain-blank}

@@ -248,13 +248,13 @@ module _ {n e a : Bytes} {c d : Counts} (H : Held (work n e a) d) (grown : Count
     state-there : x < d.nodes
     state-there = omega (arith, walks.node, grown.nodes)
 
-    alternative-next : i < c.alternatives → IsNextAlternative a (Some i) from c.alternatives (alternatives_from g x) (AmongAlternatives g x)
+    pub alternative-next : i < c.alternatives → IsNextAlternative a (Some i) from c.alternatives (alternatives_from g x) (AmongAlternatives g x)
     unfolding alternatives_from graph_of alternative_in
     alternative-next h =
         along-next alternative_places alternative_in (λ (d : G.Alternative). d.owner) (λ (d : G.Alternative). d.rows) no_alternative (λ b j. refl) n a
         H.chains.alternatives state-there grown.alternatives walks.place o s h
 
-    alternative-end : c.alternatives ≤ i → IsNextAlternative a None from c.alternatives (alternatives_from g x) (AmongAlternatives g x)
+    pub alternative-end : c.alternatives ≤ i → IsNextAlternative a None from c.alternatives (alternatives_from g x) (AmongAlternatives g x)
     unfolding alternatives_from graph_of alternative_in
     alternative-end h =
         along-end alternative_places alternative_in (λ (d : G.Alternative). d.owner) (λ (d : G.Alternative). d.rows) no_alternative (λ b j. refl) n a

@@ -1,7 +1,8 @@
 // The graph of the procedure in three lent areas, of nodes, of edges and of alternatives (01, The procedure; Areas).
 //
 // In order: the values; the chains; the records that belong to a node, one after another; adding a record; changing a node; searches.
-// How a record stands in bytes is in crate records, and what a chain is in crate chains.
+// How a record stands in bytes is in crate records, and what a chain is in crate chains. Records name each other by index: the areas are lent by
+// callers in C, and nothing is allocated.
 #![tactic(auto)]
 
 ghost use Rattle.std.specs.Prelude.{◌≡◌, ◌≤◌, ◌<◌};
@@ -80,7 +81,7 @@ fn next(nodes: &[u8], area: &[u8], chain: Places, count: u16, x: u16, from: usiz
 }
 
 // The first edge from place `from` on that starts at x, by its index, with its end. This and the next two share `next`; what is left of each is
-// its chain, which its contract speaks of.
+// its chain, which its contract speaks of. No iterator: between two steps the tableau writes in the areas, which an iterator would keep borrowed.
 pub fn next_child(
     nodes: &[u8],
     edges: &[u8],
@@ -141,7 +142,8 @@ fn place(len: usize, size: usize, count: u16, area: Area) -> Result<usize, Area>
     }
 }
 
-// Adds a node with the set s at the end. It shares `place` with the next two, which write other records into other chains. It has no children, no parents and no alternatives.
+// Adds a node with the set s at the end. It has no children, no parents and no alternatives.
+// Adding a node, an edge and an alternative share `place`; what is left of each is what it writes, and into which chains.
 pub fn add_node(nodes: &mut [u8], c: Counts, s: &[u8; SET_BYTES], n: Node) -> Result<Counts, Area>
     ensures { Graphs.AddsNode nodes.old nodes.new c result (λ k g. add_node k (Records.node_of (set_of s.now 0) n) g) }
 {

@@ -18,4 +18,5 @@ add_child x n k g = G.◌>>=◌ (G.add_node k n g) (G.add_edge k x (G.node_count
 
 -- a special node, lapsed and small; what it lacks; and the edge to the node
 abbrev pub add_lapsed : ℕ → ℕ → ℕ → RowSet → RowSet → Operation
-add_lapsed x p ρ s lacked k g = G.◌>>=◌ (G.◌>>=◌ (G.add_node k (below p ρ s toosmall G.lapsed) g) (join_alternatives k p lacked)) (G.add_edge k x (G.node_count g))
+add_lapsed x p ρ s lacked k g =
+    G.◌>>=◌ (G.◌>>=◌ (G.add_node k (below p ρ s toosmall G.lapsed) g) (join_alternatives k p lacked)) (G.add_edge k x (G.node_count g))

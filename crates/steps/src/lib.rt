@@ -220,7 +220,7 @@ fn judge_by(nodes: &mut [u8], edges: &[u8], c: Counts, x: u16, table: &Table, st
     set_status(nodes, c, x as usize, v);
 }
 
-// Judges x as a branch or a lapsed special node.
+// Judges x as a branch or a lapsed special node. This and the next choose the table and the start, as the definitions do.
 pub fn judge_branch(nodes: &mut [u8], edges: &[u8], c: Counts, x: u16)
     requires { Tables.Judges nodes.old edges.now c x }
     ensures { Tables.JudgesAs nodes.old nodes.new edges.now c (Tableau.judge_branch x) }

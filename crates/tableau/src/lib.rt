@@ -1,6 +1,7 @@
 // The tableau over lent areas (01, The procedure).
 //
-// In order: putting a set; judging a node, and what a linked one takes; the alternatives of a small state. They call each other: the rows missing from the set fall.
+// In order: putting a set; judging a node, and what a linked one takes; the alternatives of a small state. They call each other: the rows missing
+// from the set fall.
 #![tactic(auto)]
 
 ghost use Rattle.std.specs.Prelude.{◌≡◌, ◌+◌, ◌*◌, ◌≤◌, ◌<◌, length};
