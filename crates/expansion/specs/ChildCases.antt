@@ -1,7 +1,7 @@
 -- The ways to put the children of a node, on plain values.
 --
 -- In order: the put of a set made of the node's own; a conjunction (`Both`), or none; a disjunction (`Either`), with two puts, or none; a state; the root.
-use Rattle.std.specs.Prelude.{◌≡◌, List, ◌≢◌, Option, Some}
+use Rattle.std.specs.Prelude.{◌≡◌, List, ◌≢◌, Option, Some, Ok, Err}
 use Rattle.std.proofs.Math.Path.{refl, ap}
 use Rattle.std.proofs.Common.{sym, ◌∙◌, subst}
 use Prim.Native.Nat.{ℕ, zero, suc, ◌*◌, ◌<◌}
@@ -20,13 +20,11 @@ use Rattle.records.specs.declared.Node as D
 use Rattle.rowset.specs.SetOf.{set_of}
 use Rattle.settests.specs.Answers.{found_of}
 use Rattle.settests.specs.declared.Found.{Found}
-use Rattle.graph.specs.Graphs.{Work, work, graph_of, capacity_of, Operation, Refines}
+use Rattle.graph.specs.Graphs.{Work, work, graph_of, capacity_of, Operation, Step, Refines}
 use Rattle.graph.specs.GraphLaws.{sized-refl}
 use Rattle.graph.specs.RefineLaws.{refines-as, refines-then, refines-short}
 use Rattle.graph.specs.declared.Counts.{Counts}
 use Rattle.graph.specs.declared.Area.{Area}
-use Rattle.graph.specs.declared.Step.{Step}
-use Rattle.graph.specs.declared.Step.TheVariants.{Done, Full}
 use Rattle.tableau.specs.Clauses.{PutAsks, PutGives}
 use Rattle.expansion.specs.Clauses.{ExpandAsks, DisjAsks, StateAsks, KitGives, SuccessorsGives, StateGives, DisjGives, ConjGives}
 use Rattle.expansion.specs.PutCases.{P, cap, g, row_fits, Now, now-start, growing-start, MayPut, expand-loaded, expand-set, now-asks, now-gives}
@@ -151,7 +149,7 @@ module _ {ws : List ℕ} {n e a : Bytes} {c : Counts} {x : ℕ} {A : DisjAsks ws
 
   -- the left is put
   pub record Second (w₁ : Work) (d : Counts) : Type 0 where
-    pub left : Refines (work n e a) c (Done d) w₁ (with_row l)
+    pub left : Refines (work n e a) c (Ok d) w₁ (with_row l)
     pub now : Now A.node w₁ d
 
   may-left : MayPut N (g N) (node_at (g N) x).pst (node_at (g N) x).prl (insert l (node_at (g N) x).rows)
@@ -165,10 +163,10 @@ module _ {ws : List ℕ} {n e a : Bytes} {c : Counts} {x : ℕ} {A : DisjAsks ws
       left-given : PutGives ws (work n e a) c x (node_at (g N) x).pst (node_at (g N) x).prl (insert l (node_at (g N) x).rows) z w₁
       left-given = set_given v E.loaded (now-start N) (insert l) may-left eσ G
 
-      pub left-short : {p : Area} → z ≡ Full p → DisjGives ws (work n e a) c x (Full p) w₁
+      pub left-short : {p : Area} → z ≡ Err p → DisjGives ws (work n e a) c x (Err p) w₁
       left-short er = refines-as (refines-short (now-gives (now-start N) may-left left-given er) (λ u. with_row r) sized-refl) disj-is
 
-      pub left-done : {d : Counts} → z ≡ Done d → Second w₁ d
+      pub left-done : {d : Counts} → z ≡ Ok d → Second w₁ d
       left-done er = record { left = now-gives (now-start N) may-left left-given er; now = now-put (now-start N) may-left left-given er }
 
 module _ {ws : List ℕ} {n e a : Bytes} {c : Counts} {x : ℕ} {A : DisjAsks ws (work n e a) c x} {v : D.Node} {l r : ℕ} {E : Either A v l r}

@@ -7,9 +7,8 @@ use Rattle.procedure.specs.Graph.{node_at}
 use Rattle.procedure.specs.Tableau.{put_kit, put_successors, expand_state, expand_disj, expand_conj, expand}
 use Rattle.procedure.proofs.ExpandFit.{Expands}
 use Rattle.problem.specs.Decoded.{table_of, problem_of, Decoded}
-use Rattle.graph.specs.Graphs.{Work, graph_of, capacity_of, Held, Refines}
+use Rattle.graph.specs.Graphs.{Work, graph_of, capacity_of, Held, Step, Refines}
 use Rattle.graph.specs.declared.Counts.{Counts}
-use Rattle.graph.specs.declared.Step.{Step}
 
 -- ---- what is asked
 

@@ -1,6 +1,6 @@
 -- The cases of a whole expansion, on plain values: the children (`WithChildren`), the judgement (`WithStatus`), and then a node that is merely open,
 -- or the updates.
-use Rattle.std.specs.Prelude.{◌≡◌, refl, true, List, ℕ, suc, ◌<◌, length}
+use Rattle.std.specs.Prelude.{◌≡◌, refl, true, List, ℕ, suc, ◌<◌, length, Ok, Err}
 use Rattle.std.proofs.Common.{sym, ap, ◌∙◌, subst, arith}
 use Rattle.concepts.specs.Lists.{Bytes}
 use Rattle.concepts.specs.Tests.{from-true}
@@ -16,13 +16,11 @@ use Rattle.procedure.proofs.ExpandFit.{judge-fit, judged-fit, open-unmoved}
 use Rattle.words.specs.Sizes.{node_size}
 use Rattle.problem.specs.Decoded.{table_of, problem_of}
 use Rattle.records.specs.Areas.{Fits}
-use Rattle.graph.specs.Graphs.{Work, work, graph_of, capacity_of, Held, Operation, Refines}
+use Rattle.graph.specs.Graphs.{Work, work, graph_of, capacity_of, Held, Operation, Step, Refines}
 use Rattle.graph.specs.GraphLaws.{sized-refl, sized-places, count-nodes, held-node}
 use Rattle.graph.specs.RefineLaws.{refines-answer, refines-as, refines-held, refines-then, refines-short, refines-none}
 use Rattle.graph.specs.declared.Counts.{Counts}
 use Rattle.graph.specs.declared.Area.{Area}
-use Rattle.graph.specs.declared.Step.{Step}
-use Rattle.graph.specs.declared.Step.TheVariants.{Done, Full}
 use Rattle.tableau.specs.Clauses.{JudgeAsks, JudgeGives}
 use Rattle.updates.specs.Clauses.{UpdateAsks, ParentsGives}
 use Rattle.updates.specs.UpdateCases.{Loaded, loaded-open}
@@ -42,23 +40,23 @@ module _ {ws : List ℕ} {w : Work} {c : Counts} {x : ℕ} (A : ExpandAsks ws w 
 
   -- the children are put
   pub record WithChildren (w₁ : Work) (d : Counts) : Type 0 where
-    pub gives : Refines w c (Done d) w₁ children
+    pub gives : Refines w c (Ok d) w₁ children
 
   -- and the node is judged
   pub record WithStatus (w₂ : Work) (b : Counts) : Type 0 where
-    pub gives : Refines w c (Done b) w₂ (λ k u. children k u >>= judging k)
+    pub gives : Refines w c (Ok b) w₂ (λ k u. children k u >>= judging k)
     pub fit : Fit (problem_of ws) (capacity_of w) (graph_of w₂ b)
     pub there : x < node_count (graph_of w₂ b)
     -- where it is merely open, updates change nothing
     pub unmoved : (node_at (graph_of w₂ b) x).status ≡ «open» → updating (capacity_of w) (graph_of w₂ b) ≡ reached (graph_of w₂ b)
 
   module _ {w₁ : Work} {r : Step} (K : ConjGives ws w c x r w₁) where
-    pub children-short : {p : Area} → r ≡ Full p → ExpandGives ws w c x (Full p) w₁
+    pub children-short : {p : Area} → r ≡ Err p → ExpandGives ws w c x (Err p) w₁
     children-short er =
         refines-as (refines-short (refines-short (refines-answer K er) (λ u. judging) sized-refl) (λ u. updating) sized-refl)
         (expand-is (P A) (cap A) x (g A))
 
-    pub children-done : {d : Counts} → r ≡ Done d → WithChildren w₁ d
+    pub children-done : {d : Counts} → r ≡ Ok d → WithChildren w₁ d
     children-done er = record { gives = refines-answer K er }
 
 -- ---- the judgement
@@ -85,10 +83,10 @@ module _ {ws : List ℕ} {w : Work} {c : Counts} {x : ℕ} {A : ExpandAsks ws w 
     both : {z : Step} → r ≡ z → Refines w c z w₂ (λ k u. children A k u >>= judging A k)
     both er = refines-then K.gives (λ u. judging A) (judged er)
 
-    pub judge-short : {p : Area} → r ≡ Full p → ExpandGives ws w c x (Full p) w₂
+    pub judge-short : {p : Area} → r ≡ Err p → ExpandGives ws w c x (Err p) w₂
     judge-short er = refines-as (refines-short (both er) (λ u. updating A) sized-refl) (expand-is (P A) (cap A) x (g A))
 
-    pub judge-done : {b : Counts} → r ≡ Done b → WithStatus A w₂ b
+    pub judge-done : {b : Counts} → r ≡ Ok b → WithStatus A w₂ b
     judge-done {b} er =
         let q = (judged er).meets ∙ ap (λ (k : Capacity). judging A k h) places in
         let (f, l) = judged-fit A.expands h (sym K.gives.meets) (graph_of w₂ b) (sym q) in
@@ -123,7 +121,7 @@ module _ {ws : List ℕ} {w : Work} {c : Counts} {x : ℕ} {A : ExpandAsks ws w 
   judged-fits = held-node held still
 
   -- the node is merely open
-  pub judged-open : Loaded n₂ x true → ExpandGives ws w c x (Done b) (work n₂ e₂ a₂)
+  pub judged-open : Loaded n₂ x true → ExpandGives ws w c x (Ok b) (work n₂ e₂ a₂)
   judged-open L =
       let v = (node_at (graph_of w₂ b) x).status in
       let o = is_open_lem v (from-true (is_open v) (loaded-open w₂ b still L)) in

@@ -1,5 +1,5 @@
 -- The puts of one expansion, whatever their sets: the graph in between (`Now`), what a put may rely on, the graph after it.
-use Rattle.std.specs.Prelude.{◌≡◌, List, ℕ, suc, ◌+◌, ◌*◌, ◌≤◌, ◌<◌, length}
+use Rattle.std.specs.Prelude.{◌≡◌, List, ℕ, suc, ◌+◌, ◌*◌, ◌≤◌, ◌<◌, length, Ok}
 use Rattle.std.proofs.Common.{sym, ap, ◌∙◌, subst, arith}
 use Rattle.concepts.specs.Lists.{Bytes}
 use Rattle.concepts.specs.RowSet.{RowSet}
@@ -17,12 +17,10 @@ use Rattle.records.specs.Areas.{Fits}
 use Rattle.records.specs.Records.{node_of, IsNode}
 use Rattle.records.specs.declared.Node as D
 use Rattle.rowset.specs.SetOf.{set_of}
-use Rattle.graph.specs.Graphs.{Work, work, graph_of, capacity_of, Held, Sized, Refines}
+use Rattle.graph.specs.Graphs.{Work, work, graph_of, capacity_of, Held, Sized, Step, Refines}
 use Rattle.graph.specs.GraphLaws.{sized-refl, sized-trans, sized-places, count-nodes, graph-node, graph-set, held-node, held-set}
 use Rattle.graph.specs.RefineLaws.{refines-answer, refines-held}
 use Rattle.graph.specs.declared.Counts.{Counts}
-use Rattle.graph.specs.declared.Step.{Step}
-use Rattle.graph.specs.declared.Step.TheVariants.{Done}
 use Rattle.tableau.specs.Clauses.{PutAsks, PutGives}
 use Rattle.expansion.specs.Clauses.{ExpandAsks}
 
@@ -80,6 +78,11 @@ module _ {ws : List ℕ} {n e a : Bytes} {c : Counts} {x : ℕ} (A : ExpandAsks 
   pub expand-inside : node_size * x + set_size ≤ length n
   expand-inside = held-set A.held (there A)
 
+-- a set that was made of its own, read at place q, where that stands
+pub own-set : (n : Bytes) (x : ℕ) {q : ℕ} → q ≡ node_size * x → (f : RowSet → RowSet) {σ : RowSet} → σ ≡ f (set_of n q)
+    → σ ≡ f (set_of n (node_size * x))
+own-set n x hq f e = e ∙ ap (λ (p : ℕ). f (set_of n p)) hq
+
 -- ---- between two puts its set stands where it stood
 
 module _ {ws : List ℕ} {w : Work} {c : Counts} {x : ℕ} {A : ExpandAsks ws w c x} {w' : Work} {d : Counts} (N : Now A w' d) where
@@ -114,7 +117,7 @@ module _ {ws : List ℕ} {w : Work} {c : Counts} {x : ℕ} {A : ExpandAsks ws w 
     unfolding put
     now-gives er = refines-answer (G (suc (length (table_of ws))) (omega (arith, missing-all (length (table_of ws)) s))) er
 
-    pub now-put : {d₂ : Counts} → r ≡ Done d₂ → Now A w'' d₂
+    pub now-put : {d₂ : Counts} → r ≡ Ok d₂ → Now A w'' d₂
     now-put {d₂} er =
         let R = now-gives er in
         let q = R.meets ∙ ap (λ (k : Capacity). put (P A) k x p ρ s h) (sized-places N.sized) in

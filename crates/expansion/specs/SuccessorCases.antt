@@ -1,7 +1,7 @@
 -- The successors of a state, put one after the other: a turn of the loop, on plain values.
 --
 -- In order: the loop's invariant (`SuccessorsPut`); its start; the end; the next row (`SuccessorFound`), and its put.
-use Rattle.std.specs.Prelude.{◌≡◌, ◌≢◌, ℕ, ◌+◌, ◌-◌, ◌*◌, ◌≤◌, ◌<◌, length}
+use Rattle.std.specs.Prelude.{◌≡◌, ◌≢◌, ℕ, ◌+◌, ◌-◌, ◌*◌, ◌≤◌, ◌<◌, length, Ok, Err}
 use Rattle.std.proofs.Math.Path.{refl, subst}
 use Rattle.std.proofs.Common.{sym, ap, ◌∙◌, arith}
 use mathlib.Core.List.{List, [], ◌∷◌, Memᴰ}
@@ -18,12 +18,10 @@ use Rattle.rowset.specs.SetOf.{set_of}
 use Rattle.settests.specs.Answers.{exists_from, NextExist}
 use Rattle.settests.specs.ExistLaws.{exists_from-all}
 use Rattle.settests.specs.declared.Exist.{Exist}
-use Rattle.graph.specs.Graphs.{Work, graph_of, Refines}
+use Rattle.graph.specs.Graphs.{Work, graph_of, Step, Refines}
 use Rattle.graph.specs.RefineLaws.{refines-as, Course, course-start, course-next, course-short, course-end}
 use Rattle.graph.specs.declared.Counts.{Counts}
 use Rattle.graph.specs.declared.Area.{Area}
-use Rattle.graph.specs.declared.Step.{Step}
-use Rattle.graph.specs.declared.Step.TheVariants.{Done, Full}
 use Rattle.tableau.specs.Clauses.{PutAsks, PutGives}
 use Rattle.expansion.specs.Clauses.{ExpandAsks, StateAsks, SuccessorsGives}
 use Rattle.expansion.specs.PutCases.{P, cap, g, row_fits, Growing, growing-start, Now, MayPut, now-set, now-inside, now-asks, now-gives, now-put}
@@ -96,7 +94,7 @@ module _ {ws : List ℕ} {w : Work} {c : Counts} {x : ℕ} {w' : Work} {d : Coun
 
   -- what is found in the set at place q, where it stands
   module _ {o : Exist} (q : ℕ) (E : NextExist (table_of ws) (set_of w'.nodes q) k o) (eq : q ≡ node_size * x) where
-    pub turn_end : o ≡ Exist.End → SuccessorsGives ws w c x (Done d) w'
+    pub turn_end : o ≡ Exist.End → SuccessorsGives ws w c x (Ok d) w'
     unfolding NextExist
     turn_end eo =
         let none : exists_from (table_of ws) s k ≡ [] = subst (λ (o : Exist). NextExist (table_of ws) s k o) eo (next-is o q E eq) in
@@ -157,10 +155,10 @@ module _ {ws : List ℕ} {w : Work} {c : Counts} {x : ℕ} {w' : Work} {d : Coun
       course-here : Course (step ws x (s T)) (existentials (table_of ws) (s T)) w c ((role, argument) ∷ exists_from (table_of ws) (s T) (row + 1)) w' d
       course-here = rw C.here at T.course
 
-      pub turn-short : {p : Area} → z ≡ Full p → SuccessorsGives ws w c x (Full p) w''
+      pub turn-short : {p : Area} → z ≡ Err p → SuccessorsGives ws w c x (Err p) w''
       turn-short er = refines-as (course-short course-here (did er)) (whole T)
 
-      pub turn-put : {d₂ : Counts} → z ≡ Done d₂ → SuccessorsPut ws w c x w'' d₂ (row + 1)
+      pub turn-put : {d₂ : Counts} → z ≡ Ok d₂ → SuccessorsPut ws w c x w'' d₂ (row + 1)
       turn-put er = record {
         asks = T.asks;
         other = T.other;

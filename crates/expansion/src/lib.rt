@@ -11,7 +11,7 @@ ghost use Rattle.problem.specs.Decoded.{rules_of, wanted_of, Decoded};
 ghost use Rattle.graph.specs.Graphs.{work};
 ghost use Rattle.expansion.specs.Clauses.{ExpandAsks, DisjAsks, StateAsks, KitGives, SuccessorsGives, StateGives, DisjGives, ConjGives, ExpandGives};
 
-use graph::{Counts, Step};
+use graph::{Area, Counts};
 use records::{is_open, load_node, node_set, status_of};
 use rowset::{copy, insert, join_mask};
 use settests::{Exist, Found, lowest_conj, lowest_disj, next_exist, successor};
@@ -31,15 +31,6 @@ fn with_row(nodes: &[u8], set: usize, row: usize, out: &mut [u8; SET_BYTES])
     insert(out, 0, row);
 }
 
-// The same with two rows more.
-fn with_rows(nodes: &[u8], set: usize, left: usize, right: usize, out: &mut [u8; SET_BYTES])
-    requires { (set + set_size ≤ length nodes.now) × (left < width) × (right < width) }
-    ensures { set_of out.new 0 ≡ Set.insert left (Set.insert right (set_of nodes.now set)) }
-{
-    with_row(nodes, set, right, out);
-    insert(out, 0, left);
-}
-
 // The wanted rows and all rules, in an array that is lent with the empty set.
 fn join_kit(problem: &[u64], out: &mut [u8; SET_BYTES])
     requires { Decoded problem.now × (set_of out.old 0 ≡ Set.empty) }
@@ -56,7 +47,7 @@ fn put_kit(
     edges: &mut [u8],
     alternatives: &mut [u8],
     c: Counts,
-) -> Step
+) -> Result<Counts, Area>
     requires { StateAsks problem.now (work nodes.old edges.old alternatives.old) c 0 }
     ensures { KitGives problem.now (work nodes.old edges.old alternatives.old) c result
         (work nodes.new edges.new alternatives.new) }
@@ -74,7 +65,7 @@ fn put_successors(
     alternatives: &mut [u8],
     c: Counts,
     x: u16,
-) -> Step
+) -> Result<Counts, Area>
     requires { StateAsks problem.now (work nodes.old edges.old alternatives.old) c x × (x ≢ 0) }
     ensures { SuccessorsGives problem.now (work nodes.old edges.old alternatives.old) c x result
         (work nodes.new edges.new alternatives.new) }
@@ -89,15 +80,12 @@ fn put_successors(
             argument,
         } = next_exist(problem, nodes, set, k)
         else {
-            return Step::Done(cur);
+            return Ok(cur);
         };
         k = row + 1;
         let mut kit = [0u8; SET_BYTES];
         successor(problem, nodes, set, role, argument, &mut kit, 0);
-        match put(problem, nodes, edges, alternatives, cur, x, x, role, &kit) {
-            Step::Full(area) => return Step::Full(area),
-            Step::Done(next) => cur = next,
-        }
+        cur = put(problem, nodes, edges, alternatives, cur, x, x, role, &kit)?;
     }
 }
 
@@ -109,7 +97,7 @@ fn expand_state(
     alternatives: &mut [u8],
     c: Counts,
     x: u16,
-) -> Step
+) -> Result<Counts, Area>
     requires { StateAsks problem.now (work nodes.old edges.old alternatives.old) c x }
     ensures { StateGives problem.now (work nodes.old edges.old alternatives.old) c x result
         (work nodes.new edges.new alternatives.new) }
@@ -128,7 +116,7 @@ fn expand_disj(
     alternatives: &mut [u8],
     c: Counts,
     x: u16,
-) -> Step
+) -> Result<Counts, Area>
     requires { DisjAsks problem.now (work nodes.old edges.old alternatives.old) c x }
     ensures { DisjGives problem.now (work nodes.old edges.old alternatives.old) c x result
         (work nodes.new edges.new alternatives.new) }
@@ -144,10 +132,8 @@ fn expand_disj(
     let mut second = [0u8; SET_BYTES];
     with_row(nodes, set, left, &mut first);
     with_row(nodes, set, right, &mut second);
-    match put(problem, nodes, edges, alternatives, c, x, p, role, &first) {
-        Step::Full(area) => Step::Full(area),
-        Step::Done(d) => put(problem, nodes, edges, alternatives, d, x, p, role, &second),
-    }
+    let d = put(problem, nodes, edges, alternatives, c, x, p, role, &first)?;
+    put(problem, nodes, edges, alternatives, d, x, p, role, &second)
 }
 
 // Puts the children of node x: for its lowest unfinished kind 3 row, else as a node without one.
@@ -158,7 +144,7 @@ fn expand_conj(
     alternatives: &mut [u8],
     c: Counts,
     x: u16,
-) -> Step
+) -> Result<Counts, Area>
     requires { ExpandAsks problem.now (work nodes.old edges.old alternatives.old) c x }
     ensures { ConjGives problem.now (work nodes.old edges.old alternatives.old) c x result
         (work nodes.new edges.new alternatives.new) }
@@ -171,7 +157,8 @@ fn expand_conj(
         return expand_disj(problem, nodes, edges, alternatives, c, x);
     };
     let mut both = [0u8; SET_BYTES];
-    with_rows(nodes, set, left, right, &mut both);
+    with_row(nodes, set, right, &mut both);
+    insert(&mut both, 0, left);
     put(problem, nodes, edges, alternatives, c, x, p, role, &both)
 }
 
@@ -184,22 +171,15 @@ pub fn expand(
     alternatives: &mut [u8],
     c: Counts,
     x: u16,
-) -> Step
+) -> Result<Counts, Area>
     requires { ExpandAsks problem.now (work nodes.old edges.old alternatives.old) c x }
     ensures { ExpandGives problem.now (work nodes.old edges.old alternatives.old) c x result
         (work nodes.new edges.new alternatives.new) }
 {
-    match expand_conj(problem, nodes, edges, alternatives, c, x) {
-        Step::Full(area) => Step::Full(area),
-        Step::Done(d) => match judge(problem, nodes, edges, alternatives, d, x) {
-            Step::Full(area) => Step::Full(area),
-            Step::Done(b) => {
-                let status = status_of(nodes, x as usize);
-                if is_open(status) {
-                    return Step::Done(b);
-                }
-                update_parents(problem, nodes, edges, alternatives, b, x)
-            }
-        },
+    let d = expand_conj(problem, nodes, edges, alternatives, c, x)?;
+    let b = judge(problem, nodes, edges, alternatives, d, x)?;
+    if is_open(status_of(nodes, x as usize)) {
+        return Ok(b);
     }
+    update_parents(problem, nodes, edges, alternatives, b, x)
 }

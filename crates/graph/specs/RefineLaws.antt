@@ -1,14 +1,18 @@
 -- Laws of refinement: steps one after another, changes, and loops over a list.
 --
 -- In order: a step by another name (`refines-as`); a step after a step, and after one that found no place; changes; a loop over `for_each` (`Course`).
-use Rattle.std.specs.Prelude.{◌≡◌, refl, List, [], ◌∷◌, Ok, Err}
-use Rattle.std.proofs.Common.{sym, ap, ◌∙◌, subst}
+use Rattle.std.specs.Prelude.{◌≡◌, refl, List, [], ◌∷◌, Result, Ok, Err, IsErr, IsErrAnd}
+use Rattle.std.proofs.Common.{sym, ap, ◌∙◌, subst, rules}
 use Rattle.procedure.specs.Graph as G
 use Rattle.procedure.specs.TableauLaws.{bind-reached, short-bind, short-as, for_each-none, for_each-cons}
 use Rattle.graph.specs.Graphs.{Work, graph_of, capacity_of, Held, CountsGrown, Sized, Step, Meets, HeldAfter, Operation, Refines, Changes}
 use Rattle.graph.specs.GraphLaws.{grown-refl, grown-trans, sized-refl, sized-trans, sized-places}
 use Rattle.graph.specs.declared.Counts.{Counts}
 use Rattle.graph.specs.declared.Area.{Area}
+
+-- an area that `?` passes on
+pub passed-on : {A : Type 0} {r : Result A Area} {p : Area} → IsErr r × IsErrAnd r (λ q. q ≡ p) → r ≡ Err p
+passed-on h = search rules
 
 -- what a step holds, as what an earlier one holds further on
 held-further : {c d : Counts} (r : Step) (w : Work) → CountsGrown c d → HeldAfter r d w → HeldAfter r c w

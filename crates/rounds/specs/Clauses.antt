@@ -7,9 +7,8 @@ use Rattle.procedure.specs.Tableau.{loop_within, run}
 use Rattle.procedure.proofs.ExpandFit.{Still}
 use Rattle.problem.specs.Decoded.{problem_of, Decoded}
 use Rattle.graph.specs.Chains.{no_records}
-use Rattle.graph.specs.Graphs.{Work, graph_of, capacity_of, Held, Operation, Refines}
+use Rattle.graph.specs.Graphs.{Work, graph_of, capacity_of, Held, Operation, Step, Refines}
 use Rattle.graph.specs.declared.Counts.{Counts}
-use Rattle.graph.specs.declared.Step.{Step}
 
 pub record RoundsAsks (ws : List ℕ) (w : Work) (c : Counts) : Type 0 where
   pub decoded : Decoded ws

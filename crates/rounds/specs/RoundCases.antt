@@ -2,7 +2,7 @@
 --
 -- In order: the root, loaded; the loop's invariant (`RoundsDone`); its start; the end, by the root's status or for want of a node without status;
 -- the node to expand (`NextToExpand`), and its expansion.
-use Rattle.std.specs.Prelude.{◌≡◌, refl, Bool, true, not, List, ℕ, zero, suc, ◌+◌, ◌-◌, ◌≤◌, ◌<◌, Some}
+use Rattle.std.specs.Prelude.{◌≡◌, refl, Bool, true, not, List, ℕ, zero, suc, ◌+◌, ◌-◌, ◌≤◌, ◌<◌, Some, Option, None, Ok, Err}
 use Rattle.std.proofs.Common.{sym, ◌∙◌, subst, arith}
 use Rattle.std.proofs.Math.Path.{ap}
 use Rattle.std.proofs.Math.Bool.{false}
@@ -21,16 +21,12 @@ use Rattle.problem.specs.Decoded.{problem_of}
 use Rattle.records.specs.Areas.{room_of, Fits}
 use Rattle.records.specs.Codes.{status_of}
 use Rattle.records.specs.Records.{node_in, IsStatus, is_unset_at}
-use Rattle.graph.specs.Graphs.{Work, work, graph_of, capacity_of, Held, CountsGrown, Sized, WithNodes, found_of, PassedOver}
+use Rattle.graph.specs.Graphs.{Work, work, graph_of, capacity_of, Held, CountsGrown, Sized, Step, WithNodes, PassedOver}
 use Rattle.graph.specs.GraphLaws.{grown-refl, grown-trans, sized-refl, sized-trans, sized-places, count-nodes, graph-node, held-node}
 use Rattle.graph.specs.RefineLaws.{refines-answer}
 use Rattle.graph.specs.declared.Counts.{Counts}
-use Rattle.graph.specs.declared.FoundNode.{FoundNode}
-use Rattle.graph.specs.declared.FoundNode.TheVariants as Found
 use Rattle.records.specs.declared.Status.{Status}
 use Rattle.graph.specs.declared.Area.{Area}
-use Rattle.graph.specs.declared.Step.{Step}
-use Rattle.graph.specs.declared.Step.TheVariants.{Done, Full}
 use Rattle.expansion.specs.Clauses.{ExpandAsks, ExpandGives}
 use Rattle.rounds.specs.Clauses.{RoundsAsks, all_rounds, RoundsGives}
 
@@ -118,22 +114,22 @@ module _ {ws : List ℕ} {w : Work} {c : Counts} {n' e' a' : Bytes} {d : Counts}
   live : {b : Bool} → RootLive n' b → is_live (node_at h 0).status ≡ b
   live L = ap (λ (u : Node). is_live u.status) (graph-node (work n' e' a') d 0 root) ∙ L.status
 
-  ended : loop (suc fueled.0) h ≡ reached h → RoundsGives ws w c (Done d) (work n' e' a')
+  ended : loop (suc fueled.0) h ≡ reached h → RoundsGives ws w c (Ok d) (work n' e' a')
   ended q = record { meets = sym q ∙ fueled.2; held = (T.held, T.grown); sized = T.sized }
 
-  pub turn-settled : RootLive n' false → RoundsGives ws w c (Done d) (work n' e' a')
+  pub turn-settled : RootLive n' false → RoundsGives ws w c (Ok d) (work n' e' a')
   turn-settled L = ended (loop-settled P cap fueled.0 h (live L))
 
-  module _ (L : RootLive n' true) {v : FoundNode} (W : WithNodes n' d (λ u. found_of v ≡ lowest_unset u) × PassedOver v (is_unset_at n')) where
-    pub turn-done : v ≡ Found.Nothing → RoundsGives ws w c (Done d) (work n' e' a')
-    turn-done ev = ended (loop-done P cap fueled.0 h (live L) (sym (W.0 e' a' T.held) ∙ ap found_of ev))
+  module _ (L : RootLive n' true) {v : Option ℕ} (W : WithNodes n' d (λ u. v ≡ lowest_unset u) × PassedOver v (is_unset_at n')) where
+    pub turn-done : v ≡ None → RoundsGives ws w c (Ok d) (work n' e' a')
+    turn-done ev = ended (loop-done P cap fueled.0 h (live L) (sym (W.0 e' a' T.held) ∙ ev))
 
-    pub turn-fresh : {x : ℕ} → v ≡ Found.At x → NextToExpand x
+    pub turn-fresh : {x : ℕ} → v ≡ Some x → NextToExpand x
     turn-fresh ev =
         record {
           live = live L;
-          found = sym (W.0 e' a' T.held) ∙ ap found_of ev;
-          passed = subst (λ (v : FoundNode). PassedOver v (is_unset_at n')) ev
+          found = sym (W.0 e' a' T.held) ∙ ev;
+          passed = subst (λ (v : Option ℕ). PassedOver v (is_unset_at n')) ev
               W.1;
         }
 
@@ -170,14 +166,14 @@ module _ {ws : List ℕ} {w : Work} {c : Counts} {n' e' a' : Bytes} {d : Counts}
     round : (expand (P T) (cap T) x (h T) >>= loop T (fueled T).0) ≡ all_rounds ws (cap T) (g T)
     round = sym (loop-round (P T) (cap T) (fueled T).0 (h T) F.live x F.found) ∙ (fueled T).2
 
-    pub turn-short : {p : Area} → r ≡ Full p → RoundsGives ws w c (Full p) w''
+    pub turn-short : {p : Area} → r ≡ Err p → RoundsGives ws w c (Err p) w''
     turn-short {p} er = record {
       meets = short-as (short-bind (short-as (refines-answer G er).meets same-places) (loop T (fueled T).0)) round;
       held = tt;
       sized = sized-trans T.sized G.sized;
     }
 
-    module _ {d₂ : Counts} (er : r ≡ Done d₂) where
+    module _ {d₂ : Counts} (er : r ≡ Ok d₂) where
       expanded : reached (graph_of w'' d₂) ≡ expand (P T) (cap T) x (h T)
       expanded = (refines-answer G er).meets ∙ same-places
 

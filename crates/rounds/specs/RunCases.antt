@@ -1,5 +1,5 @@
 -- The start of a run: the root, "a state with the empty set", and the rounds after it, on plain values.
-use Rattle.std.specs.Prelude.{◌≡◌, refl, List, [], ℕ, ◌<◌, length}
+use Rattle.std.specs.Prelude.{◌≡◌, refl, List, [], ℕ, ◌<◌, length, Ok, Err}
 use Rattle.std.proofs.Common.{sym, ap, ◌∙◌, subst, arith}
 use Rattle.concepts.specs.Lists.{Bytes, range}
 use Rattle.concepts.specs.RowSet.{RowSet, empty}
@@ -12,14 +12,12 @@ use Rattle.procedure.proofs.ExpandFit.{Still}
 use Rattle.problem.specs.Decoded.{problem_of, Decoded}
 use Rattle.problem.specs.DecodedLaws.{decoded-posed}
 use Rattle.graph.specs.Chains.{no_records}
-use Rattle.graph.specs.Graphs.{Work, work, graph_of, capacity_of, Refines, AddsNode}
+use Rattle.graph.specs.Graphs.{Work, work, graph_of, capacity_of, Step, Refines, AddsNode}
 use Rattle.graph.specs.GraphLaws.{sized-refl, sized-places, held_none, count-nodes}
 use Rattle.graph.specs.AddLaws.{added-node}
 use Rattle.graph.specs.RefineLaws.{refines-answer, refines-as, refines-held, refines-then, refines-short}
 use Rattle.graph.specs.declared.Counts.{Counts}
 use Rattle.graph.specs.declared.Area.{Area}
-use Rattle.graph.specs.declared.Step.{Step}
-use Rattle.graph.specs.declared.Step.TheVariants.{Done, Full}
 use Rattle.rounds.specs.Clauses.{RoundsAsks, all_rounds, RoundsGives, RunGives}
 
 abbrev none : Graph
@@ -42,10 +40,10 @@ module _ {ws : List ℕ} (D : Decoded ws) (e a : Bytes) {n n₁ : Bytes} {r : St
   rooted er =
       refines-answer (subst (λ (u : RowSet). AddsNode n n₁ no_records r (λ k g. add_node k (state u) g)) none_in R e a (held_none (work n e a))) er
 
-  pub root-short : {p : Area} → r ≡ Full p → RunGives ws (work n e a) (Full p) (work n₁ e a)
+  pub root-short : {p : Area} → r ≡ Err p → RunGives ws (work n e a) (Err p) (work n₁ e a)
   root-short er = refines-as (refines-short (rooted er) (λ u. all_rounds ws) sized-refl) (run_is ws (work n e a))
 
-  module _ {d : Counts} (er : r ≡ Done d) where
+  module _ {d : Counts} (er : r ≡ Ok d) where
     abbrev S : Setting
     S = bare (problem_of ws) (capacity_of (work n e a)) (decoded-posed D)
 

@@ -8,7 +8,7 @@ ghost use Rattle.problem.specs.Decoded.{Decoded};
 ghost use Rattle.rounds.specs.Clauses.{RoundsAsks, RoundsGives, RunGives};
 
 use expansion::expand;
-use graph::{Counts, FoundNode, Step, add_node, lowest_unset};
+use graph::{Area, Counts, add_node, lowest_unset};
 use records::{Link, Node, Status, is_live, status_of};
 use words::sizes::SET_BYTES;
 
@@ -19,7 +19,7 @@ fn rounds(
     edges: &mut [u8],
     alternatives: &mut [u8],
     c: Counts,
-) -> Step
+) -> Result<Counts, Area>
     requires { RoundsAsks problem.now (work nodes.old edges.old alternatives.old) c }
     ensures { RoundsGives problem.now
         (work nodes.old edges.old alternatives.old) c result
@@ -27,25 +27,24 @@ fn rounds(
 {
     let mut cur = c;
     // every node below has a status
-    let mut from: usize = 0;
-    loop {
-        let status = status_of(nodes, 0);
-        if !is_live(status) {
-            return Step::Done(cur);
-        }
-        let FoundNode::At(x) = lowest_unset(nodes, cur, from) else {
-            return Step::Done(cur);
+    let mut from = 0;
+    while is_live(status_of(nodes, 0)) {
+        let Some(x) = lowest_unset(nodes, cur, from) else {
+            return Ok(cur);
         };
+        cur = expand(problem, nodes, edges, alternatives, cur, x)?;
         from = x as usize;
-        match expand(problem, nodes, edges, alternatives, cur, x) {
-            Step::Full(area) => return Step::Full(area),
-            Step::Done(next) => cur = next,
-        }
     }
+    Ok(cur)
 }
 
 // Runs the procedure on a decoded problem. "Node 0 is the root, a state with the empty set".
-pub fn run(problem: &[u64], nodes: &mut [u8], edges: &mut [u8], alternatives: &mut [u8]) -> Step
+pub fn run(
+    problem: &[u64],
+    nodes: &mut [u8],
+    edges: &mut [u8],
+    alternatives: &mut [u8],
+) -> Result<Counts, Area>
     requires { Decoded problem.now }
     ensures { RunGives problem.now
         (work nodes.old edges.old alternatives.old) result
@@ -64,8 +63,6 @@ pub fn run(problem: &[u64], nodes: &mut [u8], edges: &mut [u8], alternatives: &m
         prl: 0,
         link: Link::None,
     };
-    match add_node(nodes, none, &empty, root) {
-        Step::Full(area) => Step::Full(area),
-        Step::Done(c) => rounds(problem, nodes, edges, alternatives, c),
-    }
+    let c = add_node(nodes, none, &empty, root)?;
+    rounds(problem, nodes, edges, alternatives, c)
 }

@@ -5,9 +5,8 @@ use Rattle.concepts.specs.RowSet.{RowSet}
 use Rattle.procedure.specs.Status.{toosmall}
 use Rattle.procedure.specs.Graph as G
 use Rattle.procedure.specs.Tableau.{below, join_alternatives}
-use Rattle.graph.specs.Graphs.{work, Held, Operation, Refines}
+use Rattle.graph.specs.Graphs.{work, Held, Step, Operation, Refines}
 use Rattle.graph.specs.declared.Counts.{Counts}
-use Rattle.graph.specs.declared.Step.{Step}
 
 -- nodes n became n' and edges e e' with the answer r, as f does with the graph, whatever the alternatives
 abbrev pub AddsBelow : Bytes → Bytes → Bytes → Bytes → Counts → Step → Operation → Type 0

@@ -1,7 +1,7 @@
 -- Laws of Tables.
 --
 -- In order: an entry of a table; a fold over the children; the graph's children.
-use Rattle.std.specs.Prelude.{◌≡◌, refl, ℕ, zero, suc, ◌+◌, ◌≤◌, ◌<◌, get_or}
+use Rattle.std.specs.Prelude.{◌≡◌, refl, ℕ, zero, suc, ◌+◌, ◌≤◌, ◌<◌, get_or, Option, None, Some}
 use Rattle.std.proofs.Common.{sym, ◌∙◌, arith}
 use Rattle.std.proofs.Math.Path.{ap, subst}
 use mathlib.Core.List.{List, [], ◌∷◌, map, Memᴰ}
@@ -9,16 +9,16 @@ use Rattle.concepts.specs.Lists.{Bytes}
 use Rattle.procedure.specs.Status as P
 use Rattle.procedure.specs.Graph as G
 use Rattle.procedure.specs.Tableau.{fold_children}
-use Rattle.words.specs.Sizes.{edge_size}
+use Rattle.words.specs.Sizes.{node_size, edge_size, most_records}
+use Rattle.records.specs.Areas.{Fits}
 use Rattle.records.specs.Codes.{status_of}
 use Rattle.records.specs.Records.{node_in}
 use Rattle.graph.specs.Graphs.{work, graph_of, WithEdges, ChangesNodes, children_from, AmongChildren, Walks, IsNext}
-use Rattle.graph.specs.GraphLaws.{grown-refl, graph-node}
+use Rattle.graph.specs.GraphLaws.{grown-refl, held-most, held-node, graph-node}
 use Rattle.graph.specs.SearchLaws.{children-all}
 use Rattle.graph.specs.declared.Counts.{Counts}
 use Rattle.records.specs.declared.Status.{Status}
 use Rattle.records.specs.declared.Status.TheVariants.{Unset}
-use Rattle.graph.specs.declared.Next.{Next}
 use Rattle.steps.specs.Tables.{Judges, JudgesAs, ends_from, statuses_from}
 
 -- ---- an entry of a table
@@ -79,19 +79,19 @@ pub record NextEnd (e : Bytes) (c : Counts) (x i k y : ℕ) : Type 0 where
   pub among : AmongEnds e c x (k + 1)
 
 -- what the search for the next child says of the ends
-module _ {n e : Bytes} {c : Counts} {x : ℕ} (j : Judges n e c x) (i : ℕ) (o : AmongEnds e c x i) {r : Next}
+module _ {n e : Bytes} {c : Counts} {x : ℕ} (j : Judges n e c x) (i : ℕ) (o : AmongEnds e c x i) {r : Option (ℕ × ℕ)}
     (all : WithEdges n e c (λ g. AmongChildren g x i → IsNext r i c.edges (children_from g x) (AmongChildren g x))) where
-  as-next : (s : Next) → r ≡ s → IsNext s i c.edges (ends_from e c x) (AmongEnds e c x)
+  as-next : (s : Option (ℕ × ℕ)) → r ≡ s → IsNext s i c.edges (ends_from e c x) (AmongEnds e c x)
   unfolding graph_of children_from ends_from AmongEnds
   as-next s w =
       let g : G.Graph = graph_of (work n e j.alternatives) c in
-      subst (λ (t : Next). IsNext t i c.edges (children_from g x) (AmongChildren g x)) w (all j.alternatives c j.held grown-refl o)
+      subst (λ (t : Option (ℕ × ℕ)). IsNext t i c.edges (children_from g x) (AmongChildren g x)) w (all j.alternatives c j.held grown-refl o)
 
-  pub next-at : {k y : ℕ} → r ≡ Next.At k y → NextEnd e c x i k y
-  next-at {k} {y} w = let (from, below, more, among) = as-next (Next.At k y) w in record { from = from; below = below; more = more; among = among }
+  pub next-at : {k y : ℕ} → r ≡ Some (k, y) → NextEnd e c x i k y
+  next-at {k} {y} w = let (from, below, more, among) = as-next (Some (k, y)) w in record { from = from; below = below; more = more; among = among }
 
-  pub next-end : r ≡ Next.End → ends_from e c x i ≡ []
-  next-end w = as-next Next.End w
+  pub next-end : r ≡ None → ends_from e c x i ≡ []
+  next-end w = as-next None w
 
 module _ {table : P.StatusTable} {n e : Bytes} {c : Counts} {x : ℕ} {start : P.Status} {i : ℕ} {v : P.Status} (f : Folds table n e c x start i v) where
   module _ {k y : ℕ} (next : NextEnd e c x i k y) where
@@ -113,6 +113,28 @@ module _ {table : P.StatusTable} {n e : Bytes} {c : Counts} {x : ℕ} {start : P
   pub folds-end : ends_from e c x i ≡ [] → v ≡ P.fold_status table start (statuses_from n e c x 0)
   unfolding statuses_from P.fold_status
   folds-end p = ap (λ (ys : List ℕ). P.fold_status table v (map (λ d. (node_in n d).status) ys)) (sym p) ∙ f.rest
+
+-- what the fold from edge i on learns at edge k, the next one, whose end is y
+pub record FoldsAt (table : P.StatusTable) (n e : Bytes) (c : Counts) (x : ℕ) (start : P.Status) (i : ℕ) (v : P.Status) (k y : ℕ) : Type 0 where
+  pub node : Fits node_size n y
+  pub from : i ≤ k
+  pub below : k < c.edges
+  pub few : c.edges ≤ most_records
+  pub more : {u w : P.Status} → u ≡ (node_in n y).status → w ≡ P.entry table v u → Folds table n e c x start (k + 1) w
+
+pub folds-at : {table : P.StatusTable} {n e : Bytes} {c : Counts} {x : ℕ} {start : P.Status} {i : ℕ} {v : P.Status} {k y : ℕ} → Judges n e c x
+    → Folds table n e c x start i v
+    → WithEdges n e c (λ g. AmongChildren g x i → IsNext (Some (k, y)) i c.edges (children_from g x) (AmongChildren g x))
+    → FoldsAt table n e c x start i v k y
+folds-at {table} {i = i} {v} j f all =
+    let next = next-at j i f.among all refl in
+    record {
+      node = held-node j.held (folds-node f next);
+      from = next.from;
+      below = next.below;
+      few = (held-most j.held).1;
+      more = λ {u} {w} p q. folds-more f next w (q ∙ ap (P.entry table v) p);
+    }
 
 -- ---- the graph's children
 

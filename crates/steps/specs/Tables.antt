@@ -2,17 +2,17 @@
 use mathlib.Core.List.{List, [], map, Memᴰ}
 use Rattle.std.specs.Prelude.{ℕ, ◌<◌}
 use Rattle.concepts.specs.Lists.{Bytes}
-use Rattle.procedure.specs.Status.{Status, StatusTable, branch_table, state_table}
+use Rattle.procedure.specs.Status.{Status, StatusTable}
 use Rattle.procedure.specs.Graph as G
 use Rattle.records.specs.Records.{node_in}
 use Rattle.graph.specs.Graphs.{work, graph_of, Held, Changes, children_from}
 use Rattle.graph.specs.declared.Counts.{Counts}
-use Rattle.steps.specs.declared.Pairs.{Pairs}
-use Rattle.steps.specs.declared.Pairs.TheVariants.{Branch, State}
+use Rattle.records.specs.Codes as Codes
+use Rattle.records.specs.declared.Status as Coded
 
-abbrev pub status_table : Pairs → StatusTable
-status_table Branch = branch_table
-status_table State = state_table
+-- the table that rows of the code's statuses mean
+abbrev pub table_of : List (List Coded.Status) → StatusTable
+table_of rows = map (map Codes.status_of) rows
 
 -- node x and its children are nodes of a graph with these nodes and edges, and some alternatives
 pub record Judges (n e : Bytes) (c : Counts) (x : ℕ) : Type 0 where

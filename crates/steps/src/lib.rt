@@ -17,8 +17,7 @@ ghost use Rattle.steps.specs.Steps as Steps;
 ghost use Rattle.steps.specs.Tables as Tables;
 
 use graph::{
-    Counts, FoundNode, Next, Step, add_alternative, add_edge, add_node, find_state, next_child,
-    set_link, set_status,
+    Area, Counts, add_alternative, add_edge, add_node, find_state, next_child, set_link, set_status,
 };
 use records::{Link, Node, Status, is_live, status_of};
 use words::sizes::SET_BYTES;
@@ -31,19 +30,17 @@ pub fn add_child(
     from: u16,
     s: &[u8; SET_BYTES],
     node: Node,
-) -> Step
+) -> Result<Counts, Area>
     requires { (from < c.nodes) × EdgesHeld nodes.old edges.old c }
     ensures { Steps.AddsBelow nodes.old nodes.new edges.old edges.new c result
         (Steps.add_child from (Records.node_of (set_of s.now 0) node)) }
 {
-    match add_node(nodes, c, s, node) {
-        Step::Done(d) => add_edge(nodes, edges, d, from, c.nodes),
-        Step::Full(area) => Step::Full(area),
-    }
+    let d = add_node(nodes, c, s, node)?;
+    add_edge(nodes, edges, d, from, c.nodes)
 }
 
 // Links node z to state y, and adds the edge from z.
-fn link_to(nodes: &mut [u8], edges: &mut [u8], c: Counts, z: u16, y: u16) -> Step
+fn link_to(nodes: &mut [u8], edges: &mut [u8], c: Counts, z: u16, y: u16) -> Result<Counts, Area>
     requires { (z < c.nodes) × (y < c.nodes) × (c.nodes ≤ room_of node_size nodes.old) }
     ensures { Steps.AddsBelow nodes.old nodes.new edges.old edges.new c result
         (λ k g. Tableau.link_to k z y g) }
@@ -53,27 +50,29 @@ fn link_to(nodes: &mut [u8], edges: &mut [u8], c: Counts, z: u16, y: u16) -> Ste
 }
 
 // Links node z to the state with the set s, made if new.
-fn link_found(nodes: &mut [u8], edges: &mut [u8], c: Counts, z: u16, s: &[u8; SET_BYTES]) -> Step
+fn link_found(
+    nodes: &mut [u8],
+    edges: &mut [u8],
+    c: Counts,
+    z: u16,
+    s: &[u8; SET_BYTES],
+) -> Result<Counts, Area>
     requires { (z < c.nodes) × EdgesHeld nodes.old edges.old c }
     ensures { Steps.AddsBelow nodes.old nodes.new edges.old edges.new c result
         (λ k g. Tableau.link_found k z (set_of s.now 0) (Graph.find_state (set_of s.now 0) g) g) }
 {
-    match find_state(nodes, c, s) {
-        FoundNode::At(y) => link_to(nodes, edges, c, z, y),
-        FoundNode::Nothing => {
-            let state = Node {
-                status: Status::Unset,
-                is_state: true,
-                pst: 0,
-                prl: 0,
-                link: Link::None,
-            };
-            match add_node(nodes, c, s, state) {
-                Step::Done(d) => link_to(nodes, edges, d, z, c.nodes),
-                Step::Full(area) => Step::Full(area),
-            }
-        }
+    if let Some(y) = find_state(nodes, c, s) {
+        return link_to(nodes, edges, c, z, y);
     }
+    let state = Node {
+        status: Status::Unset,
+        is_state: true,
+        pst: 0,
+        prl: 0,
+        link: Link::None,
+    };
+    let d = add_node(nodes, c, s, state)?;
+    link_to(nodes, edges, d, z, c.nodes)
 }
 
 // Adds a special node with the set s, which lacks nothing above, and links it.
@@ -84,7 +83,7 @@ pub fn link_special(
     p: u16,
     role: u8,
     s: &[u8; SET_BYTES],
-) -> Step
+) -> Result<Counts, Area>
     requires { EdgesHeld nodes.old edges.old c }
     ensures { Steps.AddsBelow nodes.old nodes.new edges.old edges.new c result
         (λ k g. Tableau.link_special k p role (set_of s.now 0) g) }
@@ -96,10 +95,8 @@ pub fn link_special(
         prl: role,
         link: Link::None,
     };
-    match add_node(nodes, c, s, special) {
-        Step::Done(d) => link_found(nodes, edges, d, c.nodes, s),
-        Step::Full(area) => Step::Full(area),
-    }
+    let d = add_node(nodes, c, s, special)?;
+    link_found(nodes, edges, d, c.nodes, s)
 }
 
 // What a set lacks joins the alternatives of state p while its status is none or open.
@@ -109,7 +106,7 @@ fn join(
     c: Counts,
     p: u16,
     lacked: &[u8; SET_BYTES],
-) -> Step
+) -> Result<Counts, Area>
     requires { Owns nodes.old alternatives.old c p }
     ensures { AddsAlternative nodes.old nodes.new alternatives.old alternatives.new c result
         (λ k g. Tableau.join_alternatives k p (set_of lacked.now 0) g) }
@@ -118,7 +115,7 @@ fn join(
     if is_live(status) {
         add_alternative(nodes, alternatives, c, p, lacked)
     } else {
-        Step::Done(c)
+        Ok(c)
     }
 }
 
@@ -133,7 +130,7 @@ pub fn add_lapsed(
     role: u8,
     s: &[u8; SET_BYTES],
     lacked: &[u8; SET_BYTES],
-) -> Step
+) -> Result<Counts, Area>
     requires { (from < c.nodes) × (p < c.nodes) × Held (work nodes.old edges.old alternatives.old) c }
     ensures { Refines (work nodes.old edges.old alternatives.old) c result
         (work nodes.new edges.new alternatives.new)
@@ -146,24 +143,16 @@ pub fn add_lapsed(
         prl: role,
         link: Link::Lapsed,
     };
-    match add_node(nodes, c, s, lapsed) {
-        Step::Done(d) => match join(nodes, alternatives, d, p, lacked) {
-            Step::Done(b) => add_edge(nodes, edges, b, from, c.nodes),
-            Step::Full(area) => Step::Full(area),
-        },
-        Step::Full(area) => Step::Full(area),
-    }
+    let d = add_node(nodes, c, s, lapsed)?;
+    let b = join(nodes, alternatives, d, p, lacked)?;
+    add_edge(nodes, edges, b, from, c.nodes)
 }
 
-// Which of the two tables of status pairs.
-#[derive(Clone, Copy)]
-enum Pairs {
-    Branch,
-    State,
-}
+// A table of status pairs.
+type Table = [[Status; 4]; 4];
 
 // The tables: rows and columns are yes, open, small, never.
-const BRANCH: [[Status; 4]; 4] = [
+const BRANCH: Table = [
     [Status::Sat, Status::Sat, Status::Sat, Status::Sat],
     [Status::Sat, Status::Open, Status::Open, Status::Open],
     [
@@ -175,7 +164,7 @@ const BRANCH: [[Status; 4]; 4] = [
     [Status::Sat, Status::Open, Status::TooSmall, Status::Unsat],
 ];
 
-const STATE: [[Status; 4]; 4] = [
+const STATE: Table = [
     [Status::Sat, Status::Open, Status::TooSmall, Status::Unsat],
     [Status::Open, Status::Open, Status::TooSmall, Status::Unsat],
     [
@@ -192,48 +181,43 @@ fn rank(s: Status) -> usize
     ensures { (result ≡ Procedure.rank (Codes.status_of s)) × (result < 4) }
 {
     match s {
-        Status::Unset => 1,
-        Status::Open => 1,
         Status::Sat => 0,
-        Status::Unsat => 3,
+        Status::Unset | Status::Open => 1,
         Status::TooSmall => 2,
+        Status::Unsat => 3,
     }
 }
 
 // The entry of a pair of statuses.
-fn entry(by: Pairs, a: Status, b: Status) -> Status
-    ensures { Codes.status_of result ≡ Procedure.entry (Tables.status_table by) (Codes.status_of a) (Codes.status_of b) }
+fn entry(table: &Table, a: Status, b: Status) -> Status
+    ensures { Codes.status_of result ≡ Procedure.entry (Tables.table_of table.now) (Codes.status_of a) (Codes.status_of b) }
 {
-    let i = rank(a);
-    let j = rank(b);
-    match by {
-        Pairs::Branch => {
-            let row = BRANCH[i];
-            row[j]
-        }
-        Pairs::State => {
-            let row = STATE[i];
-            row[j]
-        }
-    }
+    table[rank(a)][rank(b)]
 }
 
-// The statuses of the children of x, folded from `start` on.
-fn fold(nodes: &[u8], edges: &[u8], c: Counts, x: u16, by: Pairs, start: Status) -> Status
+// The statuses of the children of x, folded by a table from `start` on.
+fn fold(nodes: &[u8], edges: &[u8], c: Counts, x: u16, table: &Table, start: Status) -> Status
     requires { Tables.Judges nodes.now edges.now c x }
     ensures { Codes.status_of result
-        ≡ Procedure.fold_status (Tables.status_table by) (Codes.status_of start) (Tables.statuses_from nodes.now edges.now c x 0) }
+        ≡ Procedure.fold_status (Tables.table_of table.now) (Codes.status_of start) (Tables.statuses_from nodes.now edges.now c x 0) }
 {
     let mut v = start;
-    let mut i = 0;
-    loop {
-        let Next::At { index, node } = next_child(nodes, edges, c, x, i) else {
-            return v;
-        };
-        let status = status_of(nodes, node as usize);
-        v = entry(by, v, status);
-        i = index + 1;
+    let mut from = 0;
+    while let Some((i, y)) = next_child(nodes, edges, c, x, from) {
+        v = entry(table, v, status_of(nodes, y as usize));
+        from = i + 1;
     }
+    v
+}
+
+// Judges x by a table, from a status on.
+fn judge_by(nodes: &mut [u8], edges: &[u8], c: Counts, x: u16, table: &Table, start: Status)
+    requires { Tables.Judges nodes.old edges.now c x }
+    ensures { Tables.JudgesAs nodes.old nodes.new edges.now c
+        (Tableau.fold_children (Tables.table_of table.now) (Codes.status_of start) x) }
+{
+    let v = fold(nodes, edges, c, x, table, start);
+    set_status(nodes, c, x as usize, v);
 }
 
 // Judges x as a branch or a lapsed special node.
@@ -241,8 +225,7 @@ pub fn judge_branch(nodes: &mut [u8], edges: &[u8], c: Counts, x: u16)
     requires { Tables.Judges nodes.old edges.now c x }
     ensures { Tables.JudgesAs nodes.old nodes.new edges.now c (Tableau.judge_branch x) }
 {
-    let v = fold(nodes, edges, c, x, Pairs::Branch, Status::Unsat);
-    set_status(nodes, c, x as usize, v);
+    judge_by(nodes, edges, c, x, &BRANCH, Status::Unsat);
 }
 
 // Judges x as a state.
@@ -250,6 +233,5 @@ pub fn judge_state(nodes: &mut [u8], edges: &[u8], c: Counts, x: u16)
     requires { Tables.Judges nodes.old edges.now c x }
     ensures { Tables.JudgesAs nodes.old nodes.new edges.now c (Tableau.judge_state x) }
 {
-    let v = fold(nodes, edges, c, x, Pairs::State, Status::Sat);
-    set_status(nodes, c, x as usize, v);
+    judge_by(nodes, edges, c, x, &STATE, Status::Sat);
 }

@@ -2,18 +2,19 @@
 -- For the words ws of a decoded problem, the work areas w and counts c, the problem is `problem_of ws`, the graph `graph_of w c`, the places `capacity_of w`.
 --
 -- In order: putting a set; judging a node; a node that is linked, and the alternatives of a small state.
-use Rattle.std.specs.Prelude.{◌≡◌, List, ℕ, ◌≤◌, ◌<◌, length}
+use Rattle.std.specs.Prelude.{◌≡◌, List, ℕ, ◌≤◌, ◌<◌, length, Option, None, Some}
 use Rattle.concepts.specs.RowSet.{RowSet, missing}
 use Rattle.procedure.specs.Status.{Status, toosmall}
-use Rattle.procedure.specs.Graph.{unlinked, to_state, Capacity, node_at}
-use Rattle.procedure.specs.Tableau.{Put, below, put_within, judge, put_alternatives}
+use Rattle.procedure.specs.Graph.{unlinked, to_state, Graph, Capacity, reached, node_at, set_status}
+use Rattle.procedure.specs.Tableau.{Put, below, put_within, judge, judge_linked, put_alternatives}
 use Rattle.procedure.proofs.Fit.{PutFit, JudgeFit}
+use Rattle.records.specs.Codes.{status_of}
 use Rattle.records.specs.Records.{node_of}
 use Rattle.records.specs.declared.Node as D
+use Rattle.records.specs.declared.Status as Coded
 use Rattle.problem.specs.Decoded.{table_of, problem_of, Decoded}
-use Rattle.graph.specs.Graphs.{Work, graph_of, capacity_of, Held, Refines}
+use Rattle.graph.specs.Graphs.{Work, graph_of, capacity_of, Held, Step, Refines}
 use Rattle.graph.specs.declared.Counts.{Counts}
-use Rattle.graph.specs.declared.Step.{Step}
 
 -- the rows that a set lacks
 abbrev pub lacks : List ℕ → RowSet → ℕ
@@ -53,6 +54,11 @@ JudgeGives ws w c x r w' = (f : ℕ) → lacks ws (node_at (graph_of w c) x).row
 pub record LinkedAsks (ws : List ℕ) (w : Work) (c : Counts) (z y : ℕ) : Type 0 where
   pub judge : JudgeAsks ws w c z
   pub link : (node_at (graph_of w c) z).link ≡ to_state y
+
+-- what a node takes that is linked to a state of status s; or it takes none, since the state is small
+abbrev pub IsTaken : Coded.Status → Option Coded.Status → Type 0
+IsTaken s (Some v) = (put : Put) (z y : ℕ) (g : Graph) → judge_linked put z y (status_of s) g ≡ reached (set_status z (status_of v) g)
+IsTaken s None = status_of s ≡ toosmall
 
 pub record SmallAsks (ws : List ℕ) (w : Work) (c : Counts) (z y : ℕ) : Type 0 where
   pub linked : LinkedAsks ws w c z y

@@ -1,21 +1,21 @@
 -- The cases of judge, on plain values.
 --
 -- In order: a node, by its link and its kind; one that is linked, by the status of its state; one whose state is small.
-use Rattle.std.specs.Prelude.{◌≡◌, Bool, true, false, List, ℕ, ◌*◌, ◌≤◌, ◌<◌}
-use Rattle.std.proofs.Common.{sym, ap, ◌∙◌, subst, arith}
+use Rattle.std.specs.Prelude.{◌≡◌, ◌⊎◌, Bool, true, false, List, ℕ, ◌*◌, ◌≤◌, ◌<◌, None, Some, Ok}
+use Rattle.std.proofs.Common.{inl, inr, sym, ap, ◌∙◌, subst, arith}
 use Rattle.concepts.specs.Lists.{Bytes}
 use Rattle.procedure.specs.Status.{Status}
 use Rattle.procedure.specs.Graph.{to_state, Graph, reached, node_at, set_status}
 use Rattle.procedure.specs.GraphLaws.{Child}
 use Rattle.procedure.specs.Tableau.{Put, judge_linked, judge_branch, judge_state, judge}
 use Rattle.procedure.specs.TableauLaws.{judge-linked, judge-lapsed, judge-state, judge-branch, linked-sat, linked-unsat}
-use Rattle.procedure.specs.TableauLaws.{linked-unset, linked-open, linked-toosmall}
+use Rattle.procedure.specs.TableauLaws.{linked-open, linked-toosmall}
 use Rattle.procedure.proofs.Bare.{bare}
 use Rattle.procedure.proofs.Setting.{Setting}
 use Rattle.procedure.proofs.Invariant.{LinkShape}
 use Rattle.problem.specs.Decoded.{problem_of}
 use Rattle.records.specs.Areas.{room_of, Fits}
-use Rattle.graph.specs.Graphs.{Work, work, graph_of, capacity_of, Changes, ChangesNodes}
+use Rattle.graph.specs.Graphs.{Work, work, graph_of, capacity_of, Step, Changes, ChangesNodes}
 use Rattle.procedure.specs.Graph as G
 use Rattle.words.specs.Sizes.{node_size}
 use Rattle.rowset.specs.SetOf.{set_of}
@@ -30,9 +30,7 @@ use Rattle.records.specs.declared.Status as DStatus
 use Rattle.records.specs.declared.Status.TheVariants as Is
 use Rattle.steps.specs.Tables.{Judges, JudgesAs}
 use Rattle.graph.specs.declared.Counts.{Counts}
-use Rattle.graph.specs.declared.Step.{Step}
-use Rattle.graph.specs.declared.Step.TheVariants.{Done}
-use Rattle.tableau.specs.Clauses.{puts, JudgeAsks, JudgeGives, LinkedAsks, SmallAsks, SmallGives}
+use Rattle.tableau.specs.Clauses.{puts, JudgeAsks, JudgeGives, LinkedAsks, IsTaken, SmallAsks, SmallGives}
 
 -- ---- a node x
 
@@ -55,7 +53,7 @@ module _ {ws : List ℕ} {n e a : Bytes} {c : Counts} {x : ℕ} (A : JudgeAsks w
 
   -- a change of the nodes alone, as the judgement
   nodes-only : {n' : Bytes} (h : Graph → Graph) → ((put : Put) → judge put x g ≡ reached (h g)) → Changes (work n e a) c (work n' e a) h
-      → JudgeGives ws (work n e a) c x (Done c) (work n' e a)
+      → JudgeGives ws (work n e a) c x (Ok c) (work n' e a)
   nodes-only h q C f few = refines-as (changes-refines C) (q (puts ws f (capacity_of (work n e a))))
 
   -- with the node as it was loaded
@@ -73,18 +71,24 @@ module _ {ws : List ℕ} {n e a : Bytes} {c : Counts} {x : ℕ} (A : JudgeAsks w
     judge-links q = record { judge = A; link = linked-as q }
 
     pub judge-lapses : v.link ≡ Link.Lapsed → {n' : Bytes} → JudgesAs n n' e c (judge_branch x)
-        → JudgeGives ws (work n e a) c x (Done c) (work n' e a)
+        → JudgeGives ws (work n e a) c x (Ok c) (work n' e a)
     judge-lapses q J = nodes-only (judge_branch x) (λ put. judge-lapsed put x g (linked-as q)) (J a A.held)
 
     pub judge-states : v.link ≡ Link.None → v.is_state ≡ true → {n' : Bytes} → JudgesAs n n' e c (judge_state x)
-        → JudgeGives ws (work n e a) c x (Done c) (work n' e a)
+        → JudgeGives ws (work n e a) c x (Ok c) (work n' e a)
     judge-states q k J = nodes-only (judge_state x) (λ put. judge-state put x g (linked-as q) (kind k)) (J a A.held)
 
     pub judge-branches : v.link ≡ Link.None → v.is_state ≡ false → {n' : Bytes} → JudgesAs n n' e c (judge_branch x)
-        → JudgeGives ws (work n e a) c x (Done c) (work n' e a)
+        → JudgeGives ws (work n e a) c x (Ok c) (work n' e a)
     judge-branches q k J = nodes-only (judge_branch x) (λ put. judge-branch put x g (linked-as q) (kind k)) (J a A.held)
 
 -- ---- a node x that is linked to state y
+
+-- yes and never are taken as they are, and open
+pub taken-kept : (v : DStatus.Status) → (v ≡ Is.Sat) ⊎ ((v ≡ Is.Unsat) ⊎ (v ≡ Is.Open)) → IsTaken v (Some v)
+taken-kept v (inl q) put z y g = rw q (linked-sat put z y g)
+taken-kept v (inr (inl q)) put z y g = rw q (linked-unsat put z y g)
+taken-kept v (inr (inr q)) put z y g = rw q (linked-open put z y g)
 
 module _ {ws : List ℕ} {n e a : Bytes} {c : Counts} {x y : ℕ} (A : LinkedAsks ws (work n e a) c x y) where
   pub linked-there : y < c.nodes
@@ -102,34 +106,17 @@ module _ {ws : List ℕ} {n e a : Bytes} {c : Counts} {x y : ℕ} (A : LinkedAsk
 
   -- with the state's status as it was loaded
   module _ (v : DStatus.Status) (loaded : IsStatus n y v) where
-    status : {q : DStatus.Status} → v ≡ q → (node_at (g A.judge) y).status ≡ status_of q
-    status h = ap (λ (u : G.Node). u.status) (graph-node (work n e a) c y linked-there) ∙ sym loaded ∙ ap status_of h
+    status : (node_at (g A.judge) y).status ≡ status_of v
+    status = ap (λ (u : G.Node). u.status) (graph-node (work n e a) c y linked-there) ∙ sym loaded
 
-    takes : (q r : DStatus.Status) → ((put : Put) → judge_linked put x y (status_of q) (g A.judge) ≡ reached (set_status x (status_of r) (g A.judge)))
-        → v ≡ q
-        → {n' : Bytes} → ChangesNodes n n' c (set_status x (status_of r)) → JudgeGives ws (work n e a) c x (Done c) (work n' e a)
-    takes q r h k C = nodes-only A.judge (set_status x (status_of r))
-        (λ put. judge-linked put x (g A.judge) y A.link ∙ ap (λ (u : Status). judge_linked put x y u (g A.judge)) (status k) ∙ h put)
+    pub linked-takes : (u : DStatus.Status) → IsTaken v (Some u) → {n' : Bytes} → ChangesNodes n n' c (set_status x (status_of u))
+        → JudgeGives ws (work n e a) c x (Ok c) (work n' e a)
+    linked-takes u taken C = nodes-only A.judge (set_status x (status_of u))
+        (λ put. judge-linked put x (g A.judge) y A.link ∙ ap (λ (q : Status). judge_linked put x y q (g A.judge)) status ∙ taken put x y (g A.judge))
         (C e a A.judge.held)
 
-    pub takes-sat : v ≡ Is.Sat → {n' : Bytes} → ChangesNodes n n' c (set_status x (status_of Is.Sat))
-        → JudgeGives ws (work n e a) c x (Done c) (work n' e a)
-    takes-sat = takes Is.Sat Is.Sat (λ put. linked-sat put x y _)
-
-    pub takes-unsat : v ≡ Is.Unsat → {n' : Bytes} → ChangesNodes n n' c (set_status x (status_of Is.Unsat))
-        → JudgeGives ws (work n e a) c x (Done c) (work n' e a)
-    takes-unsat = takes Is.Unsat Is.Unsat (λ put. linked-unsat put x y _)
-
-    pub takes-unset : v ≡ Is.Unset → {n' : Bytes} → ChangesNodes n n' c (set_status x (status_of Is.Open))
-        → JudgeGives ws (work n e a) c x (Done c) (work n' e a)
-    takes-unset = takes Is.Unset Is.Open (λ put. linked-unset put x y _)
-
-    pub takes-open : v ≡ Is.Open → {n' : Bytes} → ChangesNodes n n' c (set_status x (status_of Is.Open))
-        → JudgeGives ws (work n e a) c x (Done c) (work n' e a)
-    takes-open = takes Is.Open Is.Open (λ put. linked-open put x y _)
-
-    pub linked-small : v ≡ Is.TooSmall → SmallAsks ws (work n e a) c x y
-    linked-small q = record { linked = A; small = status q }
+    pub linked-small : IsTaken v None → SmallAsks ws (work n e a) c x y
+    linked-small small = record { linked = A; small = status ∙ small }
 
 -- its state is small
 pub small-judges : {ws : List ℕ} {w : Work} {c : Counts} {x y : ℕ} → SmallAsks ws w c x y → {r : Step} {w' : Work} → SmallGives ws w c x y r w'

@@ -2,7 +2,7 @@
 --
 -- In order: the places (`Finished`, `Weighed`, `Complete`, `Linked`); a node with no status or never; a lapsed special node; a linked one; its
 -- judgement, and its edge.
-use Rattle.std.specs.Prelude.{◌≡◌, Bool, true, false, not, List, ℕ, zero, suc, ◌+◌, ◌*◌, ◌≤◌, ◌<◌, eqb, length}
+use Rattle.std.specs.Prelude.{◌≡◌, Bool, true, false, not, List, ℕ, zero, suc, ◌+◌, ◌*◌, ◌≤◌, ◌<◌, eqb, length, Ok, Err}
 use Rattle.std.proofs.Common.{sym, ap, ◌∙◌, subst, not-suc-le-zero, arith, eqb→eq}
 use Rattle.std.proofs.Math.Decide.{dec_lt}
 use Rattle.std.proofs.lemmas.Bool.{not-true, not-false}
@@ -28,14 +28,12 @@ use Rattle.words.specs.Sizes.{node_size, set_size}
 use Rattle.rowset.specs.SetOf.{set_of}
 use Rattle.records.specs.Areas.{room_of}
 use Rattle.records.specs.Records.{node_of}
-use Rattle.graph.specs.Graphs.{Work, work, graph_of, capacity_of, Held, EdgesHeld, Operation, Refines, AddsEdge}
+use Rattle.graph.specs.Graphs.{Work, work, graph_of, capacity_of, Held, EdgesHeld, Step, Operation, Refines, AddsEdge}
 use Rattle.graph.specs.GraphLaws.{sized-refl, sized-places, count-nodes, graph-set, held-set}
 use Rattle.graph.specs.RefineLaws.{refines-answer, refines-as, refines-held, refines-then, refines-short}
 use Rattle.records.specs.declared.Node as D
 use Rattle.graph.specs.declared.Counts.{Counts}
 use Rattle.graph.specs.declared.Area.{Area}
-use Rattle.graph.specs.declared.Step.{Step}
-use Rattle.graph.specs.declared.Step.TheVariants.{Done, Full}
 use Rattle.steps.specs.Steps.{AddsBelow, add_child, add_lapsed}
 use Rattle.tableau.specs.Clauses.{lacks, puts, Below, PutAsks, PutGives, JudgeAsks, JudgeGives}
 
@@ -77,7 +75,7 @@ module _ {ws : List ℕ} {n e a : Bytes} {c : Counts} {m p ρ : ℕ} {s : RowSet
   -- and the special node is made and linked
   pub record Linked (w₁ : Work) (c₁ : Counts) : Type 0 where
     pub complete : Complete
-    pub gives : Refines w c (Done c₁) w₁ (λ k h. link_special k p ρ s h)
+    pub gives : Refines w c (Ok c₁) w₁ (λ k h. link_special k p ρ s h)
 
   -- what holds one unit of fuel up holds with any that suffices
   fueled : {r : Step} {w' : Work} → ((f : ℕ) → lacks ws s ≤ f → Refines w c r w' (λ k h. puts ws (suc f) k m p ρ s h))
@@ -135,6 +133,15 @@ module _ {ws : List ℕ} {n e a : Bytes} {c : Counts} {m p ρ : ℕ} {s : RowSet
       turned-lacks hι (set_of n (node_size * p)) ∙ ap (λ (q : RowSet). lacking P s (inverse ρ) q) (sym (graph-set w c p above-there)) in
       record { finished = F; turned = is; test = hb ∙ ap (λ (q : RowSet). not (eqb q empty)) is }
 
+  -- the same where the tests were made, one after another: b of a clash, d of what is unfinished, v of what is lacking at place k
+  module _ {b d : Bool} (hb : b ≡ clash P s) (clean : b ≡ false) (hd : d ≡ unfinished P.table s) (finished : d ≡ false)
+      {ι : ℕ} (turned : Turned ρ ι) {k : ℕ} (at : k ≡ node_size * p) {v : Bool} (hv : v ≡ not (eqb (lacking P s ι (set_of n k)) empty)) where
+    pub put-weighs : Weighed ι v
+    put-weighs = put-weighed (put-finished hb clean hd finished) turned (hv ∙ ap (λ (q : ℕ). not (eqb (lacking P s ι (set_of n q)) empty)) at)
+
+    pub put-completes : v ≡ false → Complete
+    put-completes q = record { finished = put-weighs.finished; nothing = not-false (eqb lacked empty) (sym put-weighs.test ∙ q) }
+
   -- where that stands
   pub put-above : node_size * p + set_size ≤ length n
   put-above = held-set A.held above-there
@@ -168,11 +175,11 @@ module _ {ws : List ℕ} {n e a : Bytes} {c : Counts} {m p ρ : ℕ} {s : RowSet
   put_is f = put_linked (P A) (cap A) f m p ρ s (g A) K.finished.clean K.finished.finished K.nothing
 
   module _ {n₁ e₁ : Bytes} {r₁ : Step} (L : AddsBelow n n₁ e e₁ c r₁ (λ k h. link_special k p ρ s h)) where
-    pub put-link-short : {x : Area} → r₁ ≡ Full x → PutGives ws (work n e a) c m p ρ s (Full x) (work n₁ e₁ a)
+    pub put-link-short : {x : Area} → r₁ ≡ Err x → PutGives ws (work n e a) c m p ρ s (Err x) (work n₁ e₁ a)
     put-link-short er =
         fueled A (λ f few. refines-as (refines-short (refines-short (refines-answer (L a A.held) er) (judging f) sized-refl) closing sized-refl) (put_is f))
 
-    pub put-links : {c₁ : Counts} → r₁ ≡ Done c₁ → Linked A (work n₁ e₁ a) c₁
+    pub put-links : {c₁ : Counts} → r₁ ≡ Ok c₁ → Linked A (work n₁ e₁ a) c₁
     put-links er = record { complete = K; gives = refines-answer (L a A.held) er }
 
 -- ---- the special node is made: its judgement, and its edge
@@ -225,17 +232,17 @@ module _ {ws : List ℕ} {n e a : Bytes} {c : Counts} {m p ρ : ℕ} {s : RowSet
         (subst (λ (i : ℕ). Refines w₁ c₁ r (work n₂ e₂ a₂) (λ k h. judge (puts ws f k) i h)) (sym (count-nodes (w A) c))
         (refines-answer (J f (subst (λ (x : RowSet). lacks ws x ≤ f) (sym new-rows) few)) er))
 
-    pub put-judge-short : {x : Area} → r₂ ≡ Full x → PutGives ws (work n e a) c m p ρ s (Full x) (work n₂ e₂ a₂)
+    pub put-judge-short : {x : Area} → r₂ ≡ Err x → PutGives ws (work n e a) c m p ρ s (Err x) (work n₂ e₂ a₂)
     put-judge-short er = fueled A (λ f few. refines-as (refines-short (judged er f few) (closing L.complete) sized-refl) (put_is L.complete f))
 
     -- what the edge to the new node asks
-    pub put-edge-asks : {c₂ : Counts} → r₂ ≡ Done c₂ → (m < c₂.nodes) × (c.nodes < c₂.nodes) × (c₂.nodes ≤ room_of node_size n₂)
+    pub put-edge-asks : {c₂ : Counts} → r₂ ≡ Ok c₂ → (m < c₂.nodes) × (c.nodes < c₂.nodes) × (c₂.nodes ≤ room_of node_size n₂)
     put-edge-asks er =
         let B = refines-answer (J (lacks ws (node_at g₁ c.nodes).rows) (omega arith)) er in
         let more : c.nodes < c₁.nodes = omega (arith, started.made.fresh.there, count-nodes (w A) c, count-nodes w₁ c₁) in
         (omega (arith, here A, more, B.held.1.nodes), omega (arith, more, B.held.1.nodes), B.held.0.nodes)
 
-    pub put-judged : {c₂ : Counts} → r₂ ≡ Done c₂ → {n₃ e₃ : Bytes} {r₃ : Step}
+    pub put-judged : {c₂ : Counts} → r₂ ≡ Ok c₂ → {n₃ e₃ : Bytes} {r₃ : Step}
         → AddsEdge n₂ n₃ e₂ e₃ c₂ r₃ (λ k h. add_edge k m c.nodes h)
         → PutGives ws (work n e a) c m p ρ s r₃ (work n₃ e₃ a₂)
     put-judged {c₂} er {n₃} {e₃} {r₃} E = fueled A (λ f few.

@@ -2,7 +2,7 @@
 --
 -- In order: what the call is about; the loop's invariant (`AlternativesPut`); its start; alternatives that were there stay where they are; the end;
 -- the next alternative (`AlternativeFound`, `AlternativeJoined`), and its put.
-use Rattle.std.specs.Prelude.{◌≡◌, ◌⊎◌, ℕ, ◌+◌, ◌-◌, ◌*◌, ◌≤◌, ◌<◌, length}
+use Rattle.std.specs.Prelude.{◌≡◌, ◌⊎◌, ℕ, ◌+◌, ◌-◌, ◌*◌, ◌≤◌, ◌<◌, length, Option, None, Some, Ok, Err}
 use Rattle.std.proofs.Common.{sym, ap, ◌∙◌, subst, inl, arith}
 use mathlib.Core.List.{List, [], ◌∷◌, Memᴰ}
 use Rattle.concepts.specs.Lists.{Bytes}
@@ -24,20 +24,16 @@ use Rattle.rowset.specs.SetOf.{set_of}
 use Rattle.problem.specs.Decoded.{problem_of}
 use Rattle.records.specs.Areas.{room_of}
 use Rattle.records.specs.Records.{node_of, IsNode}
-use Rattle.graph.specs.Graphs.{Work, work, graph_of, capacity_of, Sized, Refines, Changes, ChangesNodes, WithAlternatives}
+use Rattle.graph.specs.Graphs.{Work, work, graph_of, capacity_of, Sized, Step, Refines, Changes, ChangesNodes, WithAlternatives}
 use Rattle.graph.specs.Graphs.{alternatives_from, AmongAlternatives, Walks, IsNextAlternative}
 use Rattle.graph.specs.GraphLaws.{sized-refl, sized-trans, sized-places, count-nodes, graph-node, graph-set, held-most, held-set, held-alternative}
 use Rattle.graph.specs.SearchLaws.{alternatives-all, alternatives-kept, among-alternatives-same, next-alternative-same}
 use Rattle.graph.specs.RefineLaws.{refines-answer, refines-as, refines-short, refines-changes, changes-both}
 use Rattle.graph.specs.RefineLaws.{Course, course-start, course-next, course-short, course-end}
-use Rattle.graph.specs.declared.NextAlternative.{NextAlternative}
-use Rattle.graph.specs.declared.NextAlternative.TheVariants as Next
 use Rattle.records.specs.declared.Node as D
 use Rattle.steps.specs.Tables.{Judges, JudgesAs}
 use Rattle.graph.specs.declared.Counts.{Counts}
 use Rattle.graph.specs.declared.Area.{Area}
-use Rattle.graph.specs.declared.Step.{Step}
-use Rattle.graph.specs.declared.Step.TheVariants.{Done, Full}
 use Rattle.tableau.specs.Clauses.{lacks, puts, PutAsks, PutGives, SmallAsks, SmallGives}
 use Rattle.tableau.specs.JudgeCases.{linked-there}
 
@@ -166,24 +162,24 @@ module _ {ws : List ℕ} {w : Work} {c : Counts} {z y : ℕ} {n' e' a' : Bytes} 
   turn-sets = (there, so_far.held.nodes)
 
   -- what the step says of the next alternative
-  abbrev Tells : NextAlternative → Type 0
+  abbrev Tells : Option ℕ → Type 0
   Tells v = WithAlternatives n' a' c (λ u. AmongAlternatives u y i → IsNextAlternative a' v i c.alternatives (alternatives_from u y)
       (AmongAlternatives u y))
 
-  module _ {v : NextAlternative} (W : Tells v) where
+  module _ {v : Option ℕ} (W : Tells v) where
     -- the alternatives of the start stand where they stood
-    told : {u : NextAlternative} → v ≡ u → IsNextAlternative a' u i c.alternatives (alternatives_from (g A) y) (AmongAlternatives (g A) y)
+    told : {u : Option ℕ} → v ≡ u → IsNextAlternative a' u i c.alternatives (alternatives_from (g A) y) (AmongAlternatives (g A) y)
     told ev =
         let (more, q) = t.alternates.grows.alternatives in
         let same = alternatives-kept w (work n' e' a') so_far.grown more q in
-        subst (λ (u : NextAlternative). IsNextAlternative a' u i c.alternatives (alternatives_from (g A) y) (AmongAlternatives (g A) y)) ev
+        subst (λ (u : Option ℕ). IsNextAlternative a' u i c.alternatives (alternatives_from (g A) y) (AmongAlternatives (g A) y)) ev
         (next-alternative-same (g A) (graph_of (work n' e' a') c) y i c.alternatives a' same v
         (W e' d so_far.held so_far.grown (among-alternatives-same (graph_of (work n' e' a') c) (g A) y i (sym same) t.among)))
 
-    pub turn-next : {j : ℕ} → v ≡ Next.At j → AlternativeFound j (set_of a' (alternative_size * j))
+    pub turn-next : {j : ℕ} → v ≡ Some j → AlternativeFound j (set_of a' (alternative_size * j))
     turn-next ev = let (l, m, q, o) = told ev in record { from = l; below = m; here = q; among = o }
 
-    none_left : v ≡ Next.End → alternatives_from (g A) y i ≡ []
+    none_left : v ≡ None → alternatives_from (g A) y i ≡ []
     none_left ev = told ev
 
   -- ---- the end: the node lapses, and is judged by its children
@@ -200,8 +196,8 @@ module _ {ws : List ℕ} {w : Work} {c : Counts} {z y : ℕ} {n' e' a' : Bytes} 
         (arith, (t.alternates.inv.ends z v m).1, count-nodes (work n' e' a') d) in
         record { alternatives = a'; held = C.held; node = there; inside = λ v m. inside v (subst (λ (l : List ℕ). Memᴰ v l) q m) }
 
-    pub turn_end : {v : NextAlternative} → Tells v → v ≡ Next.End
-        → {n₂ : Bytes} → JudgesAs n₁ n₂ e' d (judge_branch z) → SmallGives ws w c z y (Done d) (work n₂ e' a')
+    pub turn_end : {v : Option ℕ} → Tells v → v ≡ None
+        → {n₂ : Bytes} → JudgesAs n₁ n₂ e' d (judge_branch z) → SmallGives ws w c z y (Ok d) (work n₂ e' a')
     turn_end W ev B f few =
         let all : Course (step A f) (alternatives_of (g A) y) w c [] (work n' e' a') d = rw (none_left W ev) at (t.course f few) in
         refines-as (refines-changes (course-end all) (changes-both C (B a' C.held))) (alternatives-put (puts ws f (capacity_of w)) z y (g A))
@@ -287,12 +283,12 @@ module _ {ws : List ℕ} {w : Work} {c : Counts} {z y : ℕ} {n' e' a' : Bytes} 
     course-here : (f : ℕ) → k (A t) ≤ f → Course (step (A t) f) (alternatives_of (g (A t)) y) w c (b ∷ todo) w' d
     course-here f few = rw q.chosen.here at (t.course f few)
 
-    pub turn-short : {x : Area} → r ≡ Full x → SmallGives ws w c z y (Full x) w''
+    pub turn-short : {x : Area} → r ≡ Err x → SmallGives ws w c z y (Err x) w''
     turn-short er f few =
         refines-as (refines-short (course-short (course-here f few) (did er f few)) (λ u k h. reached (judge_branch z (set_link z lapsed h))) sized-refl)
         (alternatives-put (puts ws f (capacity_of w)) z y (g (A t)))
 
-    pub turn-put : {d₂ : Counts} → r ≡ Done d₂ → AlternativesPut ws w c z y w'' d₂ (j + 1)
+    pub turn-put : {d₂ : Counts} → r ≡ Ok d₂ → AlternativesPut ws w c z y w'' d₂ (j + 1)
     turn-put {d₂} er =
         let B = did er (k (A t)) (omega arith) in
         record {

@@ -1,6 +1,6 @@
 // The tableau over lent areas (01, The procedure).
 //
-// In order: putting a set; judging a node; the alternatives of a small state. They call each other: the rows missing from the set fall.
+// In order: putting a set; judging a node, and what a linked one takes; the alternatives of a small state. They call each other: the rows missing from the set fall.
 #![tactic(auto)]
 
 ghost use Rattle.std.specs.Prelude.{◌≡◌, ◌+◌, ◌*◌, ◌≤◌, ◌<◌, length};
@@ -9,9 +9,9 @@ ghost use Rattle.words.specs.Sizes.{node_size, alternative_size, set_size, most_
 ghost use Rattle.records.specs.Codes.{status_of};
 ghost use Rattle.graph.specs.Graphs.{work};
 ghost use Rattle.rowset.specs.SetOf.{set_of};
-ghost use Rattle.tableau.specs.Clauses.{Below, PutAsks, PutGives, JudgeAsks, JudgeGives, LinkedAsks, SmallAsks, SmallGives};
+ghost use Rattle.tableau.specs.Clauses.{Below, PutAsks, PutGives, JudgeAsks, JudgeGives, LinkedAsks, IsTaken, SmallAsks, SmallGives};
 
-use graph::{Counts, NextAlternative, Step, add_edge, next_alternative, set_link, set_status};
+use graph::{Area, Counts, add_edge, next_alternative, set_link, set_status};
 use problem::inverse;
 use records::{Link, Node, Status, alternative_set, load_node, node_set, status_of};
 use rowset::{copy, join};
@@ -44,7 +44,7 @@ pub fn put(
     p: u16,
     role: u8,
     s: &[u8; SET_BYTES],
-) -> Step
+) -> Result<Counts, Area>
     requires { PutAsks problem.now (work nodes.old edges.old alternatives.old) c m p role (set_of s.now 0) }
     ensures { PutGives problem.now (work nodes.old edges.old alternatives.old) c m p role
         (set_of s.now 0)
@@ -64,13 +64,9 @@ pub fn put(
         return add_lapsed(nodes, edges, alternatives, c, m, p, role, s, &lacked);
     }
     let z = c.nodes;
-    match link_special(nodes, edges, c, p, role, s) {
-        Step::Full(area) => Step::Full(area),
-        Step::Done(d) => match judge(problem, nodes, edges, alternatives, d, z) {
-            Step::Full(area) => Step::Full(area),
-            Step::Done(b) => add_edge(nodes, edges, b, m, z),
-        },
-    }
+    let d = link_special(nodes, edges, c, p, role, s)?;
+    let b = judge(problem, nodes, edges, alternatives, d, z)?;
+    add_edge(nodes, edges, b, m, z)
 }
 
 // Gives node x its status, by its state or its children.
@@ -82,28 +78,38 @@ pub fn judge(
     alternatives: &mut [u8],
     c: Counts,
     x: u16,
-) -> Step
+) -> Result<Counts, Area>
     requires { JudgeAsks problem.now (work nodes.old edges.old alternatives.old) c x }
     ensures { JudgeGives problem.now
         (work nodes.old edges.old alternatives.old) c x result
         (work nodes.new edges.new alternatives.new) }
 {
     let node = load_node(nodes, x as usize);
-    let link = node.link;
-    match link {
+    match node.link {
         Link::State(y) => judge_linked(problem, nodes, edges, alternatives, c, x, y),
         Link::Lapsed => {
             judge_branch(nodes, edges, c, x);
-            Step::Done(c)
+            Ok(c)
         }
         Link::None => {
             if node.is_state {
                 judge_state(nodes, edges, c, x);
-                return Step::Done(c);
+                return Ok(c);
             }
             judge_branch(nodes, edges, c, x);
-            Step::Done(c)
+            Ok(c)
         }
+    }
+}
+
+// What a node takes of the status of the state that it is linked to: its yes or never, and open for none or open. Of small it takes nothing.
+fn taken(s: Status) -> Option<Status>
+    ensures { IsTaken s result }
+{
+    match s {
+        Status::Sat | Status::Unsat | Status::Open => Some(s),
+        Status::Unset => Some(Status::Open),
+        Status::TooSmall => None,
     }
 }
 
@@ -117,31 +123,17 @@ fn judge_linked(
     c: Counts,
     x: u16,
     y: u16,
-) -> Step
+) -> Result<Counts, Area>
     requires { LinkedAsks problem.now (work nodes.old edges.old alternatives.old) c x y }
     ensures { JudgeGives problem.now
         (work nodes.old edges.old alternatives.old) c x result
         (work nodes.new edges.new alternatives.new) }
 {
-    match status_of(nodes, y as usize) {
-        Status::Sat => {
-            set_status(nodes, c, x as usize, Status::Sat);
-            Step::Done(c)
-        }
-        Status::Unsat => {
-            set_status(nodes, c, x as usize, Status::Unsat);
-            Step::Done(c)
-        }
-        Status::Unset => {
-            set_status(nodes, c, x as usize, Status::Open);
-            Step::Done(c)
-        }
-        Status::Open => {
-            set_status(nodes, c, x as usize, Status::Open);
-            Step::Done(c)
-        }
-        Status::TooSmall => put_alternatives(problem, nodes, edges, alternatives, c, x, y),
-    }
+    let Some(status) = taken(status_of(nodes, y as usize)) else {
+        return put_alternatives(problem, nodes, edges, alternatives, c, x, y);
+    };
+    set_status(nodes, c, x as usize, status);
+    Ok(c)
 }
 
 // The set of alternative i joined to the set of node y, in an array that is lent.
@@ -164,7 +156,7 @@ fn put_alternatives(
     c: Counts,
     z: u16,
     y: u16,
-) -> Step
+) -> Result<Counts, Area>
     requires { SmallAsks problem.now (work nodes.old edges.old alternatives.old) c z y }
     ensures { SmallGives problem.now
         (work nodes.old edges.old alternatives.old) c z y result
@@ -172,17 +164,11 @@ fn put_alternatives(
 {
     let node = load_node(nodes, z as usize);
     let mut cur = c;
-    let mut i: usize = 0;
-    loop {
-        let NextAlternative::At(index) = next_alternative(nodes, alternatives, c, y, i) else {
-            set_link(nodes, cur, z as usize, Link::Lapsed);
-            judge_branch(nodes, edges, cur, z);
-            return Step::Done(cur);
-        };
-        i = index + 1;
+    let mut from = 0;
+    while let Some(i) = next_alternative(nodes, alternatives, c, y, from) {
         let mut joined = [0u8; SET_BYTES];
-        join_alternative(nodes, y, alternatives, index, &mut joined);
-        match put(
+        join_alternative(nodes, y, alternatives, i, &mut joined);
+        cur = put(
             problem,
             nodes,
             edges,
@@ -192,9 +178,10 @@ fn put_alternatives(
             node.pst,
             node.prl,
             &joined,
-        ) {
-            Step::Full(area) => return Step::Full(area),
-            Step::Done(next) => cur = next,
-        }
+        )?;
+        from = i + 1;
     }
+    set_link(nodes, cur, z as usize, Link::Lapsed);
+    judge_branch(nodes, edges, cur, z);
+    Ok(cur)
 }

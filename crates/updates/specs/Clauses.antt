@@ -1,8 +1,9 @@
 -- What an update relies on, and what it gives. Words, areas and counts as in the tableau's contracts.
 --
 -- In order: what is asked; the update and the parents of a node; one node judged again, before its parents; whether a parent is left.
-use Rattle.std.specs.Prelude.{Bool, true, false, List, [], ◌∷◌, ℕ, ◌+◌, ◌-◌, ◌<◌}
-use Rattle.procedure.specs.Graph.{Capacity, Graph, Result, node_count}
+use Rattle.std.specs.Prelude.{Bool, true, false, List, [], ◌∷◌, ℕ, ◌+◌, ◌-◌, ◌<◌, Result, Ok, Err}
+use Rattle.procedure.specs.Graph as G
+use Rattle.procedure.specs.Graph.{Capacity, Graph, node_count}
 use Rattle.procedure.specs.Tableau.{update_within, update_parents}
 use Rattle.procedure.proofs.Grows.{Grows}
 use Rattle.procedure.proofs.Fit.{Fit}
@@ -10,10 +11,9 @@ use Rattle.procedure.proofs.Measure.{settled}
 use Rattle.words.specs.Sizes.{node_size}
 use Rattle.problem.specs.Decoded.{problem_of, Decoded}
 use Rattle.records.specs.Areas.{room_of}
-use Rattle.graph.specs.Graphs.{Work, graph_of, capacity_of, Held, CountsGrown, Sized, Refines}
+use Rattle.graph.specs.Graphs.{Work, graph_of, capacity_of, Held, CountsGrown, Sized, Step, Refines}
 use Rattle.graph.specs.declared.Counts.{Counts}
-use Rattle.graph.specs.declared.Step.{Step}
-use Rattle.graph.specs.declared.Step.TheVariants.{Done, Full}
+use Rattle.graph.specs.declared.Area.{Area}
 use Rattle.updates.specs.declared.Rejudged.{Rejudged}
 
 -- ---- what is asked
@@ -35,7 +35,7 @@ unsettled w c = room_of node_size w.nodes - settled (graph_of w c)
 -- ---- the update, and the parents of a node
 
 -- the update of the definitions, with so much fuel and in so many places
-abbrev pub updates : List ℕ → ℕ → Capacity → ℕ → Graph → Result
+abbrev pub updates : List ℕ → ℕ → Capacity → ℕ → Graph → G.Result
 updates ws f k x g = update_within (problem_of ws) k f x g
 
 -- whatever the fuel, as long as it is enough
@@ -62,12 +62,12 @@ pub record Settles (ws : List ℕ) (w : Work) (c : Counts) (x : ℕ) (w' : Work)
   pub whole : {r : Step} {w'' : Work} → ParentsGives ws w' d x r w'' → UpdateGives ws w c x r w''
 
 -- the update is done, unless the status changed
-abbrev pub RejudgedTo : List ℕ → Work → Counts → ℕ → Rejudged → Work → Type 0
-RejudgedTo ws w c x (Rejudged.Kept d) w' = UpdateGives ws w c x (Done d) w'
-RejudgedTo ws w c x (Rejudged.Changed d) w' = Settles ws w c x w' d
-RejudgedTo ws w c x (Rejudged.Full p) w' = UpdateGives ws w c x (Full p) w'
+abbrev pub RejudgedTo : List ℕ → Work → Counts → ℕ → Result Rejudged Area → Work → Type 0
+RejudgedTo ws w c x (Ok (Rejudged.Kept d)) w' = UpdateGives ws w c x (Ok d) w'
+RejudgedTo ws w c x (Ok (Rejudged.Changed d)) w' = Settles ws w c x w' d
+RejudgedTo ws w c x (Err p) w' = UpdateGives ws w c x (Err p) w'
 
-pub record RejudgeGives (ws : List ℕ) (w : Work) (c : Counts) (x : ℕ) (r : Rejudged) (w' : Work) : Type 0 where
+pub record RejudgeGives (ws : List ℕ) (w : Work) (c : Counts) (x : ℕ) (r : Result Rejudged Area) (w' : Work) : Type 0 where
   pub came : RejudgedTo ws w c x r w'
 
 -- ---- whether a parent is left

@@ -1,17 +1,14 @@
 -- The loop of `update_parents`, which goes from a node's last parent on to that one's parents: a turn, on plain values.
 --
 -- In order: the loop's invariant (`Climb`) and its measure; its start; the next parent, or the end; what judging it came to; the last parent; any other.
-use Rattle.std.specs.Prelude.{◌≡◌, Bool, true, List, ℕ, ◌+◌, ◌-◌, ◌*◌, ◌<◌}
+use Rattle.std.specs.Prelude.{◌≡◌, Bool, true, List, ℕ, ◌+◌, ◌-◌, ◌*◌, ◌<◌, Option, None, Result, Ok, Err}
 use Rattle.std.proofs.Common.{subst, arith}
 use Rattle.concepts.specs.Lists.{Bytes}
 use Rattle.words.specs.Sizes.{most_records}
-use Rattle.graph.specs.Graphs.{Work, work}
+use Rattle.graph.specs.Graphs.{Work, work, Step}
 use Rattle.graph.specs.GraphLaws.{held-most}
 use Rattle.graph.specs.declared.Counts.{Counts}
-use Rattle.graph.specs.declared.Next.{Next}
 use Rattle.graph.specs.declared.Area.{Area}
-use Rattle.graph.specs.declared.Step.{Step}
-use Rattle.graph.specs.declared.Step.TheVariants.{Done, Full}
 use Rattle.updates.specs.declared.Rejudged.{Rejudged}
 use Rattle.updates.specs.Clauses.{UpdateAsks, unsettled, UpdateGives, ParentsGives, Later, Settles, RejudgedTo, RejudgeGives}
 use Rattle.updates.specs.LaterLaws.{later_refl, later_trans, later-unsettled, update-later}
@@ -40,11 +37,11 @@ climb-start {w = w} A = record { areas = w; turn = turn-start A; whole = λ r w'
 
 module _ {ws : List ℕ} {w : Work} {c : Counts} {x : ℕ} {n' e' a' : Bytes} {child : ℕ} {start d : Counts} {i : ℕ}
     (I : Climb ws w c x (work n' e' a') child start d i) where
-  pub climb-end : {v : Next} → Tells n' e' start child i v → v ≡ Next.End → ParentsGives ws w c x (Done d) (work n' e' a')
-  climb-end W ev = I.whole (Done d) (work n' e' a') (turn_end I.turn W ev)
+  pub climb-end : {v : Option (ℕ × ℕ)} → Tells n' e' start child i v → v ≡ None → ParentsGives ws w c x (Ok d) (work n' e' a')
+  climb-end W ev = I.whole (Ok d) (work n' e' a') (turn_end I.turn W ev)
 
   module _ {j y : ℕ} (p : ParentFound I.turn j y) where
-    module _ {d₂ : Counts} {w'' : Work} (G : UpdateGives ws (work n' e' a') d y (Done d₂) w'') where
+    module _ {d₂ : Counts} {w'' : Work} (G : UpdateGives ws (work n' e' a') d y (Ok d₂) w'') where
       went_on : Later (work n' e' a') d w'' d₂
       went_on = update-later (turn-asks p) G
 
@@ -61,20 +58,20 @@ module _ {ws : List ℕ} {w : Work} {c : Counts} {x : ℕ} {n' e' a' : Bytes} {c
     abbrev pub Changed : Work → Counts → Type 0
     Changed w₁ d₁ = Settles ws (work n' e' a') d y w₁ d₁
 
-    module _ {v : Rejudged} {w₁ : Work} (R : RejudgeGives ws (work n' e' a') d y v w₁) where
-      came-to : {u : Rejudged} → v ≡ u → RejudgedTo ws (work n' e' a') d y u w₁
-      came-to ev = subst (λ (v : Rejudged). RejudgedTo ws (work n' e' a') d y v w₁) ev R.came
+    module _ {v : Result Rejudged Area} {w₁ : Work} (R : RejudgeGives ws (work n' e' a') d y v w₁) where
+      came-to : {u : Result Rejudged Area} → v ≡ u → RejudgedTo ws (work n' e' a') d y u w₁
+      came-to ev = subst (λ (v : Result Rejudged Area). RejudgedTo ws (work n' e' a') d y v w₁) ev R.came
 
-      pub climb-short : {s : Area} → v ≡ Rejudged.Full s → ParentsGives ws w c x (Full s) w₁
-      climb-short {s} ev = I.whole (Full s) w₁ (turn-short p (came-to ev))
+      pub climb-short : {s : Area} → v ≡ Err s → ParentsGives ws w c x (Err s) w₁
+      climb-short {s} ev = I.whole (Err s) w₁ (turn-short p (came-to ev))
 
-      pub climb-kept : {d₁ : Counts} → v ≡ Rejudged.Kept d₁ → Climb ws w c x w₁ child start d₁ (j + 1)
+      pub climb-kept : {d₁ : Counts} → v ≡ Ok (Rejudged.Kept d₁) → Climb ws w c x w₁ child start d₁ (j + 1)
       climb-kept ev = updated (came-to ev)
 
-      pub climb-kept-less : {d₁ : Counts} → v ≡ Rejudged.Kept d₁ → climbing w₁ start d₁ (j + 1) < climbing (work n' e' a') start d i
+      pub climb-kept-less : {d₁ : Counts} → v ≡ Ok (Rejudged.Kept d₁) → climbing w₁ start d₁ (j + 1) < climbing (work n' e' a') start d i
       climb-kept-less ev = less (came-to ev)
 
-      pub climb-changed : {d₁ : Counts} → v ≡ Rejudged.Changed d₁ → Changed w₁ d₁
+      pub climb-changed : {d₁ : Counts} → v ≡ Ok (Rejudged.Changed d₁) → Changed w₁ d₁
       climb-changed ev = came-to ev
 
     -- ---- a parent whose status changed
@@ -100,11 +97,11 @@ module _ {ws : List ℕ} {w : Work} {c : Counts} {x : ℕ} {n' e' a' : Bytes} {c
         went : {s : Step} → r ≡ s → UpdateGives ws (work n' e' a') d y s w₂
         went er = S.whole (subst (λ (r : Step). ParentsGives ws (work n₁ e₁ a₁) d₁ y r w₂) er G)
 
-        pub climb-nested-short : {s : Area} → r ≡ Full s → ParentsGives ws w c x (Full s) w₂
-        climb-nested-short {s} er = I.whole (Full s) w₂ (turn-short p (went er))
+        pub climb-nested-short : {s : Area} → r ≡ Err s → ParentsGives ws w c x (Err s) w₂
+        climb-nested-short {s} er = I.whole (Err s) w₂ (turn-short p (went er))
 
-        pub climb-nested : {d₂ : Counts} → r ≡ Done d₂ → Climb ws w c x w₂ child start d₂ (j + 1)
+        pub climb-nested : {d₂ : Counts} → r ≡ Ok d₂ → Climb ws w c x w₂ child start d₂ (j + 1)
         climb-nested er = updated (went er)
 
-        pub climb-nested-less : {d₂ : Counts} → r ≡ Done d₂ → climbing w₂ start d₂ (j + 1) < climbing (work n' e' a') start d i
+        pub climb-nested-less : {d₂ : Counts} → r ≡ Ok d₂ → climbing w₂ start d₂ (j + 1) < climbing (work n' e' a') start d i
         climb-nested-less er = less (went er)

@@ -1,5 +1,5 @@
 -- Laws of areas some steps later (`Later`): one time after another; what stays as it was; an update that is done leads to such areas.
-use Rattle.std.specs.Prelude.{◌≡◌, List, ℕ, ◌+◌, ◌≤◌, ◌<◌}
+use Rattle.std.specs.Prelude.{◌≡◌, List, ℕ, ◌+◌, ◌≤◌, ◌<◌, Ok}
 use Rattle.std.proofs.Common.{sym, ap, subst, arith}
 use Rattle.procedure.specs.Graph.{Capacity, Result}
 use Rattle.procedure.proofs.Sure.{Sure}
@@ -12,7 +12,6 @@ use Rattle.graph.specs.Graphs.{Work, graph_of, capacity_of, Held, Refines, Walks
 use Rattle.graph.specs.GraphLaws.{grown-refl, grown-trans, sized-refl, sized-trans, sized-places}
 use Rattle.graph.specs.SearchLaws.{edges-kept}
 use Rattle.graph.specs.declared.Counts.{Counts}
-use Rattle.graph.specs.declared.Step.TheVariants.{Done}
 use Rattle.updates.specs.Clauses.{UpdateAsks, Enough, unsettled, updates, UpdateGives, Later}
 
 -- ---- one time after another
@@ -61,12 +60,12 @@ module _ {w : Work} {c : Counts} {w' : Work} {d : Counts} (l : Later w c w' d) w
 
 -- ---- an update that is done
 
-module _ {ws : List ℕ} {w : Work} {c : Counts} {x : ℕ} {w' : Work} {d : Counts} (A : UpdateAsks ws w c x) (G : UpdateGives ws w c x (Done d) w') where
+module _ {ws : List ℕ} {w : Work} {c : Counts} {x : ℕ} {w' : Work} {d : Counts} (A : UpdateAsks ws w c x) (G : UpdateGives ws w c x (Ok d) w') where
   -- fuel that is enough, however many nodes are settled
   abbrev most : ℕ
   most = (capacity_of w).node_room + 1
 
-  meant : Refines w c (Done d) w' (λ k g. updates ws most k x g)
+  meant : Refines w c (Ok d) w' (λ k g. updates ws most k x g)
   meant = G most (omega arith)
 
   done : UpdateDone (problem_of ws) (capacity_of w) (graph_of w c) (graph_of w' d)

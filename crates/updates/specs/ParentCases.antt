@@ -2,7 +2,7 @@
 --
 -- In order: what a step along the chain says; what is left of the parents (`ParentsTurn`); its start; the next parent (`ParentFound`), or the end;
 -- its update; the last parent, whose own parents are left.
-use Rattle.std.specs.Prelude.{◌≡◌, refl, Bool, true, false, ℕ, ◌+◌, ◌-◌, ◌≤◌, ◌<◌}
+use Rattle.std.specs.Prelude.{◌≡◌, refl, Bool, true, false, ℕ, ◌+◌, ◌-◌, ◌≤◌, ◌<◌, Option, None, Some, is_some, not, Ok, Err}
 use Rattle.std.proofs.Common.{sym, ap, ◌∙◌, subst, true≢false, arith}
 use mathlib.Core.List.{List, [], ◌∷◌, Memᴰ}
 use Rattle.concepts.specs.Lists.{Bytes}
@@ -12,38 +12,36 @@ use Rattle.procedure.specs.TableauLaws.{parents-each}
 use Rattle.procedure.proofs.Fit.{Fit}
 use Rattle.words.specs.Sizes.{edge_size, most_records}
 use Rattle.problem.specs.Decoded.{problem_of}
-use Rattle.graph.specs.Graphs.{Work, work, graph_of, capacity_of, WithEdges, parents_from, AmongParents, Walks, IsNext}
+use Rattle.graph.specs.Graphs.{Work, work, graph_of, capacity_of, Step, WithEdges, parents_from, AmongParents, Walks, IsNext}
 use Rattle.graph.specs.GraphLaws.{count-nodes, held-most}
 use Rattle.graph.specs.SearchLaws.{parents-all, parents-same, among-parents-same, next-parent-same}
 use Rattle.graph.specs.RefineLaws.{refines-as, Course, course-start, course-next, course-short, course-end}
 use Rattle.graph.specs.declared.Counts.{Counts}
-use Rattle.graph.specs.declared.Next.{Next}
 use Rattle.graph.specs.declared.Area.{Area}
-use Rattle.graph.specs.declared.Step.{Step}
-use Rattle.graph.specs.declared.Step.TheVariants.{Done, Full}
 use Rattle.updates.specs.Clauses.{UpdateAsks, Enough, updates, UpdateGives, ParentsGives, Later, Settles, none_in}
 use Rattle.updates.specs.LaterLaws.{later_refl, later_trans, later-edges, later-walks, later-enough, update-later, update-fit}
 
 -- ---- whether a parent is left
 
 -- what a step says of the next parent of x from place i on
-abbrev pub Tells : Bytes → Bytes → Counts → ℕ → ℕ → Next → Type 0
+abbrev pub Tells : Bytes → Bytes → Counts → ℕ → ℕ → Option (ℕ × ℕ) → Type 0
 Tells n e c x i v = WithEdges n e c (λ g. AmongParents g x i → IsNext v i c.edges (parents_from g x) (AmongParents g x))
 
 -- and of whether there is one
 abbrev pub TellsNone : Bytes → Bytes → Counts → ℕ → ℕ → Bool → Type 0
 TellsNone n e c x i b = WithEdges n e c (λ g. AmongParents g x i → b ≡ none_in (parents_from g x i))
 
-module _ {n e : Bytes} {c : Counts} {v : Next} (x i : ℕ) (W : Tells n e c x i v) where
+module _ {n e : Bytes} {c : Counts} (x i : ℕ) where
   -- the answer, as it is known
-  answer : {u : Next} → v ≡ u → Tells n e c x i u
-  answer ev = subst (λ (u : Next). Tells n e c x i u) ev W
+  answer : {v u : Option (ℕ × ℕ)} → Tells n e c x i v → v ≡ u → Tells n e c x i u
+  answer W ev = subst (λ (u : Option (ℕ × ℕ)). Tells n e c x i u) ev W
 
-  pub none-next : v ≡ Next.End → TellsNone n e c x i true
-  none-next ev a d h g o = sym (ap none_in (answer ev a d h g o))
-
-  pub some_next : {j y : ℕ} → v ≡ Next.At j y → TellsNone n e c x i false
-  some_next ev a d h g o = sym (ap none_in (answer ev a d h g o).2)
+  -- there is none exactly if the step finds none
+  pub tells-none : (v : Option (ℕ × ℕ)) (b : Bool) → Tells n e c x i v → is_some v ≡ not b → TellsNone n e c x i b
+  tells-none None true W q = λ a d h g o. sym (ap none_in (W a d h g o))
+  tells-none None false W q = absurd (true≢false (sym q))
+  tells-none (Some (j, y)) true W q = absurd (true≢false q)
+  tells-none (Some (j, y)) false W q = λ a d h g o. sym (ap none_in (W a d h g o).2)
 
 none_in_lem : (l : List ℕ) → none_in l ≡ true → l ≡ []
 none_in_lem [] e = refl
@@ -99,17 +97,17 @@ module _ {ws : List ℕ} {w : Work} {c : Counts} {x : ℕ} {n' e' a' : Bytes} {d
   pub turn-walks : Walks edge_size n' e' c.nodes c.edges x i
   turn-walks = later-walks t.later there t.place
 
-  module _ {v : Next} (W : Tells n' e' c x i v) where
-    next : {u : Next} → v ≡ u → IsNext u i c.edges (parents_from g x) (AmongParents g x)
+  module _ {v : Option (ℕ × ℕ)} (W : Tells n' e' c x i v) where
+    next : {u : Option (ℕ × ℕ)} → v ≡ u → IsNext u i c.edges (parents_from g x) (AmongParents g x)
     next {u} ev =
         let same = later-edges t.later in
         next-parent-same g (graph_of w' c) x i c.edges same u
         (answer x i W ev a' d t.later.held t.later.grown (among-parents-same (graph_of w' c) g x i (sym same) t.among))
 
-    pub turn-next : {j y : ℕ} → v ≡ Next.At j y → ParentFound j y
+    pub turn-next : {j y : ℕ} → v ≡ Some (j, y) → ParentFound j y
     turn-next ev = let (l, m, q, o) = next ev in record { from = l; below = m; here = q; among = o }
 
-    pub turn_end : v ≡ Next.End → ParentsGives ws w c x (Done d) (work n' e' a')
+    pub turn_end : v ≡ None → ParentsGives ws w c x (Ok d) (work n' e' a')
     turn_end ev f few =
         let none : parents_from g x i ≡ [] = next ev in
         let all : Course (updates ws f) (parents g x) w c [] w' d = rw none at (t.course f few) in
@@ -136,10 +134,10 @@ module _ {ws : List ℕ} {w : Work} {c : Counts} {x : ℕ} {n' e' a' : Bytes} {d
   course-here : (f : ℕ) → Enough w c f → Course (updates ws f) (parents (g t) x) w c (y ∷ todo) (w' t) d
   course-here f few = rw p.here at (t.course f few)
 
-  pub turn-short : {s : Area} {w'' : Work} → UpdateGives ws (work n' e' a') d y (Full s) w'' → ParentsGives ws w c x (Full s) w''
+  pub turn-short : {s : Area} {w'' : Work} → UpdateGives ws (work n' e' a') d y (Err s) w'' → ParentsGives ws w c x (Err s) w''
   turn-short G f few = refines-as (course-short (course-here f few) (G f (later-enough t.later f few))) (parents-each (updates ws f (capacity_of w)) x (g t))
 
-  pub turn-updated : {d₂ : Counts} {w'' : Work} → UpdateGives ws (work n' e' a') d y (Done d₂) w'' → ParentsTurn ws w c x w'' d₂ (j + 1)
+  pub turn-updated : {d₂ : Counts} {w'' : Work} → UpdateGives ws (work n' e' a') d y (Ok d₂) w'' → ParentsTurn ws w c x w'' d₂ (j + 1)
   turn-updated G = record {
     asks = t.asks;
     place = omega (arith, p.below);
@@ -154,8 +152,8 @@ module _ {ws : List ℕ} {w : Work} {c : Counts} {x : ℕ} {n' e' a' : Bytes} {d
 
   -- with its update, all are updated
   turn_last : todo ≡ [] → (r : Step) {w'' : Work} → UpdateGives ws (work n' e' a') d y r w'' → ParentsGives ws w c x r w''
-  turn_last none (Full s) G = turn-short G
-  turn_last none (Done d₂) {w''} G = λ f few.
+  turn_last none (Err s) G = turn-short G
+  turn_last none (Ok d₂) {w''} G = λ f few.
       let all : Course (updates ws f) (parents (g t) x) w c [] w'' d₂ = rw none at ((turn-updated G).course f few) in
       refines-as (course-end all) (parents-each (updates ws f (capacity_of w)) x (g t))
 

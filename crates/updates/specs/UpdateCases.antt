@@ -2,7 +2,7 @@
 --
 -- In order: a node that is not open; one that is (`Opened`), which is judged: no place; done (`JudgedAgain`), and then still open, or settled
 -- (`Settles`), with its parents to update.
-use Rattle.std.specs.Prelude.{◌≡◌, Bool, true, false, List, ℕ, zero, suc, ◌<◌, length}
+use Rattle.std.specs.Prelude.{◌≡◌, Bool, true, false, List, ℕ, zero, suc, ◌<◌, length, Ok, Err}
 use Rattle.std.proofs.Common.{sym, ap, ◌∙◌, subst, arith}
 use Rattle.concepts.specs.Lists.{Bytes}
 use Rattle.concepts.specs.Tests.{from-true}
@@ -21,14 +21,12 @@ use Rattle.problem.specs.Decoded.{problem_of}
 use Rattle.records.specs.Areas.{Fits}
 use Rattle.records.specs.Codes.{status_of}
 use Rattle.records.specs.Records.{node_in, IsStatus}
-use Rattle.graph.specs.Graphs.{Work, work, graph_of, capacity_of, Operation, Refines}
+use Rattle.graph.specs.Graphs.{Work, work, graph_of, capacity_of, Step, Operation, Refines}
 use Rattle.graph.specs.GraphLaws.{sized-refl, sized-places, count-nodes, graph-node, held-node}
 use Rattle.graph.specs.RefineLaws.{refines-answer, refines-as, refines-held, refines-then, refines-short, refines-none}
 use Rattle.graph.specs.declared.Counts.{Counts}
 use Rattle.records.specs.declared.Status.{Status}
 use Rattle.graph.specs.declared.Area.{Area}
-use Rattle.graph.specs.declared.Step.{Step}
-use Rattle.graph.specs.declared.Step.TheVariants.{Done, Full}
 use Rattle.tableau.specs.Clauses.{JudgeAsks, JudgeGives}
 use Rattle.updates.specs.Clauses.{UpdateAsks, Enough, unsettled, updates, UpdateGives, ParentsGives, Settles}
 
@@ -61,7 +59,7 @@ module _ {ws : List ℕ} {n e a : Bytes} {c : Counts} {x : ℕ} (A : UpdateAsks 
   -- it was judged, and nothing was short
   pub record JudgedAgain (w₁ : Work) (d : Counts) : Type 0 where
     pub opened : Opened
-    pub gives : Refines w c (Done d) w₁ (λ k h. judge (put P k) x h)
+    pub gives : Refines w c (Ok d) w₁ (λ k h. judge (put P k) x h)
 
   there : x < c.nodes
   there = omega (arith, A.there, count-nodes w c)
@@ -75,7 +73,7 @@ module _ {ws : List ℕ} {n e a : Bytes} {c : Counts} {x : ℕ} (A : UpdateAsks 
   fueled h zero few = absurd (omega (arith, few, settled-fits P (capacity_of w) g A.fit))
   fueled h (suc f) few = h f few
 
-  pub update-not : Loaded n x false → UpdateGives ws (work n e a) c x (Done c) (work n e a)
+  pub update-not : Loaded n x false → UpdateGives ws (work n e a) c x (Ok c) (work n e a)
   update-not L = fueled (λ f few. refines-as (refines-none A.held) (update-settled P (capacity_of w) f x g (loaded-open w c there L)))
 
   pub update-opened : Loaded n x true → Opened
@@ -99,11 +97,11 @@ module _ {ws : List ℕ} {n e a : Bytes} {c : Counts} {x : ℕ} {A : UpdateAsks 
     unfolding put
     judged er = refines-answer (J (suc (length (P A).table)) (omega (arith, missing-all (length (P A).table) (node_at (g A) x).rows))) er
 
-    pub update-short : {p : Area} → r₁ ≡ Full p → UpdateGives ws (work n e a) c x (Full p) w₁
+    pub update-short : {p : Area} → r₁ ≡ Err p → UpdateGives ws (work n e a) c x (Err p) w₁
     update-short er =
         fueled A (λ f few. refines-as (refines-short (judged er) (changing f) sized-refl) (update-open (P A) (capacity_of (w A)) f x (g A) o.is))
 
-    pub update-judged : {d : Counts} → r₁ ≡ Done d → JudgedAgain A w₁ d
+    pub update-judged : {d : Counts} → r₁ ≡ Ok d → JudgedAgain A w₁ d
     update-judged er = record { opened = o; gives = judged er }
 
 -- ---- a node that was judged
@@ -132,7 +130,7 @@ module _ {ws : List ℕ} {n e a : Bytes} {c : Counts} {x : ℕ} {A : UpdateAsks 
       fueled A (λ f few. refines-as (refines-then j.gives (changing j.opened f) (next f few))
       (update-open (P A) (capacity_of (w A)) f x (g A) j.opened.is))
 
-  pub update-kept : Loaded n₁ x true → UpdateGives ws (work n e a) c x (Done d) (work n₁ e₁ a₁)
+  pub update-kept : Loaded n₁ x true → UpdateGives ws (work n e a) c x (Ok d) (work n₁ e₁ a₁)
   update-kept L =
       changed (λ f few. refines-as (refines-none (refines-held j.gives)) (changed-not (updates ws f (capacity_of w₁)) x h (loaded-open w₁ d still L)))
 

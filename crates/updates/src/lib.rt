@@ -11,16 +11,15 @@ ghost use Rattle.words.specs.Sizes.{edge_size};
 ghost use Rattle.graph.specs.Graphs.{work, WithEdges, parents_from, AmongParents, Walks};
 ghost use Rattle.updates.specs.Clauses.{UpdateAsks, RejudgeGives, ParentsGives, none_in};
 
-use graph::{Area, Counts, Next, Step, next_parent};
+use graph::{Area, Counts, next_parent};
 use records::{is_open, status_of};
 use tableau::judge;
 
-// What judging an open node again came to: the counts, with its status as it was or changed, or the area that had no place.
+// What judging an open node again came to: the counts, with its status as it was or changed.
 #[derive(Clone, Copy)]
 pub enum Rejudged {
     Kept(Counts),
     Changed(Counts),
-    Full(Area),
 }
 
 // Judges node x again if it is open, and says whether its status changed.
@@ -31,26 +30,20 @@ fn rejudge(
     alternatives: &mut [u8],
     c: Counts,
     x: u16,
-) -> Rejudged
+) -> Result<Rejudged, Area>
     requires { UpdateAsks problem.now (work nodes.old edges.old alternatives.old) c x }
     ensures { RejudgeGives problem.now
         (work nodes.old edges.old alternatives.old) c x result
         (work nodes.new edges.new alternatives.new) }
 {
-    let was = status_of(nodes, x as usize);
-    if !is_open(was) {
-        return Rejudged::Kept(c);
+    if !is_open(status_of(nodes, x as usize)) {
+        return Ok(Rejudged::Kept(c));
     }
-    match judge(problem, nodes, edges, alternatives, c, x) {
-        Step::Full(area) => Rejudged::Full(area),
-        Step::Done(d) => {
-            let is = status_of(nodes, x as usize);
-            if is_open(is) {
-                return Rejudged::Kept(d);
-            }
-            Rejudged::Changed(d)
-        }
+    let d = judge(problem, nodes, edges, alternatives, c, x)?;
+    if is_open(status_of(nodes, x as usize)) {
+        return Ok(Rejudged::Kept(d));
     }
+    Ok(Rejudged::Changed(d))
 }
 
 // Whether no edge from place `from` on ends at x.
@@ -58,10 +51,7 @@ fn no_parent(nodes: &[u8], edges: &[u8], c: Counts, x: u16, from: usize) -> bool
     requires { Walks edge_size nodes.now edges.now c.nodes c.edges x from }
     ensures { WithEdges nodes.now edges.now c (λ g. AmongParents g x from → result ≡ none_in (parents_from g x from)) }
 {
-    match next_parent(nodes, edges, c, x, from) {
-        Next::At { index: _, node: _ } => false,
-        Next::End => true,
-    }
+    next_parent(nodes, edges, c, x, from).is_none()
 }
 
 // Updates each parent of node x, in order of the edges as they are at the start.
@@ -72,7 +62,7 @@ pub fn update_parents(
     alternatives: &mut [u8],
     c: Counts,
     x: u16,
-) -> Step
+) -> Result<Counts, Area>
     requires { UpdateAsks problem.now (work nodes.old edges.old alternatives.old) c x }
     ensures { ParentsGives problem.now
         (work nodes.old edges.old alternatives.old) c x result
@@ -82,33 +72,23 @@ pub fn update_parents(
     let mut child = x;
     let mut start = c;
     let mut cur = c;
-    let mut i: usize = 0;
-    loop {
-        let Next::At {
-            index,
-            node: parent,
-        } = next_parent(nodes, edges, start, child, i)
-        else {
-            return Step::Done(cur);
-        };
-        i = index + 1;
-        match rejudge(problem, nodes, edges, alternatives, cur, parent) {
-            Rejudged::Full(area) => return Step::Full(area),
+    let mut from = 0;
+    while let Some((index, parent)) = next_parent(nodes, edges, start, child, from) {
+        from = index + 1;
+        match rejudge(problem, nodes, edges, alternatives, cur, parent)? {
             Rejudged::Kept(next) => cur = next,
             Rejudged::Changed(next) => {
-                if no_parent(nodes, edges, start, child, i) {
+                if no_parent(nodes, edges, start, child, from) {
                     // its own parents are all that is left
                     child = parent;
                     start = next;
                     cur = next;
-                    i = 0;
+                    from = 0;
                 } else {
-                    match update_parents(problem, nodes, edges, alternatives, next, parent) {
-                        Step::Full(area) => return Step::Full(area),
-                        Step::Done(after) => cur = after,
-                    }
+                    cur = update_parents(problem, nodes, edges, alternatives, next, parent)?;
                 }
             }
         }
     }
+    Ok(cur)
 }

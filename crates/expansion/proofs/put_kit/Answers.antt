@@ -10,4 +10,4 @@ pub put-requires : goal.put-requires
 put-requires c = kit-asks c.requires c.join_kit.ensures
 
 pub returns : goal.returns
-returns c = kit-gives c.requires c.join_kit.ensures (search)
+returns c = kit-gives c.requires c.join_kit.ensures c.put.ensures

@@ -7,9 +7,9 @@ use Rattle.graph.specs.Graphs.{work, graph_of}
 use Rattle.rounds.specs.RoundCases.{RoundsDone}
 use Rattle.rounds.proofs.rounds.Given as goal
 
-abbrev pub invariant-loop-cur : goal.invariant-loop-cur
-invariant-loop-cur l = RoundsDone l.problem (work l.initial.nodes l.initial.edges l.initial.alternatives) l.initial.cur (work l.nodes l.edges l.alternatives)
+abbrev pub invariant-loop-nodes : goal.invariant-loop-nodes
+invariant-loop-nodes l = RoundsDone l.problem (work l.initial.nodes l.initial.edges l.initial.alternatives) l.initial.cur (work l.nodes l.edges l.alternatives)
     l.cur l.from
 
-abbrev pub decreases-loop-cur : goal.decreases-loop-cur
-decreases-loop-cur l = room_of node_size l.initial.nodes - with_a_status (graph_of (work l.nodes l.edges l.alternatives) l.cur)
+abbrev pub decreases-loop-nodes : goal.decreases-loop-nodes
+decreases-loop-nodes l = room_of node_size l.initial.nodes - with_a_status (graph_of (work l.nodes l.edges l.alternatives) l.cur)

@@ -1,9 +1,7 @@
--- `steps::judge_branch` meets its contract: the node takes what the fold gives.
--- Assumes nothing.
-use Rattle.procedure.specs.Status.{branch_table, unsat}
-use Rattle.records.specs.Codes.{status_of}
-use Rattle.steps.specs.TableLaws.{judged}
+-- `steps::judge_branch` meets its contract: the constant means the table, row for row.
+use Rattle.procedure.specs.Status.{branch_table}
 use Rattle.steps.proofs.judge_branch.Goals as goal
 
 pub returns : goal.returns
-returns c = judged c.requires branch_table unsat (status_of c.fold-v.result) c.fold-v.ensures c.set_status.ensures
+unfolding branch_table
+returns c = c.judge_by.ensures

@@ -1,33 +1,26 @@
 -- `steps::link_found` meets its contract: by what the search found, and by the room for a new state.
-use native.Mathlib.Omega.{arith}
-use Rattle.concepts.specs.RowSet.{RowSet}
-use Rattle.procedure.specs.Tableau.{state}
+use Rattle.std.proofs.Common.{arith}
 use Rattle.rowset.specs.SetOf.{set_of}
+use Rattle.graph.specs.RefineLaws.{passed-on}
 use Rattle.steps.specs.StepLaws.{node-held, found_below, found-there, found-new, found-full}
 use Rattle.steps.proofs.link_found.Goals as goal
 
 pub link_to-requires : goal.link_to-requires
 link_to-requires c =
-    let rows : RowSet = set_of c.args.s.now 0 in
-    (c.requires.0, found_below c.args.z rows c.find_state.ensures c.in-At.is c.requires.1.held, c.requires.1.held.nodes)
+    (c.requires.0, found_below c.args.z (set_of c.args.s.now 0) c.find_state.ensures c.in-Some.is c.requires.1.held, c.requires.1.held.nodes)
 
-pub link_to-requires-in-Done : goal.link_to-requires-in-Done
-link_to-requires-in-Done c =
-    let rows : RowSet = set_of c.args.s.now 0 in
-    let (held, more) = node-held (state rows) c.add_node.ensures c.in-Done.is c.requires.1.held in
+pub link_to-requires-2 : goal.link_to-requires-2
+link_to-requires-2 c =
+    let (held, more) = node-held _ c.add_node.ensures c.in_ok-d.was c.requires.1.held in
     (omega (arith, c.requires.0, more), omega (arith, more), held.nodes)
 
-pub returns-in-At : goal.returns-in-At
-returns-in-At c =
-    let rows : RowSet = set_of c.args.s.now 0 in
-    found-there c.args.z rows c.find_state.ensures c.in-At.is c.link_to.ensures
+pub returns-in-Some : goal.returns-in-Some
+returns-in-Some c = found-there c.args.z (set_of c.args.s.now 0) c.find_state.ensures c.in-Some.is c.link_to.ensures
 
-pub returns-in-Done : goal.returns-in-Done
-returns-in-Done c =
-    let rows : RowSet = set_of c.args.s.now 0 in
-    found-new c.args.z rows c.find_state.ensures c.in-Nothing.is c.add_node.ensures c.in-Done.is c.link_to-in-Done.ensures
+pub returns : goal.returns
+returns c = found-new c.args.z (set_of c.args.s.now 0) c.find_state.ensures c.in_default.is c.add_node.ensures c.in_ok-d.was c.link_to-2.ensures
 
-pub returns-in-Full : goal.returns-in-Full
-returns-in-Full c =
-    let rows : RowSet = set_of c.args.s.now 0 in
-    found-full c.args.z rows c.find_state.ensures c.in-Nothing.is c.add_node.ensures c.in-Full.is
+pub returns-in_err-d : goal.returns-in_err-d
+returns-in_err-d c =
+    rw (passed-on c.from_residual.ensures)
+    (found-full c.args.z (set_of c.args.s.now 0) c.find_state.ensures c.in_default.is c.add_node.ensures c.in_err-d.was)

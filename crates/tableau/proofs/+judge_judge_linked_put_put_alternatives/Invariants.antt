@@ -26,10 +26,10 @@ decreases-judge_linked l = lacked l.problem.now (work l.nodes.now l.edges.now l.
 abbrev pub decreases-put_alternatives : goal.decreases-put_alternatives
 decreases-put_alternatives l = lacked l.problem.now (work l.nodes.now l.edges.now l.alternatives.now) l.c l.z
 
-abbrev pub invariant-put_alternatives-loop-index : goal.invariant-put_alternatives-loop-index
-invariant-put_alternatives-loop-index l =
+abbrev pub invariant-put_alternatives-loop-i : goal.invariant-put_alternatives-loop-i
+invariant-put_alternatives-loop-i l =
     AlternativesPut l.problem (work l.initial.nodes l.initial.edges l.initial.alternatives) l.c l.z l.y
-    (work l.nodes l.edges l.alternatives) l.cur l.i
+    (work l.nodes l.edges l.alternatives) l.cur l.from
 
-abbrev pub decreases-put_alternatives-loop-index : goal.decreases-put_alternatives-loop-index
-decreases-put_alternatives-loop-index l = l.c.alternatives - l.i
+abbrev pub decreases-put_alternatives-loop-i : goal.decreases-put_alternatives-loop-i
+decreases-put_alternatives-loop-i l = l.c.alternatives - l.from

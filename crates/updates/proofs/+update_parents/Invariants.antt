@@ -12,7 +12,7 @@ decreases-update_parents l = unsettled (work l.nodes.now l.edges.now l.alternati
 abbrev pub invariant-loop-index : goal.invariant-loop-index
 invariant-loop-index l =
     Climb l.problem (work l.initial.nodes l.initial.edges l.initial.alternatives) l.initial.start l.x
-    (work l.nodes l.edges l.alternatives) l.child l.start l.cur l.i
+    (work l.nodes l.edges l.alternatives) l.child l.start l.cur l.from
 
 abbrev pub decreases-loop-index : goal.decreases-loop-index
-decreases-loop-index l = climbing (work l.nodes l.edges l.alternatives) l.start l.cur l.i
+decreases-loop-index l = climbing (work l.nodes l.edges l.alternatives) l.start l.cur l.from

@@ -1,10 +1,6 @@
 -- Whether a node has a parent from an edge on: by the search for the next.
--- Assumes nothing.
-use Rattle.updates.specs.ParentCases.{none-next, some_next}
+use Rattle.updates.specs.ParentCases.{tells-none}
 use Rattle.updates.proofs.no_parent.Goals as goal
 
-pub returns-in-At : goal.returns-in-At
-returns-in-At c = some_next _ _ c.next_parent.ensures c.in-At.is
-
-pub returns-in-End : goal.returns-in-End
-returns-in-End c = none-next _ _ c.next_parent.ensures c.in-End.is
+pub returns : goal.returns
+returns c = tells-none c.args.x c.args.from c.next_parent.result c.is_none.result c.next_parent.ensures c.is_none.ensures
