@@ -22,7 +22,7 @@ use Rattle.graph.specs.RefineLaws.{refines-held}
 use Rattle.graph.specs.declared.Counts.{Counts}
 use Rattle.graph.specs.declared.Area.{Area}
 use Rattle.rounds.specs.Clauses.{RunGives}
-use Rattle.conclusion.specs.Clauses.{EndsWith, ShortOf, VerdictGives}
+use Rattle.conclusion.specs.Clauses.{EndsWith, VerdictGives}
 use Rattle.conclusion.specs.declared.Verdict.TheVariants as Is
 
 module _ {ws : List ℕ} {w : Work} {n e a : Bytes} where

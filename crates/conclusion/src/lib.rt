@@ -103,11 +103,12 @@ fn show(
         result elements.new links.new }
 {
     let sizes = walk(problem, nodes, edges, c);
-    if !fits(sizes, elements.len(), links.len()) {
-        return Err(Shortage::TooLong(sizes));
+    if fits(sizes, elements.len(), links.len()) {
+        write_example(problem, nodes, edges, sizes, elements, links);
+        Ok(Decision::Can(c, sizes))
+    } else {
+        Err(Shortage::TooLong(sizes))
     }
-    write_example(problem, nodes, edges, sizes, elements, links);
-    Ok(Decision::Can(c, sizes))
 }
 
 // Runs the procedure on a decoded problem, and decides. The work areas are left as they are then.
