@@ -5,7 +5,7 @@
 
 // With a verdict the refusal is 0. With a refusal the verdict and the numbers after it are 0, but 11 gives the example's two counts, and 13, 14 and 15 how many records were lent.
 #[repr(C)]
-#[derive(Clone, Copy)]
+#[derive(Clone, Copy, PartialEq, Eq, Debug, Default)]
 pub struct Answer {
     // 1 for "can", 2 for "cannot", 0 with a refusal.
     pub verdict: u32,
@@ -22,7 +22,8 @@ pub struct Answer {
     pub lent: u32,
 }
 
-// The numbers of a verdict.
+// The numbers of a verdict. Numbers and no enum, these and the refusals below: `Answer` is what C reads, and whoever prints one compares numbers. In the
+// library a refusal of an accepted file is a `Shortage` of crate conclusion, and of a file that of crate checks.
 pub const CAN: u32 = 1;
 
 pub const CANNOT: u32 = 2;

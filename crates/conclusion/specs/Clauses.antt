@@ -1,7 +1,7 @@
 -- What is decided at the end of a run, and what each function gives. Words, areas and counts as in the tableau's contracts.
 --
--- In order: a decision and the answer that it stands for; what is left in the example areas; the verdict of a run; the example; the decision.
-use Rattle.std.specs.Prelude.{◌≡◌, Bool, true, false, List, ℕ, ◌≤◌, length}
+-- In order: a decision, or what there is in its place, and the answer that it stands for; what is left in the example areas; the verdict of a run; the example; the decision.
+use Rattle.std.specs.Prelude.{◌≡◌, Bool, true, false, List, ℕ, ◌≤◌, length, Result, Ok, Err}
 use Rattle.concepts.specs.Lists.{Bytes}
 use Rattle.procedure.specs.Graph.{reached, FindsNoPlace, node_at}
 use Rattle.procedure.specs.Tableau.{run}
@@ -17,7 +17,9 @@ use Rattle.problem.specs.Decoded.{table_of, problem_of}
 use Rattle.conclusion.specs.declared.Verdict.{Verdict}
 use Rattle.conclusion.specs.declared.Verdict.TheVariants as Is
 use Rattle.conclusion.specs.declared.Decision.{Decision}
-use Rattle.conclusion.specs.declared.Decision.TheVariants.{Short, Cannot, Can, TooLong}
+use Rattle.conclusion.specs.declared.Decision.TheVariants.{Cannot, Can}
+use Rattle.conclusion.specs.declared.Shortage.{Shortage}
+use Rattle.conclusion.specs.declared.Shortage.TheVariants.{NoPlace, TooLong}
 
 -- ---- a decision
 
@@ -29,12 +31,16 @@ used_of c = record { nodes = c.nodes; edges = c.edges; alternatives = c.alternat
 abbrev pub HasSizes : Sizes → Example → Type 0
 HasSizes s x = (length x.elements ≡ s.elements) × (length x.links ≡ s.links)
 
--- the decision stands for the answer
-abbrev pub Decides : Decision → Answer → Type 0
-Decides (Short p n) a = a ≡ short (area_of p) n
-Decides (Cannot c) a = a ≡ cannot (used_of c)
-Decides (Can c s) a = (x : Example) × (a ≡ can (used_of c) x) × HasSizes s x
-Decides (TooLong s) a = (x : Example) × (a ≡ too_long x) × HasSizes s x
+-- a decision, or why there is none
+abbrev pub Outcome : Type 0
+Outcome = Result Decision Shortage
+
+-- it stands for the answer
+abbrev pub Decides : Outcome → Answer → Type 0
+Decides (Err (NoPlace p n)) a = a ≡ short (area_of p) n
+Decides (Ok (Cannot c)) a = a ≡ cannot (used_of c)
+Decides (Ok (Can c s)) a = (x : Example) × (a ≡ can (used_of c) x) × HasSizes s x
+Decides (Err (TooLong s)) a = (x : Example) × (a ≡ too_long x) × HasSizes s x
 
 -- "at most 4,096 of each"
 abbrev pub SmallCounts : Counts → Type 0
@@ -43,14 +49,14 @@ SmallCounts c = (c.nodes ≤ most_records) × (c.edges ≤ most_records) × (c.a
 abbrev pub SmallSizes : Sizes → Type 0
 SmallSizes s = (s.elements ≤ most_records) × (s.links ≤ most_records)
 
-abbrev pub Small : Decision → Type 0
-Small (Short p n) = n ≤ most_records
-Small (Cannot c) = SmallCounts c
-Small (Can c s) = SmallCounts c × SmallSizes s
-Small (TooLong s) = SmallSizes s
+abbrev pub Small : Outcome → Type 0
+Small (Err (NoPlace p n)) = n ≤ most_records
+Small (Ok (Cannot c)) = SmallCounts c
+Small (Ok (Can c s)) = SmallCounts c × SmallSizes s
+Small (Err (TooLong s)) = SmallSizes s
 
 -- it does, and the example areas of `before` are left as the answer leaves them
-pub record Decided (a : Answer) (before : Areas) (r : Decision) (elements links : Bytes) : Type 0 where
+pub record Decided (a : Answer) (before : Areas) (r : Outcome) (elements links : Bytes) : Type 0 where
   pub decides : Decides r a
   pub small : Small r
   pub elements_are : elements ≡ (areas_after a before).elements
@@ -68,25 +74,25 @@ pub record EndsWith (ws : List ℕ) (w : Work) (c : Counts) (w' : Work) (b : Boo
 pub record ShortOf (ws : List ℕ) (w : Work) (p : Area) : Type 0 where
   pub ran : FindsNoPlace (area_of p) (run (problem_of ws) (capacity_of w))
 
-abbrev pub VerdictCase : List ℕ → Work → Verdict → Work → Type 0
-VerdictCase ws w (Is.Short p) w' = ShortOf ws w p
-VerdictCase ws w (Is.Cannot c) w' = EndsWith ws w c w' false
-VerdictCase ws w (Is.Can c) w' = EndsWith ws w c w' true
+abbrev pub VerdictCase : List ℕ → Work → Result Verdict Area → Work → Type 0
+VerdictCase ws w (Err p) w' = ShortOf ws w p
+VerdictCase ws w (Ok (Is.Cannot c)) w' = EndsWith ws w c w' false
+VerdictCase ws w (Ok (Is.Can c)) w' = EndsWith ws w c w' true
 
-pub record VerdictGives (ws : List ℕ) (w : Work) (r : Verdict) (w' : Work) : Type 0 where
+pub record VerdictGives (ws : List ℕ) (w : Work) (r : Result Verdict Area) (w' : Work) : Type 0 where
   pub case : VerdictCase ws w r w'
 
 -- ---- the example
 
 -- whatever the alternatives, and the work areas of `before`
-abbrev pub ShowGives : List ℕ → (n e : Bytes) → Counts → (elements links : Bytes) → Decision → (elements' links' : Bytes) → Type 0
+abbrev pub ShowGives : List ℕ → (n e : Bytes) → Counts → (elements links : Bytes) → Outcome → (elements' links' : Bytes) → Type 0
 ShowGives ws n e c elements links r elements' links' =
     (a : Bytes) (before : Areas) → before.elements ≡ elements → before.links ≡ links
     → Decided (answer_can (lengths before) (used (graph_of (work n e a) c)) (shown (table_of ws) (graph_of (work n e a) c))) before r elements' links'
 
 -- ---- the decision
 
-abbrev pub DecideGives : List ℕ → Areas → Decision → (elements' links' : Bytes) → Type 0
+abbrev pub DecideGives : List ℕ → Areas → Outcome → (elements' links' : Bytes) → Type 0
 DecideGives ws before r elements' links' =
     Decided (answer_result (lengths before) (table_of ws)
     (run (problem_of ws) (capacity_of (work before.nodes before.edges before.alternatives)))) before r elements' links'

@@ -1,7 +1,7 @@
 -- The cases from a verdict to the decision, on plain values.
 --
 -- In order: the answer by the root's status; a run without a place; "cannot"; "can": the walk, and what is shown.
-use Rattle.std.specs.Prelude.{◌≡◌, Bool, true, false, List, ℕ, T, length}
+use Rattle.std.specs.Prelude.{◌≡◌, Bool, true, false, List, ℕ, T, length, Ok, Err}
 use Rattle.std.proofs.Math.Path.{refl, sym, ap, subst}
 use Rattle.std.proofs.Common.{◌∙◌}
 use Rattle.concepts.specs.Lists.{Bytes}
@@ -22,10 +22,10 @@ use Rattle.graph.specs.GraphLaws.{held-most}
 use Rattle.graph.specs.declared.Counts.{Counts}
 use Rattle.graph.specs.declared.Area.{Area}
 use Rattle.walk.specs.Clauses.{nodes_edges, WalkAsks}
-use Rattle.conclusion.specs.Clauses.{Decided, EndsWith, ShortOf, ShowGives, DecideGives}
+use Rattle.conclusion.specs.Clauses.{Outcome, Decided, EndsWith, ShortOf, ShowGives, DecideGives}
 use Rattle.conclusion.specs.ShowCases.{used-counts}
-use Rattle.conclusion.specs.declared.Decision.{Decision}
-use Rattle.conclusion.specs.declared.Decision.TheVariants.{Short, Cannot}
+use Rattle.conclusion.specs.declared.Decision.TheVariants.{Cannot}
+use Rattle.conclusion.specs.declared.Shortage.TheVariants.{NoPlace}
 
 -- ---- the answer by the root's status
 
@@ -50,7 +50,7 @@ answer-cannot «open» l t g h d = impossible cc
 -- each area kept its length until it was counted
 pub decide-short : {ws : List ℕ} {n e a : Bytes} (elements links : Bytes) {p : Area} → ShortOf ws (work n e a) p
     → {m n₁ e₁ a₁ : ℕ} → m ≡ room_for (room_in n₁ e₁ a₁) (area_of p) → n₁ ≡ length n → e₁ ≡ length e → a₁ ≡ length a
-    → DecideGives ws (areas_of n e a elements links) (Short p m) elements links
+    → DecideGives ws (areas_of n e a elements links) (Err (NoPlace p m)) elements links
 unfolding answer_result areas_after
 decide-short {ws} {n} {e} {a} elements links {p} S {m} hm hn he ha =
     let before : Areas = areas_of n e a elements links in
@@ -71,7 +71,7 @@ module _ {ws : List ℕ} {n e a : Bytes} (D : Decoded ws) {c : Counts} {n' e' a'
   -- ---- "cannot"
 
   module _ (hb : b ≡ false) where
-    pub decide-cannot : (elements links : Bytes) → DecideGives ws (areas_of n e a elements links) (Cannot c) elements links
+    pub decide-cannot : (elements links : Bytes) → DecideGives ws (areas_of n e a elements links) (Ok (Cannot c)) elements links
     unfolding answer_result areas_after
     decide-cannot elements links =
         let before : Areas = areas_of n e a elements links in
@@ -107,7 +107,7 @@ module _ {ws : List ℕ} {n e a : Bytes} (D : Decoded ws) {c : Counts} {n' e' a'
         go unsat q h = impossible cc
         go toosmall q h = impossible cc
 
-    pub decide-shows : {elements links : Bytes} {r : Decision} {elements' links' : Bytes} → ShowGives ws n' e' c elements links r elements' links'
+    pub decide-shows : {elements links : Bytes} {r : Outcome} {elements' links' : Bytes} → ShowGives ws n' e' c elements links r elements' links'
         → DecideGives ws (areas_of n e a elements links) r elements' links'
     unfolding answer_result
     decide-shows {elements} {links} {r} {elements'} {links'} G =

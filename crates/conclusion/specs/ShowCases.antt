@@ -1,5 +1,5 @@
 -- The cases after "can", on plain values: the example does not fit, or it is written.
-use Rattle.std.specs.Prelude.{◌≡◌, Bool, true, false, ℕ, ◌*◌, ◌≤◌, ◌<◌, Option, Some}
+use Rattle.std.specs.Prelude.{◌≡◌, Bool, true, false, ℕ, ◌*◌, ◌≤◌, ◌<◌, Option, Some, Ok, Err}
 use Rattle.std.proofs.Math.Path.{sym, ap, ap₂}
 use Rattle.std.proofs.Common.{◌∙◌, arith, leb→le}
 use Rattle.std.proofs.Math.Bool.{◌&&◌}
@@ -27,7 +27,8 @@ use Rattle.problem.specs.DecodedLaws.{decoded-posed}
 use Rattle.walk.specs.Clauses.{nodes_edges, WalkAsks, WalkGives}
 use Rattle.writing.specs.Writing.{WriteAsks, listing_held, WriteGives}
 use Rattle.conclusion.specs.Clauses.{used_of, HasSizes, ShowGives}
-use Rattle.conclusion.specs.declared.Decision.TheVariants.{Can, TooLong}
+use Rattle.conclusion.specs.declared.Decision.TheVariants.{Can}
+use Rattle.conclusion.specs.declared.Shortage.TheVariants.{TooLong}
 
 -- the records that a graph has used
 pub used-counts : (w : Work) (c : Counts) → used (graph_of w c) ≡ used_of c
@@ -79,6 +80,10 @@ module _ {ws : List ℕ} {n e : Bytes} {c : Counts} (A : WalkAsks ws (nodes_edge
   pub record Tried (elements links : Bytes) (b : Bool) : Type 0 where
     pub test : b ≡ (leb (set_size * s.elements) (length elements) && leb (link_size * s.links) (length links))
 
+  pub tried : {elements links : Bytes} {b : Bool}
+      → b ≡ (leb (set_size * s.elements) (length elements) && leb (link_size * s.links) (length links)) → Tried elements links b
+  tried e = record { test = e }
+
 module _ {ws : List ℕ} {n e : Bytes} {c : Counts} {A : WalkAsks ws (nodes_edges n e) c} {s : Sizes} {n₁ e₁ : Bytes} {W : WalkGives ws (nodes_edges n e) c s
     (nodes_edges n₁ e₁)}
     {elements links : Bytes} {b : Bool} (t : Tried A W elements links b) where
@@ -97,7 +102,7 @@ module _ {ws : List ℕ} {n e : Bytes} {c : Counts} {A : WalkAsks ws (nodes_edge
     found a = ap₂ (λ (u : Used) (o : Option Example). answer_can l u o) (used-counts (work n e a) c)
         (shown-some (table_of ws) (graph_of (work n e a) c) (placed A W) (W.walked a))
 
-  pub show-long : b ≡ false → ShowGives ws n e c elements links (TooLong s) elements links
+  pub show-long : b ≡ false → ShowGives ws n e c elements links (Err (TooLong s)) elements links
   unfolding areas_after
   show-long hv a before he hl =
       let q = found before he hl a ∙ answer-unfit (lengths before) (used_of c) (x A W) (fits-is before he hl hv) in
@@ -128,7 +133,7 @@ module _ {ws : List ℕ} {n e : Bytes} {c : Counts} {A : WalkAsks ws (nodes_edge
     }
 
     pub show-can : {elements' links' : Bytes} → WriteGives ws n₁ e₁ s elements elements' links links'
-        → ShowGives ws n e c elements links (Can c s) elements' links'
+        → ShowGives ws n e c elements links (Ok (Can c s)) elements' links'
     unfolding areas_after
     show-can G a before he hl =
         let q = found before he hl a ∙ answer-fits (lengths before) (used_of c) (x A W) (fits-is before he hl hv) in

@@ -1,7 +1,7 @@
 // What a run decides (01, The procedure; The example; Refusals; 02, [4]): the verdict, and with "can" the example in its areas.
 //
-// In order: a verdict; a decision; how many records are lent; whether an example fits; whether a status of the root says "can";
-// the verdict of a run, with no example; the example; the decision.
+// In order: a verdict; a decision, and what is too short for one; how many records are lent; whether an example fits; whether a status of the root
+// says "can"; the verdict of a run, with no example; the example; the decision.
 #![tactic(auto)]
 
 ghost use Rattle.std.specs.Prelude.{◌≡◌, ◌&&◌, ◌*◌, leb};
@@ -15,7 +15,7 @@ ghost use Rattle.problem.specs.Decoded.{Decoded};
 ghost use Rattle.walk.specs.Clauses.{nodes_edges, WalkAsks};
 ghost use Rattle.conclusion.specs.Clauses.{SmallSizes, VerdictGives, ShowGives, DecideGives};
 
-use graph::{Area, Counts, Step};
+use graph::{Area, Counts};
 use marks::Sizes;
 use records::{Status, room, status_of};
 use rounds::run;
@@ -23,21 +23,24 @@ use walk::walk;
 use words::sizes::{ALTERNATIVE_BYTES, EDGE_BYTES, LINK_BYTES, NODE_BYTES, SET_BYTES};
 use writing::write_example;
 
-// A record found no place in an area; "cannot" or "can", with the records used.
+// "Cannot" or "can", with the records used.
 #[derive(Clone, Copy)]
 pub enum Verdict {
-    Short(Area),
     Cannot(Counts),
     Can(Counts),
 }
 
-// A record found no place in an area, where so many count as lent; "cannot", with the records used; "can", with these and the example's sizes;
-// "can", and an example area is too short.
+// "Cannot", with the records used; "can", with these and the example's sizes.
 #[derive(Clone, Copy)]
 pub enum Decision {
-    Short(Area, usize),
     Cannot(Counts),
     Can(Counts, Sizes),
+}
+
+// Why there is no decision: a record found no place in an area, where so many count as lent; "can", and an area is too short for its example.
+#[derive(Clone, Copy)]
+pub enum Shortage {
+    NoPlace(Area, usize),
     TooLong(Sizes),
 }
 
@@ -64,35 +67,25 @@ fn fits(sizes: Sizes, elements: usize, links: usize) -> bool
 fn says_can(root: Status) -> bool
     ensures { result ≡ good_root (status_of root) }
 {
-    match root {
-        Status::Sat => true,
-        Status::Open => true,
-        Status::Unset => false,
-        Status::Unsat => false,
-        Status::TooSmall => false,
-    }
+    matches!(root, Status::Sat | Status::Open)
 }
 
-// Runs the procedure on a decoded problem, with no example. The work areas are left as the run left them.
+// Runs the procedure on a decoded problem, with no example; or a record finds no place in an area. The work areas are left as the run left them.
 pub fn verdict_of(
     problem: &[u64],
     nodes: &mut [u8],
     edges: &mut [u8],
     alternatives: &mut [u8],
-) -> Verdict
+) -> Result<Verdict, Area>
     requires { Decoded problem.now }
     ensures { VerdictGives problem.now (work nodes.old edges.old alternatives.old)
         result (work nodes.new edges.new alternatives.new) }
 {
-    match run(problem, nodes, edges, alternatives) {
-        Step::Full(area) => Verdict::Short(area),
-        Step::Done(c) => {
-            let status = status_of(nodes, 0);
-            if says_can(status) {
-                return Verdict::Can(c);
-            }
-            Verdict::Cannot(c)
-        }
+    let c = run(problem, nodes, edges, alternatives)?;
+    if says_can(status_of(nodes, 0)) {
+        Ok(Verdict::Can(c))
+    } else {
+        Ok(Verdict::Cannot(c))
     }
 }
 
@@ -104,17 +97,18 @@ fn show(
     c: Counts,
     elements: &mut [u8],
     links: &mut [u8],
-) -> Decision
+) -> Result<Decision, Shortage>
     requires { WalkAsks problem.now (nodes_edges nodes.old edges.old) c }
     ensures { ShowGives problem.now nodes.old edges.old c elements.old links.old
         result elements.new links.new }
 {
     let sizes = walk(problem, nodes, edges, c);
-    if !fits(sizes, elements.len(), links.len()) {
-        return Decision::TooLong(sizes);
+    if fits(sizes, elements.len(), links.len()) {
+        write_example(problem, nodes, edges, sizes, elements, links);
+        Ok(Decision::Can(c, sizes))
+    } else {
+        Err(Shortage::TooLong(sizes))
     }
-    write_example(problem, nodes, edges, sizes, elements, links);
-    Decision::Can(c, sizes)
 }
 
 // Runs the procedure on a decoded problem, and decides. The work areas are left as they are then.
@@ -125,18 +119,18 @@ pub fn decide(
     alternatives: &mut [u8],
     elements: &mut [u8],
     links: &mut [u8],
-) -> Decision
+) -> Result<Decision, Shortage>
     requires { Decoded problem.now }
     ensures { DecideGives problem.now
         (areas_of nodes.old edges.old alternatives.old elements.old links.old)
         result elements.new links.new }
 {
     match verdict_of(problem, nodes, edges, alternatives) {
-        Verdict::Short(area) => Decision::Short(
-            area,
-            lent(area, nodes.len(), edges.len(), alternatives.len()),
-        ),
-        Verdict::Cannot(c) => Decision::Cannot(c),
-        Verdict::Can(c) => show(problem, nodes, edges, c, elements, links),
+        Err(area) => {
+            let lent = lent(area, nodes.len(), edges.len(), alternatives.len());
+            Err(Shortage::NoPlace(area, lent))
+        }
+        Ok(Verdict::Cannot(c)) => Ok(Decision::Cannot(c)),
+        Ok(Verdict::Can(c)) => show(problem, nodes, edges, c, elements, links),
     }
 }

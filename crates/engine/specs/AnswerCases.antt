@@ -2,7 +2,7 @@
 --
 -- In order: the numbers of a decision; the work areas after one; an accepted file; a refused file; the promise, with wanted rows that are given and
 -- with the file's own.
-use Rattle.std.specs.Prelude.{◌≡◌, refl, List, ℕ, ◌≤◌, length, replicate}
+use Rattle.std.specs.Prelude.{◌≡◌, refl, List, ℕ, ◌≤◌, length, replicate, Ok, Err}
 use Rattle.std.proofs.Math.Path.{sym}
 use Rattle.std.proofs.Common.{ap, ◌∙◌, subst, subst₂}
 use Rattle.concepts.specs.Lists.{Bytes}
@@ -19,19 +19,19 @@ use Rattle.run.proofs.Verdict.{answer-accepted, answer-refused}
 use Rattle.run.proofs.Kept.{promise-kept}
 use Rattle.problem.specs.Decoded.{table_of, problem_of}
 use Rattle.decoder.specs.FileProblem.{FileDecoded}
-use Rattle.conclusion.specs.Clauses.{Decides, Decided, DecideGives}
-use Rattle.conclusion.specs.declared.Decision.{Decision}
-use Rattle.conclusion.specs.declared.Decision.TheVariants.{Short, Cannot, Can, TooLong}
+use Rattle.conclusion.specs.Clauses.{Outcome, Decides, Decided, DecideGives}
+use Rattle.conclusion.specs.declared.Decision.TheVariants.{Cannot, Can}
+use Rattle.conclusion.specs.declared.Shortage.TheVariants.{NoPlace, TooLong}
 use Rattle.engine.specs.Clauses.{decided_numbers, Answered}
 
 -- ---- the numbers of a decision
 
-decided-numbers : (d : Decision) (a : Answer) → Decides d a → decided_numbers d ≡ numbers a
+decided-numbers : (d : Outcome) (a : Answer) → Decides d a → decided_numbers d ≡ numbers a
 unfolding numbers
-decided-numbers (Short p n) a h = sym (ap numbers h)
-decided-numbers (Cannot c) a h = sym (ap numbers h)
-decided-numbers (Can c s) a (x, h, (p, q)) = sym (ap numbers h ∙ cc (p, q))
-decided-numbers (TooLong s) a (x, h, (p, q)) = sym (ap numbers h ∙ cc (p, q))
+decided-numbers (Err (NoPlace p n)) a h = sym (ap numbers h)
+decided-numbers (Ok (Cannot c)) a h = sym (ap numbers h)
+decided-numbers (Ok (Can c s)) a (x, h, (p, q)) = sym (ap numbers h ∙ cc (p, q))
+decided-numbers (Err (TooLong s)) a (x, h, (p, q)) = sym (ap numbers h ∙ cc (p, q))
 
 -- ---- the work areas after one
 
@@ -41,12 +41,12 @@ record Cleared (a : Answer) (before : Areas) : Type 0 where
   edges : (areas_after a before).edges ≡ zeros before.edges
   alternatives : (areas_after a before).alternatives ≡ zeros before.alternatives
 
-cleared : (d : Decision) (a : Answer) (before : Areas) → Decides d a → Cleared a before
+cleared : (d : Outcome) (a : Answer) (before : Areas) → Decides d a → Cleared a before
 unfolding areas_after
-cleared (Short p n) a before h = subst (λ (k : Answer). Cleared k before) (sym h) (record { nodes = refl; edges = refl; alternatives = refl })
-cleared (Cannot c) a before h = subst (λ (k : Answer). Cleared k before) (sym h) (record { nodes = refl; edges = refl; alternatives = refl })
-cleared (Can c s) a before (x, h, z) = subst (λ (k : Answer). Cleared k before) (sym h) (record { nodes = refl; edges = refl; alternatives = refl })
-cleared (TooLong s) a before (x, h, z) = subst (λ (k : Answer). Cleared k before) (sym h) (record { nodes = refl; edges = refl; alternatives = refl })
+cleared (Err (NoPlace p n)) a before h = subst (λ (k : Answer). Cleared k before) (sym h) (record { nodes = refl; edges = refl; alternatives = refl })
+cleared (Ok (Cannot c)) a before h = subst (λ (k : Answer). Cleared k before) (sym h) (record { nodes = refl; edges = refl; alternatives = refl })
+cleared (Ok (Can c s)) a before (x, h, z) = subst (λ (k : Answer). Cleared k before) (sym h) (record { nodes = refl; edges = refl; alternatives = refl })
+cleared (Err (TooLong s)) a before (x, h, z) = subst (λ (k : Answer). Cleared k before) (sym h) (record { nodes = refl; edges = refl; alternatives = refl })
 
 -- ---- an accepted file
 
@@ -57,14 +57,14 @@ module _ {v b : Bytes} {l : Layout} (L : LaidFor rule_kinds v b l) {ws : List �
       ∙ sym (answer-accepted v b (lengths before) L.file L.reads)
 
   -- it was decided
-  pub record Settled (d : Decision) (elements links : Bytes) : Type 0 where
+  pub record Settled (d : Outcome) (elements links : Bytes) : Type 0 where
     pub given : Decided (answer_for v b (lengths before)) before d elements links
 
-  pub file-settled : {d : Decision} {elements links : Bytes} → DecideGives ws before d elements links → Settled d elements links
+  pub file-settled : {d : Outcome} {elements links : Bytes} → DecideGives ws before d elements links → Settled d elements links
   file-settled {d} {elements} {links} D = record { given = subst (λ (k : Answer). Decided k before d elements links) answer-is D }
 
 -- and then the work areas are cleared
-module _ {v b : Bytes} {l : Layout} {L : LaidFor rule_kinds v b l} {ws : List ℕ} {F : FileDecoded v b ws} {before : Areas} {d : Decision}
+module _ {v b : Bytes} {l : Layout} {L : LaidFor rule_kinds v b l} {ws : List ℕ} {F : FileDecoded v b ws} {before : Areas} {d : Outcome}
     {elements links : Bytes} (S : Settled L F before d elements links) where
   -- each kept its length until then
   pub file-answered : {k : Numbers} → k ≡ decided_numbers d → {n e a : Bytes} {n₁ e₁ a₁ : ℕ} → n ≡ replicate n₁ 0

@@ -12,8 +12,8 @@ ghost use Rattle.engine.specs.Asking.{said_of, Asked};
 use conclusion::{Verdict, verdict_of};
 use decoder::{impose, want};
 
-// A record found no place; "cannot"; "can".
-#[derive(Clone, Copy)]
+// A record found no place; "cannot"; "can". All that whoever asks wants to know, and no Result: a run without a place is an answer among three here.
+#[derive(Clone, Copy, PartialEq, Eq, Debug)]
 pub enum Said {
     Short,
     Cannot,
@@ -27,9 +27,9 @@ fn say(problem: &[u64], nodes: &mut [u8], edges: &mut [u8], alternatives: &mut [
         (capacity_of (work nodes.old edges.old alternatives.old))) }
 {
     match verdict_of(problem, nodes, edges, alternatives) {
-        Verdict::Short(_) => Said::Short,
-        Verdict::Cannot(_) => Said::Cannot,
-        Verdict::Can(_) => Said::Can,
+        Err(_) => Said::Short,
+        Ok(Verdict::Cannot(_)) => Said::Cannot,
+        Ok(Verdict::Can(_)) => Said::Can,
     }
 }
 

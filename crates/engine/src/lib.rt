@@ -18,7 +18,7 @@ ghost use Rattle.conclusion.specs.Clauses.{used_of, SmallCounts, SmallSizes, Sma
 ghost use Rattle.engine.specs.Clauses.{decided_numbers, Answered};
 
 use answers::{Answer, CAN, CANNOT, NO_ALTERNATIVE, NO_EDGE, NO_NODE, TOO_LONG};
-use conclusion::{Decision, decide};
+use conclusion::{Decision, Shortage, decide};
 use decoder::decode_file;
 use decoding::RULE_KINDS;
 use graph::{Area, Counts};
@@ -34,14 +34,8 @@ fn refused(n: u32) -> Answer
     ensures { numbers_of result ≡ refused_with n }
 {
     Answer {
-        verdict: 0,
         refusal: n,
-        nodes: 0,
-        edges: 0,
-        alternatives: 0,
-        elements: 0,
-        links: 0,
-        lent: 0,
+        ..Answer::default()
     }
 }
 
@@ -52,13 +46,12 @@ fn verdict(n: u32, c: Counts, s: Sizes) -> Answer
 {
     Answer {
         verdict: n,
-        refusal: 0,
         nodes: c.nodes as u32,
         edges: c.edges as u32,
         alternatives: c.alternatives as u32,
         elements: s.elements as u32,
         links: s.links as u32,
-        lent: 0,
+        ..Answer::default()
     }
 }
 
@@ -68,14 +61,10 @@ fn too_long(s: Sizes) -> Answer
     ensures { numbers_of result ≡ too_long_with s.elements s.links }
 {
     Answer {
-        verdict: 0,
         refusal: TOO_LONG,
-        nodes: 0,
-        edges: 0,
-        alternatives: 0,
         elements: s.elements as u32,
         links: s.links as u32,
-        lent: 0,
+        ..Answer::default()
     }
 }
 
@@ -96,25 +85,21 @@ fn short(area: Area, lent: usize) -> Answer
     ensures { numbers_of result ≡ short_with (area_of area) lent }
 {
     Answer {
-        verdict: 0,
         refusal: no_place(area),
-        nodes: 0,
-        edges: 0,
-        alternatives: 0,
-        elements: 0,
-        links: 0,
         lent: lent as u32,
+        ..Answer::default()
     }
 }
 
-// The numbers of a decision.
-fn answer_of(d: Decision) -> Answer
+// The numbers of a decision, or of what there is in its place.
+fn answer_of(d: Result<Decision, Shortage>) -> Answer
     requires { Small d }
     ensures { numbers_of result ≡ decided_numbers d }
 {
     match d {
-        Decision::Short(area, lent) => short(area, lent),
-        Decision::Cannot(c) => verdict(
+        Err(Shortage::NoPlace(area, lent)) => short(area, lent),
+        Err(Shortage::TooLong(s)) => too_long(s),
+        Ok(Decision::Cannot(c)) => verdict(
             CANNOT,
             c,
             Sizes {
@@ -122,8 +107,7 @@ fn answer_of(d: Decision) -> Answer
                 links: 0,
             },
         ),
-        Decision::Can(c, s) => verdict(CAN, c, s),
-        Decision::TooLong(s) => too_long(s),
+        Ok(Decision::Can(c, s)) => verdict(CAN, c, s),
     }
 }
 

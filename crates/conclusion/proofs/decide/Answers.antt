@@ -1,20 +1,19 @@
 -- `conclusion::decide` meets its contract: by the verdict of the run.
 -- Assumes nothing.
 use mathlib.Core.Path.{refl}
-use Rattle.conclusion.specs.VerdictCases.{was-short, was-cannot, was-can}
 use Rattle.conclusion.specs.DecideCases.{decide-short, decide-cannot, decide-walks, decide-shows}
 use Rattle.conclusion.proofs.decide.Goals as goal
 
 pub show-requires : goal.show-requires
-show-requires c = decide-walks c.requires (was-can c.verdict_of.ensures c.in-Can.is) refl
+show-requires c = decide-walks c.requires (rw c.in-Ok-Can.field-0-is at c.in-Ok-Can.ensures).case refl
 
-pub returns-in-Short : goal.returns-in-Short
-returns-in-Short c =
-    decide-short c.args.elements.now c.args.links.now (was-short c.verdict_of.ensures c.in-Short.is)
-    c.lent.ensures c.verdict_of.auto.nodes c.verdict_of.auto.edges c.verdict_of.auto.alternatives
+pub returns-in-Err : goal.returns-in-Err
+returns-in-Err c =
+    decide-short c.args.elements.now c.args.links.now c.in-Err.ensures.case
+    c.lent-lent.ensures c.verdict_of.auto.nodes c.verdict_of.auto.edges c.verdict_of.auto.alternatives
 
-pub returns-in-Cannot : goal.returns-in-Cannot
-returns-in-Cannot c = decide-cannot c.requires (was-cannot c.verdict_of.ensures c.in-Cannot.is) refl c.args.elements.now c.args.links.now
+pub returns-in-Ok-Cannot : goal.returns-in-Ok-Cannot
+returns-in-Ok-Cannot c = decide-cannot c.requires (rw c.in-Ok-Cannot.field-0-is at c.in-Ok-Cannot.ensures).case refl c.args.elements.now c.args.links.now
 
-pub returns-in-Can : goal.returns-in-Can
-returns-in-Can c = decide-shows c.requires (was-can c.verdict_of.ensures c.in-Can.is) refl c.show.ensures
+pub returns-in-Ok-Can : goal.returns-in-Ok-Can
+returns-in-Ok-Can c = decide-shows c.requires (rw c.in-Ok-Can.field-0-is at c.in-Ok-Can.ensures).case refl c.show.ensures

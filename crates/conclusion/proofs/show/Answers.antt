@@ -1,23 +1,17 @@
 -- `conclusion::show` meets its contract: the walk, and the example written if it fits.
 -- Assumes nothing.
-use borrow.Author.Tests.{not-true, not-false}
-use Rattle.conclusion.specs.ShowCases.{Tried, sizes-small, show-long, show-asks, show-can}
+use Rattle.conclusion.specs.ShowCases.{tried, sizes-small, show-long, show-asks, show-can}
 use Rattle.conclusion.proofs.show.Goals as goal
 
 pub fits-requires : goal.fits-requires
 fits-requires c = sizes-small c.requires c.walk-sizes.ensures
 
-pub returns-then-not-fits : goal.returns-then-not-fits
-returns-then-not-fits c =
-    let tried : Tried c.requires c.walk-sizes.ensures c.args.elements.now c.args.links.now c.fits.result = record { test = c.fits.ensures } in
-    show-long tried (not-true c.fits.result c.if-not-fits.true-raw)
-
 pub write_example-requires : goal.write_example-requires
 write_example-requires c =
-    let tried : Tried c.requires c.walk-sizes.ensures c.args.elements.now c.args.links.now c.fits.result = record { test = c.fits.ensures } in
-    show-asks tried (not-false c.fits.result c.if-not-fits.false-raw) c.walk-sizes.auto.nodes c.walk-sizes.auto.edges
+    show-asks (tried c.requires c.walk-sizes.ensures c.fits.ensures) c.if-fits.true c.walk-sizes.auto.nodes c.walk-sizes.auto.edges
 
-pub returns : goal.returns
-returns c =
-    let tried : Tried c.requires c.walk-sizes.ensures c.args.elements.now c.args.links.now c.fits.result = record { test = c.fits.ensures } in
-    show-can tried (not-false c.fits.result c.if-not-fits.false-raw) c.write_example.ensures
+pub returns-then-fits : goal.returns-then-fits
+returns-then-fits c = show-can (tried c.requires c.walk-sizes.ensures c.fits.ensures) c.if-fits.true c.write_example.ensures
+
+pub returns-else-fits : goal.returns-else-fits
+returns-else-fits c = show-long (tried c.requires c.walk-sizes.ensures c.fits.ensures) c.if-fits.false
