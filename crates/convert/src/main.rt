@@ -1,15 +1,14 @@
 // The program that converts: reads one draft from standard input and writes the rule file that it becomes, or one line `REFUSED n` (02, [1]).
 //
-// In order: the sizes of what is read and of what is written; what is written; what is read; the program.
+// In order: the sizes of what is read and of what is written; what is written; the program.
 #![tactic(auto)]
 
-ghost use Rattle.std.specs.Prelude.{◌≤◌, length, IfOk};
 ghost use Rattle.convert.specs.Output.{Outputs};
 
 use converter::convert;
+use input::read_full;
 use printing::line;
 use std::io;
-use std::io::Read;
 
 // One byte more than a draft that may pass: a longer draft is refused by its length, whatever comes after these bytes (`output-take`).
 const DRAFT: usize = 4097;
@@ -27,21 +26,6 @@ fn output(draft: &[u8], area: &mut [u8; AREA]) -> usize
         return conversion.length as usize;
     }
     line(area, 0, b"REFUSED", &[conversion.refusal])
-}
-
-// Reads until the room is full or the input ends: answers how many bytes stand at its start.
-fn read_full(input: &mut impl Read, room: &mut [u8]) -> io::Result<usize>
-    ensures { IfOk result (λ n. n ≤ length room.new) }
-{
-    let mut done = 0;
-    while done < room.len() {
-        let n = input.read(&mut room[done..])?;
-        if n == 0 {
-            break;
-        }
-        done += n;
-    }
-    Ok(done)
 }
 
 fn main(rt: HostRuntime) -> io::Result<()> {

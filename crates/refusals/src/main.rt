@@ -12,18 +12,11 @@ const ROOM: usize = 8192;
 // More cases than any input holds: the loop over them ends.
 const MOST_CASES: u32 = 1000000;
 
-// A byte as a wider number.
-fn wide(byte: u8) -> u16 {
-    byte as u16
-}
-
 // The sum of some bytes, modulo 65,536.
 fn sum(bytes: &[u8]) -> u16 {
-    let mut total: u16 = 0;
-    for byte in bytes {
-        total = total.wrapping_add(wide(*byte));
-    }
-    total
+    bytes
+        .iter()
+        .fold(0, |total: u16, byte| total.wrapping_add(u16::from(*byte)))
 }
 
 // Writes the refusal of one file, or that it is accepted.
@@ -41,11 +34,6 @@ fn answer(rt: &impl Print, file: &[u8]) -> io::Result<()> {
     let length = text.len();
     let total = sum(text);
     println!(rt; " {length} {total}")
-}
-
-// A number of two bytes.
-fn number(low: u8, high: u8) -> usize {
-    low as usize + 256 * high as usize
 }
 
 // Fills the room with the next bytes of the input; false where the input ends before.
@@ -72,7 +60,7 @@ fn one_case(rt: &impl Print, input: &mut impl Read) -> io::Result<bool> {
     if !fill(input, &mut length)? {
         return Ok(false);
     }
-    let n = number(length[0], length[1]);
+    let n = usize::from(u16::from_le_bytes(length));
     if ROOM < n {
         return Ok(false);
     }

@@ -1,7 +1,7 @@
--- `fit::read_full` meets its contract: what is filled lies within the room, and each turn fills some of what is left.
+-- `input::read_full` meets its contract: what is filled lies within the room, and each turn fills some of what is left.
 -- Assumes nothing.
 use Rattle.std.proofs.Common.{◌-◌, ◌≤◌, length}
-use Rattle.fit.proofs.read_full.Given as goal
+use Rattle.input.proofs.read_full.Given as goal
 
 abbrev pub invariant-loop-done : goal.invariant-loop-done
 invariant-loop-done g l = l.done ≤ length l.room
