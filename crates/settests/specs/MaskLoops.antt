@@ -2,17 +2,19 @@
 -- row up.
 --
 -- In order: what such a loop reads (`Reading`) and its state (`Loop`); how it begins, passes a word, ends; its next row (`NextRow`), and its state after it.
-use Rattle.std.specs.Prelude.{◌≡◌, Bool, true, List, ℕ, ◌+◌, ◌-◌, ◌≤◌, ◌<◌, length}
+use Rattle.std.specs.Prelude.{◌≡◌, Bool, true, List, ℕ, ◌+◌, ◌*◌, ◌≤◌, ◌<◌, length}
 use Rattle.std.proofs.Common.{sym, ap, subst, ◌∙◌, arith}
-use Rattle.std.specs.Int.Bits.{bit_and}
 use Rattle.concepts.specs.Concept.{Concept, concept_at}
 use Rattle.concepts.specs.RowSet.{RowSet, mem, empty, common, minus, single}
+use Rattle.concepts.specs.Lowest.{Lowest}
 use Rattle.words.specs.Sizes.{set_size}
 use Rattle.rowset.specs.Joined.{joined, Fit}
+use Rattle.rowset.specs.declared.Bits.{Bits}
+use Rattle.rowset.specs.Bits.{TakesLowest}
 use Rattle.rowset.specs.ByteLaws.{AreBytes}
 use Rattle.rowset.specs.NextLaws.{Words, picked, picked_fits, picked_all}
 use Rattle.rowset.specs.Pending.{left}
-use Rattle.rowset.specs.WordLoops.{Midway, midway-begins, midway-passes, midway-ends, midway-also, midway-after, row_at, LowestOfWord, lowest-of-word}
+use Rattle.rowset.specs.WordLoops.{Midway, midway-begins, midway-passes, midway-ends, midway-also, row_at, lowest-of-word}
 use Rattle.rowset.specs.SetOf.{set_of}
 use Rattle.problem.specs.Decoded.{count_of, used_of, table_of, mask_of, Mask, Decoded}
 use Rattle.problem.specs.DecodedLaws.{length-table_of}
@@ -63,21 +65,28 @@ module _ {w : List ℕ} {p : Concept → Bool} {mask : ℕ} {b : List ℕ} {at :
       pub loop-also : {Q : RowSet → Type 0} → Q (left_over w mask b at j m) → Loop w p mask b at Q j m
       loop-also h = record { reading = l.reading; midway = midway-also l.midway h }
 
-      -- the next row, which is the lowest of them
-      pub record NextRow : Type 0 where
-        pub lowest : LowestOfWord (common_word w mask b at) (used_of w) j m
-        pub below : row_at j m < count_of w
-        pub inside : row_at j m < length (table_of w)
-        pub passes : p (concept_at (table_of w) (row_at j m)) ≡ true
+    -- the next row, which is the lowest of them, and the rows without it
+    module _ {j : ℕ} {bits : Bits} (l : Loop w p mask b at P j bits.rest) where
+      pub record NextRow (i : ℕ) (after : Bits) : Type 0 where
+        pub low : Lowest (left_over w mask b at j bits.rest) (64 * j + i)
+        pub below : 64 * j + i < count_of w
+        pub inside : 64 * j + i < length (table_of w)
+        pub passes : p (concept_at (table_of w) (64 * j + i)) ≡ true
+        pub rest : Midway (common_word w mask b at) (used_of w) (λ x. x ≡ minus (left_over w mask b at j bits.rest) (single (64 * j + i))) j after.rest
 
-      pub next_row : j < used_of w → (m ≡ 0 → ⊥) → NextRow
-      next_row h d =
-          let lowest = lowest-of-word (fits l.reading) j m h d l.midway in
-          let k = row_at j m in
-          let (below, passes) = common-row l.reading.masking (set_of b at) k (ap (mem k) (sym (all l.reading)) ∙ lowest.whole) in
-          record { lowest = lowest; below = below; inside = omega (arith, length-table_of w, below); passes = passes }
+      pub next_row : {i : ℕ} {after : Bits} → j < used_of w → TakesLowest bits i after → NextRow i after
+      next_row {i} {after} h takes =
+          let row = lowest-of-word (fits l.reading) j bits.rest h takes.some l.midway in
+          let (below, passes) = common-row l.reading.masking (set_of b at) (row_at j bits.rest) (ap (mem (row_at j bits.rest)) (sym (all l.reading)) ∙ row.whole) in
+          rw (takes.is, takes.left) (record {
+            low = row.low;
+            below = below;
+            inside = omega (arith, length-table_of w, below);
+            passes = passes;
+            rest = row.after;
+          })
 
       -- what holds of the rows without it holds of those that are left then
-      pub loop-after : NextRow → {Q : RowSet → Type 0} → Q (minus (left_over w mask b at j m) (single (row_at j m)))
-          → Loop w p mask b at Q j (bit_and m (m - 1))
-      loop-after row h = record { reading = l.reading; midway = midway-after row.lowest h }
+      pub loop-after : {i : ℕ} {after : Bits} → NextRow i after → {Q : RowSet → Type 0} → Q (minus (left_over w mask b at j bits.rest) (single (64 * j + i)))
+          → Loop w p mask b at Q j after.rest
+      loop-after row {Q} h = record { reading = l.reading; midway = midway-also row.rest (subst Q (sym row.rest.holds) h) }

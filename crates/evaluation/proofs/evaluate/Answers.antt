@@ -6,8 +6,8 @@ use Rattle.evaluation.proofs.evaluate.Goals as goal
 pub begin-requires : goal.begin-requires
 begin-requires c = (c.requires.decoded, c.requires.room)
 
-pub row_count-rows-requires : goal.row_count-rows-requires
-row_count-rows-requires c = c.requires.decoded
+pub row_count-k-end-requires : goal.row_count-k-end-requires
+row_count-k-end-requires c = c.requires.decoded
 
 pub loop-k-init : goal.loop-k-init
 loop-k-init c = rowed-none

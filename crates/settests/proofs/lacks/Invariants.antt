@@ -1,7 +1,5 @@
 -- `settests::lacks` meets its contract: the invariant of both loops is that what the set above lacks of the arguments of the rows left is what it lacks of all.
-use mathlib.Core.Path.{◌≡◌}
-use mathlib.Core.List.{List}
-use Prim.Native.Nat.{ℕ, ◌-◌}
+use Rattle.std.proofs.Common.{◌≡◌, ℕ, List}
 use Rattle.concepts.specs.Inclusion.{narrower}
 use Rattle.concepts.specs.RowSet.{RowSet, minus}
 use Rattle.procedure.specs.SetTests.{lacking}
@@ -19,14 +17,9 @@ Lacked problem s at role a x = minus (left_parts (table_of problem) x) a ≡ lac
 abbrev pub Along : List ℕ → ℕ → List ℕ → ℕ → ℕ → RowSet → ℕ → ℕ → Type 0
 Along problem mask s at role a = Loop problem (universal (narrower (table_of problem)) role) mask s at (Lacked problem s at role a)
 
-abbrev pub invariant-loop-m : goal.invariant-loop-m
-invariant-loop-m l = Along l.problem l.mask l.s l.at l.role (set_of l.above l.there) l.j l.m
-
-abbrev pub decreases-loop-m : goal.decreases-loop-m
-decreases-loop-m l = l.m
+abbrev pub invariant-loop-i : goal.invariant-loop-i
+invariant-loop-i l = (goal.iterator-loop-i).can_next l.i-iterator × (goal.iterator-loop-i).is_finite l.i-iterator
+    × Along l.problem l.mask l.s l.at l.role (set_of l.above l.there) l.j l.i-iterator.rest
 
 abbrev pub invariant-loop-j : goal.invariant-loop-j
 invariant-loop-j l = Along l.problem l.mask l.s l.at l.role (set_of l.above l.there) l.j (common_word l.problem l.mask l.s l.at l.j)
-
-abbrev pub decreases-loop-j : goal.decreases-loop-j
-decreases-loop-j l = l.n - l.j

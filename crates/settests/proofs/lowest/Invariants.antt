@@ -1,6 +1,5 @@
 -- `settests::lowest` meets its contract: the invariant of both loops is that the first answer of the rows left is the first of all.
-use mathlib.Core.Path.{◌≡◌}
-use Prim.Native.Nat.{ℕ, ◌-◌}
+use Rattle.std.proofs.Common.{◌≡◌, ℕ}
 use Rattle.concepts.specs.Concept.{Table}
 use Rattle.concepts.specs.Lists.{first}
 use Rattle.concepts.specs.RowSet.{RowSet}
@@ -16,15 +15,10 @@ use Rattle.settests.proofs.lowest.Given as goal
 abbrev pub First : Table → ℕ → RowSet → RowSet → Type 0
 First t kind set x = lowest_open t kind set x ≡ first (only (of_kind kind) (open_arguments kind set)) (concepts t set)
 
-abbrev pub invariant-loop-m : goal.invariant-loop-m
-invariant-loop-m l = Loop l.problem (of_kind l.kind) l.mask l.s l.at (First (table_of l.problem) l.kind (set_of l.s l.at)) l.j l.m
-
-abbrev pub decreases-loop-m : goal.decreases-loop-m
-decreases-loop-m l = l.m
+abbrev pub invariant-loop-i : goal.invariant-loop-i
+invariant-loop-i l = (goal.iterator-loop-i).can_next l.i-iterator × (goal.iterator-loop-i).is_finite l.i-iterator
+    × Loop l.problem (of_kind l.kind) l.mask l.s l.at (First (table_of l.problem) l.kind (set_of l.s l.at)) l.j l.i-iterator.rest
 
 abbrev pub invariant-loop-j : goal.invariant-loop-j
 invariant-loop-j l = Loop l.problem (of_kind l.kind) l.mask l.s l.at (First (table_of l.problem) l.kind (set_of l.s l.at)) l.j
     (common_word l.problem l.mask l.s l.at l.j)
-
-abbrev pub decreases-loop-j : goal.decreases-loop-j
-decreases-loop-j l = l.n - l.j

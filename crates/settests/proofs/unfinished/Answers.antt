@@ -1,8 +1,13 @@
 -- `settests::unfinished` meets its contract, by those of the two searches.
-use mathlib.Core.Bool.{Bool, false, true, ◌||◌}
-use mathlib.Core.Path.{◌≡◌, sym, ap, ◌∙◌}
-use Rattle.procedure.specs.SetTests.{unfinished, is_some}
+use Rattle.std.proofs.Common.{◌≡◌, ℕ, Option, Some, None, Bool, true, false, ◌||◌, refl, sym, ap, ◌∙◌}
+use Rattle.std.specs.Option.{is_some}
+use Rattle.procedure.specs.SetTests as SetTests
+use Rattle.procedure.specs.SetTests.{unfinished}
 use Rattle.settests.proofs.unfinished.Goals as goal
+
+same : (o : Option (ℕ × ℕ)) → is_some o ≡ SetTests.is_some o
+same None = refl
+same (Some x) = refl
 
 early : (a b : Bool) → a ≡ true → true ≡ (a || b)
 early a b e = rw e
@@ -10,12 +15,14 @@ early a b e = rw e
 late : (a b : Bool) → a ≡ false → b ≡ (a || b)
 late a b e = rw e
 
-pub returns-then-is_found : goal.returns-then-is_found
+pub returns-then-is_some : goal.returns-then-is_some
 unfolding unfinished
-returns-then-is_found c = early _ _ (sym (ap is_some c.lowest_conj.ensures) ∙ sym c.is_found.ensures ∙ c.if-is_found.true)
+returns-then-is_some c =
+    c.if-is_some.true
+    ∙ early _ _ (sym (ap SetTests.is_some c.lowest_conj.ensures) ∙ sym (same c.lowest_conj.result) ∙ sym c.is_some.ensures ∙ c.if-is_some.true)
 
-pub returns : goal.returns
+pub returns-else-is_some : goal.returns-else-is_some
 unfolding unfinished
-returns c =
-    c.is_found-2.ensures ∙ ap is_some c.lowest_disj.ensures
-    ∙ late _ _ (sym (ap is_some c.lowest_conj.ensures) ∙ sym c.is_found.ensures ∙ c.if-is_found.false)
+returns-else-is_some c =
+    c.is_some-else-is_some.ensures ∙ same c.lowest_disj.result ∙ ap SetTests.is_some c.lowest_disj.ensures
+    ∙ late _ _ (sym (ap SetTests.is_some c.lowest_conj.ensures) ∙ sym (same c.lowest_conj.result) ∙ sym c.is_some.ensures ∙ c.if-is_some.false)
