@@ -88,7 +88,8 @@ fn meet(nodes: &mut [u8], edges: &mut [u8], c: Counts, s: Sizes, d: u16, role: u
     let Sizes { elements, links } = s;
     let role = role as u16;
     let number = load_number(nodes, y as usize);
-    if 0 < number {
+    let met = 0 < number;
+    if met {
         let to = number - 1;
         store_role_link(edges, links, LinkMark { from: d, role, to });
         return Sizes {
