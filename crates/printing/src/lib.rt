@@ -190,7 +190,9 @@ impl<'a> Text<'a> {
     // Writes what is printed with "can".
     fn can(&mut self, answer: Answer, elements: &[u8], links: &[u8])
         requires { self.old.at ≡ 0 }
-        ensures { Writes (64 + element_most * answer.elements + 35 * answer.links) (Printed.can_lines (numbers_of answer) elements.now links.now) self.old self.new }
+        ensures { Writes (64 + element_most * answer.elements + 35 * answer.links)
+            (Printed.can_lines (numbers_of answer) elements.now links.now)
+            self.old self.new }
     {
         self.line(b"CAN", &[answer.elements, answer.links]);
         self.used_line(answer);
