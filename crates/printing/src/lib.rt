@@ -91,8 +91,8 @@ impl<'a> Text<'a> {
         requires { Countable self.old.at (2 * n) × Countable from n }
         ensures { Writes (2 * n) (Printed.hexadecimal (2 * n) (le_at area.now from n)) self.old self.new }
     {
-        for i in 0..n {
-            self.byte_digits(byte_of(area, from + (n - (i + 1))));
+        for i in (0..n).rev() {
+            self.byte_digits(byte_of(area, from + i));
         }
     }
 
