@@ -15,8 +15,8 @@ use Rattle.run.specs.Printed.{ascii, line}
 use Rattle.run.proofs.ProgramLaws.{reading-take}
 use Rattle.drafts.specs.Normalize.{normalized}
 use Rattle.drafts.specs.Encoding.{file_bytes}
-use Rattle.drafts.specs.Conversion.{draft_reading, Conversion, refused_with, written, too_large, written_or, conversion_of, conversion, ConversionNumbers, numbers}
-use Rattle.drafts.specs.Conversion.{area_after}
+use Rattle.drafts.specs.Conversion.{draft_reading, Conversion, refused_with, written, too_large, written_or, conversion_of, conversion}
+use Rattle.drafts.specs.Conversion.{ConversionNumbers, numbers, area_after}
 use Rattle.drafts.specs.Promise.{ConversionPromise}
 use Rattle.printing.specs.Printing.{Wrote}
 use Rattle.printing.specs.PrintingLaws.{wrote-size, wrote-start}

@@ -105,7 +105,8 @@ small-parts kind role left right o l r =
 
 -- the word of a row has the row's four bytes
 pub own-parts : {w : ℕ} → Own w
-    → (w % 256 ≡ kind_of (row_in w)) × (w / 256 % 256 ≡ role_of (row_in w)) × (w / 65536 % 256 ≡ left_of (row_in w)) × (w / 16777216 % 256 ≡ right_of (row_in w))
+    → (w % 256 ≡ kind_of (row_in w)) × (w / 256 % 256 ≡ role_of (row_in w)) × (w / 65536 % 256 ≡ left_of (row_in w))
+    × (w / 16777216 % 256 ≡ right_of (row_in w))
 own-parts {w} o =
     let c = row_in w in
     let (ρ, l, r) : Small c =

@@ -2,9 +2,11 @@
 --
 -- In order: pieces; the whole; a whole that has room; numbers; a loop over pieces; lines; the line of an element and of a link; the lines of an
 -- answer; which lines are printed.
-use Rattle.std.specs.Prelude.{◌≡◌, refl, Bool, true, false, ◌≢◌, List, [], ◌∷◌, ◌++◌, ℕ, suc, ◌+◌, ◌-◌, ◌*◌, ◌/◌, ◌%◌, ◌^◌, ◌≤◌, ◌<◌, eqb, length, get_or, set, take, drop}
+use Rattle.std.specs.Prelude.{◌≡◌, refl, Bool, true, false, ◌≢◌, List, [], ◌∷◌, ◌++◌, ℕ, suc, ◌+◌, ◌-◌, ◌*◌, ◌/◌, ◌%◌, ◌^◌, ◌≤◌, ◌<◌}
+use Rattle.std.specs.Prelude.{eqb, length, get_or, set, take, drop}
 use Rattle.std.proofs.Math.Path.{sym}
-use Rattle.std.proofs.Common.{ap, ap₂, subst, ◌∙◌, append-nil, append_assoc, add-one, mul-suc, arith, take-suc, length-append, length-drop, length-take-le, take_all, take_at, drop_at, eqb-true, eq-eqb, ne_eqb}
+use Rattle.std.proofs.Common.{ap, ap₂, subst, ◌∙◌, append-nil, append_assoc, add-one, mul-suc, arith, take-suc}
+use Rattle.std.proofs.Common.{length-append, length-drop, length-take-le, take_all, take_at, drop_at, eqb-true, eq-eqb, ne_eqb}
 use Rattle.std.proofs.lemmas.List.Edits.{sets}
 use Rattle.std.proofs.Math.Seq.{length-sets, set_out, take-length}
 use Rattle.std.proofs.lemmas.Bool.{eqb-false}

@@ -91,8 +91,8 @@ impl<'a> Text<'a> {
         requires { Countable self.old.at (2 * n) × Countable from n }
         ensures { Writes (2 * n) (Printed.hexadecimal (2 * n) (le_at area.now from n)) self.old self.new }
     {
-        for i in 0..n {
-            self.byte_digits(byte_of(area, from + (n - (i + 1))));
+        for i in (0..n).rev() {
+            self.byte_digits(byte_of(area, from + i));
         }
     }
 
@@ -190,7 +190,9 @@ impl<'a> Text<'a> {
     // Writes what is printed with "can".
     fn can(&mut self, answer: Answer, elements: &[u8], links: &[u8])
         requires { self.old.at ≡ 0 }
-        ensures { Writes (64 + element_most * answer.elements + 35 * answer.links) (Printed.can_lines (numbers_of answer) elements.now links.now) self.old self.new }
+        ensures { Writes (64 + element_most * answer.elements + 35 * answer.links)
+            (Printed.can_lines (numbers_of answer) elements.now links.now)
+            self.old self.new }
     {
         self.line(b"CAN", &[answer.elements, answer.links]);
         self.used_line(answer);

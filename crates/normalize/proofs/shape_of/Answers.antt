@@ -18,25 +18,30 @@ row_byte-right-requires c = (draft-parted c.requires.0, c.requires.1, omega arit
 
 pub returns-then-kind-le-NEGATED : goal.returns-then-kind-le-NEGATED
 returns-then-kind-le-NEGATED c =
-    literal-case (row_read c.requires c.row_byte-kind.ensures c.row_byte-role.ensures c.row_byte-left.ensures c.row_byte-right.ensures c.written_kind-written.ensures)
+    literal-case (row_read c.requires c.row_byte-kind.ensures c.row_byte-role.ensures c.row_byte-left.ensures c.row_byte-right.ensures
+    c.written_kind-written.ensures)
     c.if-kind-le-NEGATED.true
 
 pub returns-then-kind : goal.returns-then-kind
 returns-then-kind c =
-    unary-case (row_read c.requires c.row_byte-kind.ensures c.row_byte-role.ensures c.row_byte-left.ensures c.row_byte-right.ensures c.written_kind-written.ensures)
+    unary-case (row_read c.requires c.row_byte-kind.ensures c.row_byte-role.ensures c.row_byte-left.ensures c.row_byte-right.ensures
+    c.written_kind-written.ensures)
     c.if-kind-le-NEGATED.false c.if-kind.true
 
 pub returns-then-kind-eq-NEG : goal.returns-then-kind-eq-NEG
 returns-then-kind-eq-NEG c =
-    negation-case (row_read c.requires c.row_byte-kind.ensures c.row_byte-role.ensures c.row_byte-left.ensures c.row_byte-right.ensures c.written_kind-written.ensures)
+    negation-case (row_read c.requires c.row_byte-kind.ensures c.row_byte-role.ensures c.row_byte-left.ensures c.row_byte-right.ensures
+    c.written_kind-written.ensures)
     c.if-kind-le-NEGATED.false c.if-kind.false c.if-kind-eq-NEG.true
 
 pub returns-then-kind-eq-IMPL : goal.returns-then-kind-eq-IMPL
 returns-then-kind-eq-IMPL c =
-    implication-case (row_read c.requires c.row_byte-kind.ensures c.row_byte-role.ensures c.row_byte-left.ensures c.row_byte-right.ensures c.written_kind-written.ensures)
+    implication-case (row_read c.requires c.row_byte-kind.ensures c.row_byte-role.ensures c.row_byte-left.ensures c.row_byte-right.ensures
+    c.written_kind-written.ensures)
     c.if-kind-le-NEGATED.false c.if-kind.false c.if-kind-eq-NEG.false c.if-kind-eq-IMPL.true
 
 pub returns : goal.returns
 returns c =
-    binary-case (row_read c.requires c.row_byte-kind.ensures c.row_byte-role.ensures c.row_byte-left.ensures c.row_byte-right.ensures c.written_kind-written.ensures)
+    binary-case (row_read c.requires c.row_byte-kind.ensures c.row_byte-role.ensures c.row_byte-left.ensures c.row_byte-right.ensures
+    c.written_kind-written.ensures)
     c.if-kind-le-NEGATED.false c.if-kind.false c.if-kind-eq-NEG.false c.if-kind-eq-IMPL.false

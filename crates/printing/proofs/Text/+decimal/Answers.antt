@@ -7,11 +7,5 @@ use Rattle.printing.proofs.Text.+decimal.Goals as goal
 pub returns-then-n-lt10 : goal.returns-then-n-lt10
 returns-then-n-lt10 t c = writes-digit c.if-n-lt10.true c.digit.ensures c.put.ensures
 
-pub decimal-requires : goal.decimal-requires
-decimal-requires t c = (omega arith, omega arith)
-
-pub put-requires-2 : goal.put-requires-2
-put-requires-2 t c = omega (arith, c.decimal.ensures.wrote.after, c.decimal.ensures.wrote.bounded)
-
 pub returns : goal.returns
 returns t c = writes-digits c.if-n-lt10.false (omega arith) c.decimal.ensures c.digit-2.ensures c.put-2.ensures

@@ -15,7 +15,8 @@ returns-then-answer-eq-TOO_LONG c =
 pub returns-then-is_short : goal.returns-then-is_short
 returns-then-is_short c =
     let n = numbers_of c.args.answer in
-    writes-refused n (refusal_counts-short n c.if-answer-eq-TOO_LONG.false (sym c.is_short.ensures ∙ c.if-is_short.true)) (omega arith) c.line-then-is_short.ensures
+    writes-refused n (refusal_counts-short n c.if-answer-eq-TOO_LONG.false (sym c.is_short.ensures ∙ c.if-is_short.true)) (omega arith)
+    c.line-then-is_short.ensures
 
 pub returns : goal.returns
 returns c =
