@@ -38,25 +38,25 @@ returns-in_default c =
 pub with_rows-requires : goal.with_rows-requires
 with_rows-requires c =
     let inside : c.node_set-set.result + set_size ≤ length c.args.nodes.now = omega (arith, c.node_set-set.ensures, expand-inside c.requires) in
-    let both : Both c.requires c.load_node-node.result c.in-Rows.left c.in-Rows.right =
-    both_found c.requires c.load_node-node.result c.load_node-node.ensures c.node_set-set.ensures c.lowest_conj.ensures c.in-Rows.is in
+    let both : Both c.requires c.load_node-node.result c.in-Some.left c.in-Some.right =
+    both_found c.requires c.load_node-node.result c.load_node-node.ensures c.node_set-set.ensures c.lowest_conj.ensures c.in-Some.is in
     (inside, both_left both, both_right both)
 
 pub put-requires : goal.put-requires
 put-requires c =
-    let both : Both c.requires c.load_node-node.result c.in-Rows.left c.in-Rows.right =
-    both_found c.requires c.load_node-node.result c.load_node-node.ensures c.node_set-set.ensures c.lowest_conj.ensures c.in-Rows.is in
+    let both : Both c.requires c.load_node-node.result c.in-Some.left c.in-Some.right =
+    both_found c.requires c.load_node-node.result c.load_node-node.ensures c.node_set-set.ensures c.lowest_conj.ensures c.in-Some.is in
     let made : let s =
-    c.args in set_of c.with_rows.new.out 0 ≡ insert c.in-Rows.left (insert c.in-Rows.right (set_of s.nodes.now (node_size * s.x))) = c.with_rows.ensures
-    ∙ ap (λ (q : ℕ). insert c.in-Rows.left (insert c.in-Rows.right (set_of c.args.nodes.now q))) c.node_set-set.ensures in
+    c.args in set_of c.with_rows.new.out 0 ≡ insert c.in-Some.left (insert c.in-Some.right (set_of s.nodes.now (node_size * s.x))) = c.with_rows.ensures
+    ∙ ap (λ (q : ℕ). insert c.in-Some.left (insert c.in-Some.right (set_of c.args.nodes.now q))) c.node_set-set.ensures in
     both-asks both made
 
 pub returns : goal.returns
 returns c =
-    let both : Both c.requires c.load_node-node.result c.in-Rows.left c.in-Rows.right =
-    both_found c.requires c.load_node-node.result c.load_node-node.ensures c.node_set-set.ensures c.lowest_conj.ensures c.in-Rows.is in
+    let both : Both c.requires c.load_node-node.result c.in-Some.left c.in-Some.right =
+    both_found c.requires c.load_node-node.result c.load_node-node.ensures c.node_set-set.ensures c.lowest_conj.ensures c.in-Some.is in
     let made : let s =
-    c.args in set_of c.with_rows.new.out 0 ≡ insert c.in-Rows.left (insert c.in-Rows.right (set_of s.nodes.now (node_size * s.x))) = c.with_rows.ensures
-    ∙ ap (λ (q : ℕ). insert c.in-Rows.left (insert c.in-Rows.right (set_of c.args.nodes.now q))) c.node_set-set.ensures in
+    c.args in set_of c.with_rows.new.out 0 ≡ insert c.in-Some.left (insert c.in-Some.right (set_of s.nodes.now (node_size * s.x))) = c.with_rows.ensures
+    ∙ ap (λ (q : ℕ). insert c.in-Some.left (insert c.in-Some.right (set_of c.args.nodes.now q))) c.node_set-set.ensures in
     let after : Work = work c.put.new.nodes c.put.new.edges c.put.new.alternatives in
     both-gives both made {w' = after} (search)
