@@ -2,7 +2,7 @@
 --
 -- In order: what is left of the rows (`left`); the loop's invariant (`RowTurn`), its start; the next row (`Row`) and child (`Child`), or the end; the child
 -- met. The set of the state is read at its place in each turn: marks are written beside it.
-use Rattle.std.specs.Prelude.{◌≡◌, refl, length, Some}
+use Rattle.std.specs.Prelude.{◌≡◌, refl, length, Option, Some, None}
 use Rattle.std.proofs.Common.{sym, ◌∙◌, subst, arith, length-append}
 use Rattle.std.proofs.Math.Path.{ap, ap₂}
 use mathlib.Core.List.{List, [], ◌∷◌, map, zip, zip_with, Memᴰ}
@@ -156,19 +156,19 @@ module _ {ws : List ℕ} {w : Work} {c : Counts} {s : Sizes} {d x : ℕ} {w' : W
     pub row_inside : at + set_size ≤ length w'.nodes
     row_inside = omega (arith, held-set holds.held T.inside)
 
-    module _ {r : Exist} (N : NextExist table (set_of w'.nodes at) k r) where
-      as-kept : (z : Exist) → r ≡ z → NextExist table (node_at h x).rows k z
+    module _ {r : Option Exist} (N : NextExist table (set_of w'.nodes at) k r) where
+      as-kept : (z : Option Exist) → r ≡ z → NextExist table (node_at h x).rows k z
       as-kept z q =
           let e : set_of w'.nodes at ≡ (node_at h x).rows = ap (set_of w'.nodes) p ∙ kept_set T.kept c x T.inside in
           subst (λ (v : RowSet). NextExist table v k z) e (subst (NextExist table (set_of w'.nodes at) k) q N)
 
-      pub row-none : r ≡ Exist.End → RowsGives ws w c s d s' w'
+      pub row-none : r ≡ None → RowsGives ws w c s d s' w'
       unfolding NextExist
-      row-none q = ended (left-rowless table h x k i (as-kept Exist.End q))
+      row-none q = ended (left-rowless table h x k i (as-kept None q))
 
-      pub row_next : {row ρ l : ℕ} → r ≡ Exist.At row ρ l → Row row ρ l
+      pub row_next : {v : Exist} → r ≡ Some v → Row v.row v.role v.argument
       unfolding NextExist
-      row_next {row} {ρ} {l} q = let E = as-kept (Exist.At row ρ l) q in record { below = E.inside; rest = E.rest }
+      row_next {v} q = let E = as-kept (Some v) q in record { below = E.inside; rest = E.rest }
 
 module _ {ws : List ℕ} {w : Work} {c : Counts} {s : Sizes} {d x : ℕ} {w' : Work} {s' : Sizes} {k i : ℕ} {T : RowTurn ws w c s d x w' s' k i}
     {row ρ l : ℕ} (R : Row T row ρ l) where

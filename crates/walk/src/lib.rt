@@ -21,7 +21,7 @@ use marks::{
     store_state,
 };
 use records::{Link, Status, is_open, link_of, node_set, status_of};
-use settests::{Exist, next_exist};
+use settests::next_exist;
 
 // Whether a status is yes.
 fn is_sat(s: Status) -> bool
@@ -168,21 +168,16 @@ fn walk_rows(
     let mut k: usize = 0;
     let mut i: usize = 0;
     loop {
-        let Exist::At {
-            row,
-            role,
-            argument: _,
-        } = next_exist(problem, nodes, set, k)
-        else {
+        let Some(exist) = next_exist(problem, nodes, set, k) else {
             return cur;
         };
         let Next::At { index, node } = next_child(nodes, edges, c, x, i) else {
             return cur;
         };
-        k = row + 1;
+        k = exist.row + 1;
         i = index + 1;
         let y = descend(nodes, edges, c, node);
-        cur = meet(nodes, edges, c, cur, d, role, y);
+        cur = meet(nodes, edges, c, cur, d, exist.role, y);
     }
 }
 

@@ -4,8 +4,8 @@ use Rattle.walk.specs.Clauses.{nodes_edges}
 use Rattle.walk.specs.RowCases.{RowTurn}
 use Rattle.walk.proofs.walk_rows.Given as goal
 
-abbrev pub invariant-loop-row : goal.invariant-loop-row
-invariant-loop-row l = RowTurn l.problem (nodes_edges l.initial.nodes l.initial.edges) l.c l.initial.cur l.d l.x (nodes_edges l.nodes l.edges) l.cur l.k l.i
+abbrev pub invariant-loop-exist : goal.invariant-loop-exist
+invariant-loop-exist l = RowTurn l.problem (nodes_edges l.initial.nodes l.initial.edges) l.c l.initial.cur l.d l.x (nodes_edges l.nodes l.edges) l.cur l.k l.i
 
-abbrev pub decreases-loop-row : goal.decreases-loop-row
-decreases-loop-row l = l.c.edges - l.i
+abbrev pub decreases-loop-exist : goal.decreases-loop-exist
+decreases-loop-exist l = l.c.edges - l.i
