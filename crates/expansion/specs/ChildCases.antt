@@ -1,7 +1,7 @@
 -- The ways to put the children of a node, on plain values.
 --
 -- In order: the put of a set made of the node's own; a conjunction (`Both`), or none; a disjunction (`Either`), with two puts, or none; a state; the root.
-use Rattle.std.specs.Prelude.{◌≡◌, List, ◌≢◌, Option, Some, Ok, Err}
+use Rattle.std.specs.Prelude.{◌≡◌, List, ◌≢◌, Option, Some, None, Ok, Err}
 use Rattle.std.proofs.Math.Path.{refl, ap}
 use Rattle.std.proofs.Common.{sym, ◌∙◌, subst}
 use Prim.Native.Nat.{ℕ, zero, suc, ◌*◌, ◌<◌}
@@ -18,8 +18,6 @@ use Rattle.words.specs.Sizes.{node_size, width}
 use Rattle.records.specs.Records.{node_of, IsNode}
 use Rattle.records.specs.declared.Node as D
 use Rattle.rowset.specs.SetOf.{set_of}
-use Rattle.settests.specs.Answers.{found_of}
-use Rattle.settests.specs.declared.Found.{Found}
 use Rattle.graph.specs.Graphs.{Work, work, graph_of, capacity_of, Operation, Step, Refines}
 use Rattle.graph.specs.GraphLaws.{sized-refl}
 use Rattle.graph.specs.RefineLaws.{refines-as, refines-then, refines-short}
@@ -58,18 +56,16 @@ module _ {ws : List ℕ} {n e a : Bytes} {c : Counts} {x : ℕ} (A : ExpandAsks 
     pub loaded : node_at (graph_of (work n e a) c) x ≡ node_of (set_of n (node_size * x)) v
     pub found : lowest_conj (table_of ws) (node_at (graph_of (work n e a) c) x).rows ≡ Some (l, r)
 
-  module _ (hv : IsNode n x v) {q : ℕ} (hq : q ≡ node_size * x) {o : Found} (ho : found_of o ≡ lowest_conj (table_of ws) (set_of n q)) where
-    conj-lowest : {b : Found} → o ≡ b → lowest_conj (table_of ws) (node_at (graph_of (work n e a) c) x).rows ≡ found_of b
+  module _ (hv : IsNode n x v) {q : ℕ} (hq : q ≡ node_size * x) {o : Option (ℕ × ℕ)} (ho : o ≡ lowest_conj (table_of ws) (set_of n q)) where
+    conj-lowest : {b : Option (ℕ × ℕ)} → o ≡ b → lowest_conj (table_of ws) (node_at (graph_of (work n e a) c) x).rows ≡ b
     conj-lowest e =
         ap (λ (r : RowSet). lowest_conj (table_of ws) r) (sym (expand-set A)) ∙ ap (λ (p : ℕ). lowest_conj (table_of ws) (set_of n p)) (sym hq) ∙ sym ho
-        ∙ ap found_of e
+        ∙ e
 
-    pub both_found : {l r : ℕ} → o ≡ Found.Rows l r → Both l r
-    unfolding found_of
+    pub both_found : {l r : ℕ} → o ≡ Some (l, r) → Both l r
     both_found q = record { loaded = expand-loaded A v hv; found = conj-lowest q }
 
-    pub both-none : o ≡ Found.Nothing → DisjAsks ws (work n e a) c x
-    unfolding found_of
+    pub both-none : o ≡ None → DisjAsks ws (work n e a) c x
     both-none q = record { node = A; no_conj = conj-lowest q }
 
 module _ {ws : List ℕ} {n e a : Bytes} {c : Counts} {x : ℕ} {A : ExpandAsks ws (work n e a) c x} {v : D.Node} {l r : ℕ} (B : Both A v l r) where
@@ -109,19 +105,17 @@ module _ {ws : List ℕ} {n e a : Bytes} {c : Counts} {x : ℕ} (A : DisjAsks ws
     pub loaded : node_at (graph_of (work n e a) c) x ≡ node_of (set_of n (node_size * x)) v
     pub found : lowest_disj (table_of ws) (node_at (graph_of (work n e a) c) x).rows ≡ Some (l, r)
 
-  module _ (hv : IsNode n x v) {q : ℕ} (hq : q ≡ node_size * x) {o : Found} (ho : found_of o ≡ lowest_disj (table_of ws) (set_of n q)) where
-    disj-lowest : {b : Found} → o ≡ b → lowest_disj (table_of ws) (node_at (graph_of (work n e a) c) x).rows ≡ found_of b
+  module _ (hv : IsNode n x v) {q : ℕ} (hq : q ≡ node_size * x) {o : Option (ℕ × ℕ)} (ho : o ≡ lowest_disj (table_of ws) (set_of n q)) where
+    disj-lowest : {b : Option (ℕ × ℕ)} → o ≡ b → lowest_disj (table_of ws) (node_at (graph_of (work n e a) c) x).rows ≡ b
     disj-lowest e =
         ap (λ (r : RowSet). lowest_disj (table_of ws) r) (sym (expand-set A.node)) ∙ ap (λ (p : ℕ). lowest_disj (table_of ws) (set_of n p)) (sym hq)
         ∙ sym ho
-        ∙ ap found_of e
+        ∙ e
 
-    pub either-found : {l r : ℕ} → o ≡ Found.Rows l r → Either l r
-    unfolding found_of
+    pub either-found : {l r : ℕ} → o ≡ Some (l, r) → Either l r
     either-found q = record { loaded = expand-loaded A.node v hv; found = disj-lowest q }
 
-    pub either-none : o ≡ Found.Nothing → StateAsks ws (work n e a) c x
-    unfolding found_of
+    pub either-none : o ≡ None → StateAsks ws (work n e a) c x
     either-none q = record { disj = A; no_disj = disj-lowest q }
 
 module _ {ws : List ℕ} {n e a : Bytes} {c : Counts} {x : ℕ} {A : DisjAsks ws (work n e a) c x} {v : D.Node} {l r : ℕ} (E : Either A v l r) where

@@ -1,7 +1,7 @@
 -- The successors of a state, put one after the other: a turn of the loop, on plain values.
 --
 -- In order: the loop's invariant (`SuccessorsPut`); its start; the end; the next row (`SuccessorFound`), and its put.
-use Rattle.std.specs.Prelude.{◌≡◌, ◌≢◌, ℕ, ◌+◌, ◌-◌, ◌*◌, ◌≤◌, ◌<◌, length, Ok, Err}
+use Rattle.std.specs.Prelude.{Option, Some, None, ◌≡◌, ◌≢◌, ℕ, ◌+◌, ◌-◌, ◌*◌, ◌≤◌, ◌<◌, length, Ok, Err}
 use Rattle.std.proofs.Math.Path.{refl, subst}
 use Rattle.std.proofs.Common.{sym, ap, ◌∙◌, arith}
 use mathlib.Core.List.{List, [], ◌∷◌, Memᴰ}
@@ -89,22 +89,22 @@ module _ {ws : List ℕ} {w : Work} {c : Counts} {x : ℕ} {w' : Work} {d : Coun
   pub turn_inside : node_size * x + set_size ≤ length w'.nodes
   turn_inside = now-inside now
 
-  next-is : (o : Exist) (q : ℕ) → NextExist (table_of ws) (set_of w'.nodes q) k o → q ≡ node_size * x → NextExist (table_of ws) s k o
+  next-is : (o : Option Exist) (q : ℕ) → NextExist (table_of ws) (set_of w'.nodes q) k o → q ≡ node_size * x → NextExist (table_of ws) s k o
   next-is o q E eq = subst (λ (r : RowSet). NextExist (table_of ws) r k o) (ap (set_of w'.nodes) eq ∙ turn-set) E
 
   -- what is found in the set at place q, where it stands
-  module _ {o : Exist} (q : ℕ) (E : NextExist (table_of ws) (set_of w'.nodes q) k o) (eq : q ≡ node_size * x) where
-    pub turn_end : o ≡ Exist.End → SuccessorsGives ws w c x (Ok d) w'
+  module _ {o : Option Exist} (q : ℕ) (E : NextExist (table_of ws) (set_of w'.nodes q) k o) (eq : q ≡ node_size * x) where
+    pub turn_end : o ≡ None → SuccessorsGives ws w c x (Ok d) w'
     unfolding NextExist
     turn_end eo =
-        let none : exists_from (table_of ws) s k ≡ [] = subst (λ (o : Exist). NextExist (table_of ws) s k o) eo (next-is o q E eq) in
+        let none : exists_from (table_of ws) s k ≡ [] = subst (λ (o : Option Exist). NextExist (table_of ws) s k o) eo (next-is o q E eq) in
         let all : Course (step ws x s) (existentials (table_of ws) s) w c [] w' d = rw none at T.course in
         refines-as (course-end all) whole
 
-    pub turn-next : {row role argument : ℕ} → o ≡ Exist.At row role argument → SuccessorFound row role argument
+    pub turn-next : {v : Exist} → o ≡ Some v → SuccessorFound v.row v.role v.argument
     unfolding NextExist
     turn-next eo =
-        let F = subst (λ (o : Exist). NextExist (table_of ws) s k o) eo (next-is o q E eq) in
+        let F = subst (λ (o : Option Exist). NextExist (table_of ws) s k o) eo (next-is o q E eq) in
         record { from = F.reached; below = omega (arith, F.inside, length-table_of ws); here = F.rest }
 
 -- ---- the next row

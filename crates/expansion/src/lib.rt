@@ -14,7 +14,7 @@ ghost use Rattle.expansion.specs.Clauses.{ExpandAsks, DisjAsks, StateAsks, KitGi
 use graph::{Area, Counts};
 use records::{is_open, load_node, node_set, status_of};
 use rowset::{copy, insert, join_mask};
-use settests::{Exist, Found, lowest_conj, lowest_disj, next_exist, successor};
+use settests::{lowest_conj, lowest_disj, next_exist, successor};
 use tableau::{judge, put};
 use updates::update_parents;
 use words::sizes::{SET_BYTES, SET_WORDS};
@@ -73,20 +73,13 @@ fn put_successors(
     let set = node_set(x);
     let mut cur = c;
     let mut k: usize = 0;
-    loop {
-        let Exist::At {
-            row,
-            role,
-            argument,
-        } = next_exist(problem, nodes, set, k)
-        else {
-            return Ok(cur);
-        };
-        k = row + 1;
+    while let Some(exist) = next_exist(problem, nodes, set, k) {
+        k = exist.row + 1;
         let mut kit = [0u8; SET_BYTES];
-        successor(problem, nodes, set, role, argument, &mut kit, 0);
-        cur = put(problem, nodes, edges, alternatives, cur, x, x, role, &kit)?;
+        successor(problem, nodes, set, exist.role, exist.argument, &mut kit, 0);
+        cur = put(problem, nodes, edges, alternatives, cur, x, x, exist.role, &kit)?;
     }
+    Ok(cur)
 }
 
 // Puts the children of state x: the root's, or those of another.
@@ -125,7 +118,7 @@ fn expand_disj(
     let set = node_set(x);
     let p = node.pst;
     let role = node.prl;
-    let Found::Rows(left, right) = lowest_disj(problem, nodes, set) else {
+    let Some((left, right)) = lowest_disj(problem, nodes, set) else {
         return expand_state(problem, nodes, edges, alternatives, c, x);
     };
     let mut first = [0u8; SET_BYTES];
@@ -153,7 +146,7 @@ fn expand_conj(
     let set = node_set(x);
     let p = node.pst;
     let role = node.prl;
-    let Found::Rows(left, right) = lowest_conj(problem, nodes, set) else {
+    let Some((left, right)) = lowest_conj(problem, nodes, set) else {
         return expand_disj(problem, nodes, edges, alternatives, c, x);
     };
     let mut both = [0u8; SET_BYTES];

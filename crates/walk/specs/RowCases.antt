@@ -155,18 +155,18 @@ module _ {ws : List ℕ} {w : Work} {c : Counts} {s : Sizes} {d x : ℕ} {w' : W
     pub row_inside : at + set_size ≤ length w'.nodes
     row_inside = omega (arith, held-set holds.held T.inside)
 
-    as-kept : (r : Exist) → NextExist table (set_of w'.nodes at) k r → NextExist table (node_at h x).rows k r
+    as-kept : (r : Option Exist) → NextExist table (set_of w'.nodes at) k r → NextExist table (node_at h x).rows k r
     as-kept r N =
         let e : set_of w'.nodes at ≡ (node_at h x).rows = ap (set_of w'.nodes) p ∙ kept_set T.kept c x T.inside in
         subst (λ (v : RowSet). NextExist table v k r) e N
 
-    pub row-none : NextExist table (set_of w'.nodes at) k Exist.End → RowsGives ws w c s d s' w'
+    pub row-none : NextExist table (set_of w'.nodes at) k None → RowsGives ws w c s d s' w'
     unfolding NextExist
-    row-none N = ended (left-rowless table h x k i (as-kept Exist.End N))
+    row-none N = ended (left-rowless table h x k i (as-kept None N))
 
-    pub row_next : {row ρ l : ℕ} → NextExist table (set_of w'.nodes at) k (Exist.At row ρ l) → Row row ρ l
+    pub row_next : {v : Exist} → NextExist table (set_of w'.nodes at) k (Some v) → Row v.row v.role v.argument
     unfolding NextExist
-    row_next {row} {ρ} {l} N = let E = as-kept (Exist.At row ρ l) N in record { below = E.inside; rest = E.rest }
+    row_next {v} N = let E = as-kept (Some v) N in record { below = E.inside; rest = E.rest }
 
 module _ {ws : List ℕ} {w : Work} {c : Counts} {s : Sizes} {d x : ℕ} {w' : Work} {s' : Sizes} {k i : ℕ} {T : RowTurn ws w c s d x w' s' k i}
     {row ρ l : ℕ} (R : Row T row ρ l) where
@@ -191,10 +191,10 @@ module _ {ws : List ℕ} {w : Work} {c : Counts} {s : Sizes} {d x : ℕ} {w' : W
 
 -- both, by what the searches for the row and for the child answered
 pub row-turn : {ws : List ℕ} {w : Work} {c : Counts} {s : Sizes} {d x : ℕ} {w' : Work} {s' : Sizes} {k i : ℕ} (T : RowTurn ws w c s d x w' s' k i)
-    (l : ℕ) {at row ρ : ℕ} → at ≡ node_size * x → NextExist (table_of ws) (set_of w'.nodes at) k (Exist.At row ρ l) → {index y : ℕ}
+    {at : ℕ} {v : Exist} → at ≡ node_size * x → NextExist (table_of ws) (set_of w'.nodes at) k (Some v) → {index y : ℕ}
     → Answer w' c x i (Some (index, y))
-    → Child T row ρ index y
-row-turn T l p N M = row-child (row_next T p N) M
+    → Child T v.row v.role index y
+row-turn T p N M = row-child (row_next T p N) M
 
 -- ---- the child met
 

@@ -20,7 +20,7 @@ use marks::{
     store_state,
 };
 use records::{Link, Status, link_of, node_set, status_of};
-use settests::{Exist, next_exist};
+use settests::next_exist;
 
 // Whether a status is the one looked for.
 fn is_asked(s: Status, wanted: Status) -> bool
@@ -125,19 +125,14 @@ fn walk_rows(
     let mut sizes = s;
     let mut next_row = 0;
     let mut from = 0;
-    while let Exist::At {
-        row,
-        role,
-        argument: _,
-    } = next_exist(problem, nodes, set, next_row)
-    {
+    while let Some(exist) = next_exist(problem, nodes, set, next_row) {
         let Some((index, child)) = next_child(nodes, edges, c, x, from) else {
             return sizes;
         };
-        next_row = row + 1;
+        next_row = exist.row + 1;
         from = index + 1;
         let y = descend(nodes, edges, c, child);
-        sizes = meet(nodes, edges, c, sizes, d, role, y);
+        sizes = meet(nodes, edges, c, sizes, d, exist.role, y);
     }
     sizes
 }

@@ -23,22 +23,22 @@ returns-in_default c =
 
 pub with_row-requires : goal.with_row-requires
 with_row-requires c =
-    let both = both_found c.requires c.load_node-node.result c.load_node-node.ensures c.node_set-set.ensures c.lowest_conj.ensures c.in-Rows.is in
+    let both = both_found c.requires c.load_node-node.result c.load_node-node.ensures c.node_set-set.ensures c.lowest_conj.ensures c.in-Some.is in
     (rw c.node_set-set.ensures (expand-inside c.requires), both_right both)
 
 pub insert-requires : goal.insert-requires
 insert-requires c =
-    let both = both_found c.requires c.load_node-node.result c.load_node-node.ensures c.node_set-set.ensures c.lowest_conj.ensures c.in-Rows.is in
+    let both = both_found c.requires c.load_node-node.result c.load_node-node.ensures c.node_set-set.ensures c.lowest_conj.ensures c.in-Some.is in
     omega (arith, both_left both)
 
 pub put-requires : goal.put-requires
 put-requires c =
-    let both = both_found c.requires c.load_node-node.result c.load_node-node.ensures c.node_set-set.ensures c.lowest_conj.ensures c.in-Rows.is in
-    both-asks both (own-set _ _ c.node_set-set.ensures (λ s. insert c.in-Rows.left (insert c.in-Rows.right s))
-    (c.insert.ensures.1 set_words (both_left both) ∙ ap (insert c.in-Rows.left) c.with_row.ensures))
+    let both = both_found c.requires c.load_node-node.result c.load_node-node.ensures c.node_set-set.ensures c.lowest_conj.ensures c.in-Some.is in
+    both-asks both (own-set _ _ c.node_set-set.ensures (λ s. insert c.in-Some.left (insert c.in-Some.right s))
+    (c.insert.ensures.1 set_words (both_left both) ∙ ap (insert c.in-Some.left) c.with_row.ensures))
 
 pub returns : goal.returns
 returns c =
-    let both = both_found c.requires c.load_node-node.result c.load_node-node.ensures c.node_set-set.ensures c.lowest_conj.ensures c.in-Rows.is in
-    both-gives both (own-set _ _ c.node_set-set.ensures (λ s. insert c.in-Rows.left (insert c.in-Rows.right s))
-    (c.insert.ensures.1 set_words (both_left both) ∙ ap (insert c.in-Rows.left) c.with_row.ensures)) c.put.ensures
+    let both = both_found c.requires c.load_node-node.result c.load_node-node.ensures c.node_set-set.ensures c.lowest_conj.ensures c.in-Some.is in
+    both-gives both (own-set _ _ c.node_set-set.ensures (λ s. insert c.in-Some.left (insert c.in-Some.right s))
+    (c.insert.ensures.1 set_words (both_left both) ∙ ap (insert c.in-Some.left) c.with_row.ensures)) c.put.ensures

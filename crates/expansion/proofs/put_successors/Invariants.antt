@@ -5,9 +5,9 @@ use Rattle.graph.specs.Graphs.{work}
 use Rattle.expansion.specs.SuccessorCases.{SuccessorsPut}
 use Rattle.expansion.proofs.put_successors.Given as goal
 
-abbrev pub invariant-loop-row : goal.invariant-loop-row
-invariant-loop-row l = SuccessorsPut l.problem (work l.initial.nodes l.initial.edges l.initial.alternatives) l.initial.cur l.x
+abbrev pub invariant-loop-exist : goal.invariant-loop-exist
+invariant-loop-exist l = SuccessorsPut l.problem (work l.initial.nodes l.initial.edges l.initial.alternatives) l.initial.cur l.x
     (work l.nodes l.edges l.alternatives) l.cur l.k
 
-abbrev pub decreases-loop-row : goal.decreases-loop-row
-decreases-loop-row l = count_of l.problem - l.k
+abbrev pub decreases-loop-exist : goal.decreases-loop-exist
+decreases-loop-exist l = count_of l.problem - l.k
