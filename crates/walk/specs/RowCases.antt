@@ -2,7 +2,7 @@
 --
 -- In order: what is left of the rows (`left`); the loop's invariant (`RowTurn`), its start; the next row (`Row`) and child (`Child`), or the end; the child
 -- met. The set of the state is read at its place in each turn: marks are written beside it.
-use Rattle.std.specs.Prelude.{◌≡◌, refl, length, None, Some}
+use Rattle.std.specs.Prelude.{◌≡◌, refl, length, Option, None, Some}
 use Rattle.std.proofs.Common.{sym, ◌∙◌, subst, arith, length-append}
 use Rattle.std.proofs.Math.Path.{ap, ap₂}
 use mathlib.Core.List.{List, [], ◌∷◌, map, zip, zip_with, Memᴰ}
