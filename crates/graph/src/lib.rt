@@ -37,6 +37,13 @@ pub struct Counts {
     pub alternatives: u16,
 }
 
+// The counts of areas with no records.
+pub const NO_RECORDS: Counts = Counts {
+    nodes: 0,
+    edges: 0,
+    alternatives: 0,
+};
+
 // An area that was short: what a step answers that found no place. One that did answers the new counts.
 #[derive(Clone, Copy, PartialEq, Eq, Debug)]
 pub enum Area {
@@ -252,10 +259,10 @@ fn is_state_with(nodes: &[u8], x: u16, s: &[u8; SET_BYTES]) -> bool
     ensures { result ≡ Graphs.is_state_with nodes.now (set_of s.now 0) x }
 {
     // most nodes differ in the set
-    if !same(nodes, node_set(x), s, 0, SET_WORDS) {
-        return false;
+    if same(nodes, node_set(x), s, 0, SET_WORDS) {
+        return (0 < x) & is_state(nodes, x as usize);
     }
-    (0 < x) & is_state(nodes, x as usize)
+    false
 }
 
 // The state with the set s; the root "is never looked up".

@@ -8,7 +8,7 @@ ghost use Rattle.problem.specs.Decoded.{Decoded};
 ghost use Rattle.rounds.specs.Clauses.{RoundsAsks, RoundsGives, RunGives};
 
 use expansion::expand;
-use graph::{Area, Counts, add_node, lowest_unset};
+use graph::{Area, Counts, NO_RECORDS, add_node, lowest_unset};
 use records::{Link, Node, Status, is_live, status_of};
 use words::sizes::SET_BYTES;
 
@@ -50,11 +50,6 @@ pub fn run(
         (work nodes.old edges.old alternatives.old) result
         (work nodes.new edges.new alternatives.new) }
 {
-    let none = Counts {
-        nodes: 0,
-        edges: 0,
-        alternatives: 0,
-    };
     let empty = [0u8; SET_BYTES];
     let root = Node {
         status: Status::Unset,
@@ -63,6 +58,6 @@ pub fn run(
         prl: 0,
         link: Link::None,
     };
-    let c = add_node(nodes, none, &empty, root)?;
+    let c = add_node(nodes, NO_RECORDS, &empty, root)?;
     rounds(problem, nodes, edges, alternatives, c)
 }

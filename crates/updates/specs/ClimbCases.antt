@@ -58,7 +58,10 @@ module _ {ws : List ℕ} {w : Work} {c : Counts} {x : ℕ} {n' e' a' : Bytes} {c
     abbrev pub Changed : Work → Counts → Type 0
     Changed w₁ d₁ = Settles ws (work n' e' a') d y w₁ d₁
 
-    module _ {v : Result Rejudged Area} {w₁ : Work} (R : RejudgeGives ws (work n' e' a') d y v w₁) where
+    module _ {v : Result Rejudged Area} {n₁ e₁ a₁ : Bytes} (R : RejudgeGives ws (work n' e' a') d y v (work n₁ e₁ a₁)) where
+      abbrev w₁ : Work
+      w₁ = work n₁ e₁ a₁
+
       came-to : {u : Result Rejudged Area} → v ≡ u → RejudgedTo ws (work n' e' a') d y u w₁
       came-to ev = subst (λ (v : Result Rejudged Area). RejudgedTo ws (work n' e' a') d y v w₁) ev R.came
 
