@@ -4,20 +4,20 @@ use Rattle.evaluation.specs.LinkCases.{followed-none, followed-asks, followed-mo
 use Rattle.evaluation.proofs.along.Goals as goal
 
 pub fill-requires : goal.fill-requires
-fill-requires c = (c.requires.room, c.requires.row)
+fill-requires g c = (c.requires.room, c.requires.row)
 
 pub loop-i-init : goal.loop-i-init
-loop-i-init c = (omega arith, followed-none)
+loop-i-init g c = (omega arith, followed-none)
 
 pub follow_link-requires : goal.follow_link-requires
-follow_link-requires c = followed-asks c.requires.linked c.loop-i.invariant.1 (omega arith) (omega (arith, c.requires.room, c.fill.auto.elements))
+follow_link-requires g c = followed-asks c.requires.linked c.loop-i.invariant.1 (omega arith) (omega (arith, c.requires.room, c.fill.auto.elements))
     c.requires.row c.requires.argument
 
 pub loop-i-preserved : goal.loop-i-preserved
-loop-i-preserved c = (omega arith, followed-more c.requires.linked c.loop-i.invariant.1 (omega arith) c.follow_link.auto.elements c.follow_link.ensures)
+loop-i-preserved g c = (omega arith, followed-more c.requires.linked c.loop-i.invariant.1 (omega arith) c.follow_link.auto.elements c.follow_link.ensures)
 
 pub shape_of-elements : goal.shape_of-elements
-shape_of-elements c = c.loop-i.invariant.1.size ∙ c.fill.auto.elements
+shape_of-elements g c = c.loop-i.invariant.1.size ∙ c.fill.auto.elements
 
 pub returns : goal.returns
-returns c = followed-all c.fill.ensures c.loop-i.invariant.1 (omega arith)
+returns g c = followed-all c.fill.ensures c.loop-i.invariant.1 (omega arith)

@@ -1,10 +1,9 @@
 -- `evaluation::evaluate_row` meets its contract: by the kind of the row.
-use mathlib.Core.Path.{refl, sym, ◌∙◌}
+use mathlib.Core.Path.{sym, ◌∙◌}
 use Prim.Native.Nat.{◌<◌}
 use native.Mathlib.Omega.{arith}
 use borrow.Author.Tests.{not-true, not-false}
 use Rattle.problem.specs.DecodedLaws.{role-lt}
-use Rattle.evaluation.specs.Clauses.{AlongAsks}
 use Rattle.evaluation.specs.RowCases.{row-local, row-argument, counting-ways, counting-alone, row-along, row_other}
 use Rattle.evaluation.proofs.evaluate_row.Goals as goal
 
@@ -36,25 +35,20 @@ ways_of-ways-requires c =
     (c.requires.0.decoded, not-true _ (sym c.has_inclusion.ensures ∙ c.if-has_inclusion.true), role-inside)
 
 pub along-requires : goal.along-requires
-along-requires c =
-    let asks : let a = c.args in AlongAsks a.elements.now a.size a.links.now a.count a.k c.left_at-left.result = record {
-      room = c.requires.0.room;
-      linked = c.requires.0.linked;
-      row = omega (arith, c.requires.0.decoded.rows.few);
-      argument = row-argument c.requires.0.decoded c.requires.1 c.kind_at-kind.ensures c.left_at-left.ensures.0 c.if-kind-2.true;
-    } in
-    asks
+along-requires c = record {
+  room = c.requires.0.room;
+  linked = c.requires.0.linked;
+  row = omega (arith, c.requires.0.decoded.rows.few);
+  argument = row-argument c.requires.0.decoded c.requires.1 c.kind_at-kind.ensures c.left_at-left.ensures.0 c.if-kind-2.true;
+}
 
-pub along_own-requires : goal.along_own-requires
-along_own-requires c =
-    let role-inside : c.role_at-role.result < 32 = omega (arith, c.role_at-role.ensures, role-lt c.requires.0.decoded.rows c.args.k c.requires.1) in
-    let asks : let a = c.args in AlongAsks a.elements.now a.size a.links.now a.count a.k c.left_at-left.result = record {
-      room = c.requires.0.room;
-      linked = c.requires.0.linked;
-      row = omega (arith, c.requires.0.decoded.rows.few);
-      argument = row-argument c.requires.0.decoded c.requires.1 c.kind_at-kind.ensures c.left_at-left.ensures.0 c.if-kind-2.true;
-    } in
-    (asks, role-inside)
+pub along-requires-else-has_inclusion : goal.along-requires-else-has_inclusion
+along-requires-else-has_inclusion c = record {
+  room = c.requires.0.room;
+  linked = c.requires.0.linked;
+  row = omega (arith, c.requires.0.decoded.rows.few);
+  argument = row-argument c.requires.0.decoded c.requires.1 c.kind_at-kind.ensures c.left_at-left.ensures.0 c.if-kind-2.true;
+}
 
 pub returns-then-has_inclusion : goal.returns-then-has_inclusion
 returns-then-has_inclusion c =
@@ -65,7 +59,8 @@ returns-then-has_inclusion c =
 pub returns-else-has_inclusion : goal.returns-else-has_inclusion
 returns-else-has_inclusion c =
     row-along c.requires.0.decoded c.requires.1 c.kind_at-kind.ensures c.left_at-left.ensures.0 c.if-kind-2.true c.role_at-role.ensures
-    (counting-alone c.requires.0.decoded c.requires.1 (not-false _ (sym c.has_inclusion.ensures ∙ c.if-has_inclusion.false)) refl) c.along_own.ensures
+    (counting-alone c.requires.0.decoded c.requires.1 (not-false _ (sym c.has_inclusion.ensures ∙ c.if-has_inclusion.false))
+    (c.inverse.ensures.role (omega (arith, c.role_at-role.ensures, role-lt c.requires.0.decoded.rows c.args.k c.requires.1)))) c.along-else-has_inclusion.ensures
 
 pub returns-else-kind-2 : goal.returns-else-kind-2
 returns-else-kind-2 c = row_other c.requires.0.decoded c.requires.1 c.kind_at-kind.ensures c.left_at-left.ensures.0 c.if-kind.false c.if-kind-2.false

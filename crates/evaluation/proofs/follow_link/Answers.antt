@@ -1,30 +1,24 @@
 -- `evaluation::follow_link` meets its contract: the link is taken onward if its code counts for that, and then backward if it counts for that.
+use Rattle.std.proofs.Common.{ℕ, ◌||◌}
 use mathlib.Core.Path.{refl, sym, ap, ◌∙◌}
 use native.Mathlib.Omega.{arith}
 use borrow.Author.Tests.{not-true}
-use Rattle.concepts.specs.RowSet.{union}
-use Rattle.concepts.specs.RowSetLaws.{mem-union}
-use Rattle.listing.specs.Layout.{link_at}
-use Rattle.evaluation.specs.Clauses.{codes}
 use Rattle.evaluation.specs.LinkCases.{Taken, CodeRead, code_read, way-followed, way-passed, link-taken, link-passed}
 use Rattle.evaluation.proofs.follow_link.Goals as goal
 use Rattle.evaluation.proofs.follow_link.Goals.{then-onward, else-onward}
 
 -- none does
-pub returns-then-not-has : goal.returns-then-not-has
-unfolding union
-returns-then-not-has c =
-    let ways = c.args.ways in
-    let role = (link_at c.args.links.now c.args.i).role in
-    let either = union ways.onward ways.backward in
+pub returns-then-not-leads : goal.returns-then-not-leads
+returns-then-not-leads g c =
+    let onward = g.W.Leads.onward c.args.ways.now in
+    let backward = g.W.Leads.backward c.args.ways.now in
     let neither =
-    sym (mem-union role ways.onward ways.backward) ∙ sym (ap (codes either) c.get2-code.ensures) ∙ sym c.has.ensures
-    ∙ not-true _ c.if-not-has.true-raw in
-    link-passed c.requires.argument (code_read c.args.links.now c.args.i (codes ways.onward) (codes ways.backward)) neither
+    sym (c.leads.ensures ∙ ap (λ (code : ℕ). onward code || backward code) c.get2-code.ensures) ∙ not-true _ c.if-not-leads.true-raw in
+    link-passed c.requires.argument (code_read c.args.links.now c.args.i onward backward) neither
 
 pub follow-requires-then-backward : goal.follow-requires-then-backward
-follow-requires-then-backward c =
-    let onward : Taken c.has-onward.result c.args.elements.now c.get2-from.result c.get2-to.result c.args.k c.args.left c.args.all c.if-onward.elements =
+follow-requires-then-backward g c =
+    let onward : Taken c.leads_onward-onward.result c.args.elements.now c.get2-from.result c.get2-to.result c.args.k c.args.left c.args.all c.if-onward.elements =
     elim c.if-onward.branch [
       | then-onward w ↦ way-followed w.if-onward.true w.follow.auto.elements w.follow.ensures w.elements-is
       | else-onward w ↦ way-passed w.if-onward.false w.elements-is
@@ -37,8 +31,8 @@ follow-requires-then-backward c =
     }
 
 pub shape_of-elements-then-backward : goal.shape_of-elements-then-backward
-shape_of-elements-then-backward c =
-    let onward : Taken c.has-onward.result c.args.elements.now c.get2-from.result c.get2-to.result c.args.k c.args.left c.args.all c.if-onward.elements =
+shape_of-elements-then-backward g c =
+    let onward : Taken c.leads_onward-onward.result c.args.elements.now c.get2-from.result c.get2-to.result c.args.k c.args.left c.args.all c.if-onward.elements =
     elim c.if-onward.branch [
       | then-onward w ↦ way-followed w.if-onward.true w.follow.auto.elements w.follow.ensures w.elements-is
       | else-onward w ↦ way-passed w.if-onward.false w.elements-is
@@ -46,14 +40,14 @@ shape_of-elements-then-backward c =
     c.follow-then-backward.auto.elements ∙ onward.size
 
 pub returns-then-backward : goal.returns-then-backward
-returns-then-backward c =
-    let read : CodeRead c.args.links.now c.args.i (codes c.args.ways.onward) (codes c.args.ways.backward) c.has-onward.result c.has-backward.result =
+returns-then-backward g c =
+    let read : CodeRead c.args.links.now c.args.i (g.W.Leads.onward c.args.ways.now) (g.W.Leads.backward c.args.ways.now) c.leads_onward-onward.result c.leads_backward-backward.result =
     let code = c.get2-code.ensures in
     record {
-      on-is = c.has-onward.ensures ∙ ap (codes c.args.ways.onward) code;
-      back_is = c.has-backward.ensures ∙ ap (codes c.args.ways.backward) code;
+      on-is = c.leads_onward-onward.ensures ∙ ap (g.W.Leads.onward c.args.ways.now) code;
+      back_is = c.leads_backward-backward.ensures ∙ ap (g.W.Leads.backward c.args.ways.now) code;
     } in
-    let onward : Taken c.has-onward.result c.args.elements.now c.get2-from.result c.get2-to.result c.args.k c.args.left c.args.all c.if-onward.elements =
+    let onward : Taken c.leads_onward-onward.result c.args.elements.now c.get2-from.result c.get2-to.result c.args.k c.args.left c.args.all c.if-onward.elements =
     elim c.if-onward.branch [
       | then-onward w ↦ way-followed w.if-onward.true w.follow.auto.elements w.follow.ensures w.elements-is
       | else-onward w ↦ way-passed w.if-onward.false w.elements-is
@@ -62,8 +56,8 @@ returns-then-backward c =
     (way-followed c.if-backward.true c.follow-then-backward.auto.elements c.follow-then-backward.ensures refl)
 
 pub shape_of-elements-else-backward : goal.shape_of-elements-else-backward
-shape_of-elements-else-backward c =
-    let onward : Taken c.has-onward.result c.args.elements.now c.get2-from.result c.get2-to.result c.args.k c.args.left c.args.all c.if-onward.elements =
+shape_of-elements-else-backward g c =
+    let onward : Taken c.leads_onward-onward.result c.args.elements.now c.get2-from.result c.get2-to.result c.args.k c.args.left c.args.all c.if-onward.elements =
     elim c.if-onward.branch [
       | then-onward w ↦ way-followed w.if-onward.true w.follow.auto.elements w.follow.ensures w.elements-is
       | else-onward w ↦ way-passed w.if-onward.false w.elements-is
@@ -71,14 +65,14 @@ shape_of-elements-else-backward c =
     onward.size
 
 pub returns-else-backward : goal.returns-else-backward
-returns-else-backward c =
-    let read : CodeRead c.args.links.now c.args.i (codes c.args.ways.onward) (codes c.args.ways.backward) c.has-onward.result c.has-backward.result =
+returns-else-backward g c =
+    let read : CodeRead c.args.links.now c.args.i (g.W.Leads.onward c.args.ways.now) (g.W.Leads.backward c.args.ways.now) c.leads_onward-onward.result c.leads_backward-backward.result =
     let code = c.get2-code.ensures in
     record {
-      on-is = c.has-onward.ensures ∙ ap (codes c.args.ways.onward) code;
-      back_is = c.has-backward.ensures ∙ ap (codes c.args.ways.backward) code;
+      on-is = c.leads_onward-onward.ensures ∙ ap (g.W.Leads.onward c.args.ways.now) code;
+      back_is = c.leads_backward-backward.ensures ∙ ap (g.W.Leads.backward c.args.ways.now) code;
     } in
-    let onward : Taken c.has-onward.result c.args.elements.now c.get2-from.result c.get2-to.result c.args.k c.args.left c.args.all c.if-onward.elements =
+    let onward : Taken c.leads_onward-onward.result c.args.elements.now c.get2-from.result c.get2-to.result c.args.k c.args.left c.args.all c.if-onward.elements =
     elim c.if-onward.branch [
       | then-onward w ↦ way-followed w.if-onward.true w.follow.auto.elements w.follow.ensures w.elements-is
       | else-onward w ↦ way-passed w.if-onward.false w.elements-is
