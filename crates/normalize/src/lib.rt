@@ -93,7 +93,8 @@ fn slot(k: usize, sign: bool) -> usize
 #[derive(Clone, Copy)]
 pub struct TooLarge;
 
-// What is written so far: rows as words, as the definitions have them, so many at the start; and for each row of the draft, and for its opposite, which place it has got.
+// What is written so far: rows as words, as the definitions have them, so many at the start; and for each row of the draft, and for its opposite,
+// which place it has got.
 // The draft is no field: it is only read, and each method would have to promise that it stays.
 #[derive(Clone, Copy)]
 pub struct Written {
