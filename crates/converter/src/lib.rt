@@ -15,7 +15,7 @@ use normalize::{TooLarge, Written};
 use reader::{Layout, read, rules_of, wanted_of};
 use rulefile::{LONGEST, MOST_RULES, ROW, TRAILER};
 
-// The refusal's number and 0, or 0 and the length of the file that is written.
+// The refusal's number and 0, or 0 and the length of the file that is written: the C interface, so no `Result`.
 #[repr(C)]
 #[derive(Clone, Copy)]
 pub struct Conversion {

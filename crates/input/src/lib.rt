@@ -8,6 +8,7 @@ use std::io::Read;
 
 // Reads until the room is full or the input ends: answers how many bytes stand at its start. Of std's calls `read` may stop before, and `read_exact`
 // fails where the input is shorter than the room.
+// A turn reads as many bytes as there are, so this is no `for`.
 pub fn read_full(input: &mut impl Read, room: &mut [u8]) -> io::Result<usize>
     ensures { IfOk result (λ n. n ≤ length room.new) }
 {

@@ -1,7 +1,7 @@
 -- What the functions that put rows ask and give. Laws are in PutCases and ListCases.
 --
 -- In order: a draft; places that are remembered; what is written; a row that is shared; a row with all that it needs; a list of rows; the inclusions.
-use Rattle.std.specs.Prelude.{◌≡◌, ℕ, ◌≤◌, ◌<◌, length, get_or, take, replicate, Result, Ok, Err}
+use Rattle.std.specs.Prelude.{◌≡◌, ℕ, ◌≤◌, ◌<◌, length, get_or, take, replicate, Option, None, Some, Result, Ok, Err}
 use mathlib.Core.List.{List, Memᴰ}
 use Rattle.concepts.specs.Lists.{Bytes}
 use Rattle.concepts.specs.Begins.{Begins}
@@ -14,7 +14,7 @@ use Rattle.drafts.specs.Normalize.{Sign, stands, share, put, PutList, put_list, 
 use Rattle.normalize.specs.declared.TooLarge.{TooLarge}
 use Rattle.normalize.specs.declared.Written.{Written}
 use Rattle.normalize.specs.Words.{Own, row_in, rows_in, Held}
-use Rattle.normalize.specs.Shapes.{table_of, slots, no_place, slot_of}
+use Rattle.normalize.specs.Shapes.{table_of, slots, slot_of}
 
 -- ---- a draft that passed all checks
 
@@ -27,9 +27,9 @@ pub record Draft (b : Bytes) : Type 0 where
 abbrev pub Settled : Bytes → Sign → ℕ → Table → ℕ → Type 0
 Settled b s k out place = (u : Table) → Begins out u → put (table_of b) s k u ≡ stands u place
 
-pub record Remembers (b : Bytes) (out : Table) (memo : List ℕ) : Type 0 where
+pub record Remembers (b : Bytes) (out : Table) (memo : List (Option ℕ)) : Type 0 where
   pub size : length memo ≡ slots
-  pub settled : (k : ℕ) (s : Sign) → k < row_count b → get_or memo (slot_of k s) 0 < no_place → Settled b s k out (get_or memo (slot_of k s) 0)
+  pub settled : (k : ℕ) (s : Sign) (place : ℕ) → k < row_count b → get_or memo (slot_of k s) None ≡ Some place → Settled b s k out place
 
 -- ---- what is written
 
@@ -118,10 +118,10 @@ pub record Kept (b : Bytes) (k : ℕ) (w : Written) : Type 0 where
   pub few : w.count ≤ k
   pub held : Held w.words w.count
   pub rows : rows_of w ≡ inclusion_rows (take k (table_of b))
-  pub nothing_put : w.memo ≡ replicate slots no_place
+  pub nothing_put : w.memo ≡ replicate slots None
 
 -- the words hold those of the draft, and no place is remembered
 pub record KeepGives (b : Bytes) (w : Written) : Type 0 where
   pub held : Held w.words w.count
   pub rows : rows_of w ≡ inclusion_rows (table_of b)
-  pub nothing_put : w.memo ≡ replicate slots no_place
+  pub nothing_put : w.memo ≡ replicate slots None

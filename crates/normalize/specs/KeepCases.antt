@@ -1,7 +1,7 @@
 -- The ways through the functions that write the inclusions of a draft, on plain values.
 --
 -- In order: no row yet; a draft without an inclusion; a row that is an inclusion; a row that is none; all rows.
-use Rattle.std.specs.Prelude.{◌≡◌, refl, Bool, false, not, ℕ, ◌+◌, ◌*◌, ◌≤◌, ◌<◌, T, eqb, length, get_or, set, replicate}
+use Rattle.std.specs.Prelude.{◌≡◌, refl, Bool, false, not, ℕ, ◌+◌, ◌*◌, ◌≤◌, ◌<◌, T, eqb, length, get_or, set, replicate, None}
 use Rattle.std.proofs.Math.Path.{sym, ap}
 use Rattle.std.proofs.Common.{◌∙◌, subst, add-one, arith, take-suc, take_all}
 use mathlib.Core.List.{List, [], ◌∷◌, ◌++◌, append-nil, Memᴰ}
@@ -19,7 +19,7 @@ use Rattle.drafts.specs.Normalize.{inclusion_rows}
 use Rattle.normalize.specs.declared.Written.{Written}
 use Rattle.normalize.specs.Words.{rows_in, Held}
 use Rattle.normalize.specs.WordLaws.{inclusion-row, rows_in-more, held_more}
-use Rattle.normalize.specs.Shapes.{table_of, slots, no_place}
+use Rattle.normalize.specs.Shapes.{table_of, slots}
 use Rattle.normalize.specs.ShapeLaws.{draft-parted, draft-rows, parts_at}
 use Rattle.normalize.specs.Clauses.{KeepAsks, Kept, KeepGives}
 
@@ -27,7 +27,7 @@ use Rattle.normalize.specs.Clauses.{KeepAsks, Kept, KeepGives}
 
 -- what is written at first
 abbrev pub none-written : Written
-none-written = record { words = replicate most_rows 0; count = 0; memo = replicate slots no_place }
+none-written = record { words = replicate most_rows 0; count = 0; memo = replicate slots None }
 
 none-held : Held none-written.words 0
 none-held = record { size = refl; few = omega arith; own = λ i h. absurd (omega (arith, h)) }

@@ -1,16 +1,16 @@
 -- The ways through the functions that put one row, on plain values.
 --
--- In order: answers by their names; a row that is shared (`share-there`, `share-next`, `share-none`); a row that is remembered, or is put and then
--- remembered (`known-case`, `new-case`); a row that is not remembered, by what becomes of it: literal, other, over one row, over two.
+-- In order: answers by their names; a row that is shared (`share-there`, `share-next`, `share-none`); a row that is put and then
+-- remembered (`new-case`); a row that is not remembered, by what becomes of it: literal, other, over one row, over two.
 use Rattle.std.specs.Prelude.{◌≡◌, ◌==◌, refl, true, false, ℕ, ◌+◌, ◌≤◌, ◌<◌, length, get_or, set, take, replicate}
-use Rattle.std.specs.Prelude.{position, None, Some, Result, Ok, Err, IsErr}
+use Rattle.std.specs.Prelude.{position, Option, None, Some, Result, Ok, Err, IsErr}
 use Rattle.std.proofs.Common.{sym, ◌∙◌, arith, length-set, length-append, get_or-set_same, get_or-set_other}
 use Rattle.std.proofs.Math.Path.{ap, subst}
 use mathlib.Core.List.{List, [], ◌∷◌, ◌++◌, Memᴰ}
 use Rattle.std.proofs.Math.Decide.{ℕ_discrete}
 use Rattle.std.proofs.lemmas.List.{get_or-replicate}
 use Rattle.concepts.specs.Lists.{Bytes}
-use Rattle.concepts.specs.Begins.{Begins, begins-refl, begins-trans, begins-length}
+use Rattle.concepts.specs.Begins.{Begins, begins-trans, begins-length}
 use Rattle.concepts.specs.Concept.{Concept, Table, concept_at, arguments}
 use Rattle.decoding.specs.RowParts.{of_parts}
 use Rattle.rulefile.specs.Format.{row_count, most_rows}
@@ -25,7 +25,7 @@ use Rattle.normalize.specs.declared.TooLarge.{TooLarge}
 use Rattle.normalize.specs.declared.Written.{Written}
 use Rattle.normalize.specs.Words.{row_in, Held}
 use Rattle.normalize.specs.WordLaws.{IsRow, length-rows_in, rows_in-more, held_more, found-place, found-nowhere}
-use Rattle.normalize.specs.Shapes.{shape_of, table_of, ShapeAt, slots, no_place, slot_of}
+use Rattle.normalize.specs.Shapes.{shape_of, table_of, ShapeAt, slots, slot_of}
 use Rattle.normalize.specs.ShapeLaws.{draft-parted, draft-ordered, draft-idle}
 use Rattle.normalize.specs.Clauses.{Settled, Remembers, rows_of, ShareAsks, Gives, SharesRow, PutAsks, Still, PutGives}
 
@@ -88,19 +88,22 @@ module _ {w : Written} {word : ℕ} (A : ShareAsks w word) where
 -- ---- what is remembered
 
 module _ {b : Bytes} where
-  remembers-grown : {t u : Table} {memo : List ℕ} → Remembers b t memo → Begins t u → Remembers b u memo
-  remembers-grown {t} {u} R more = record { size = R.size; settled = λ k s h l v c. R.settled k s h l v (begins-trans t u v more c) }
+  remembers-grown : {t u : Table} {memo : List (Option ℕ)} → Remembers b t memo → Begins t u → Remembers b u memo
+  remembers-grown {t} {u} R more = record { size = R.size; settled = λ k s place h l v c. R.settled k s place h l v (begins-trans t u v more c) }
 
   -- nothing is remembered at first
-  pub remembers-none : (t : Table) → row_count b ≤ most_rows → Remembers b t (replicate slots no_place)
+  pub remembers-none : (t : Table) → row_count b ≤ most_rows → Remembers b t (replicate slots None)
   remembers-none t few = record {
     size = refl;
-    settled = λ k s h l. absurd (omega (arith, get_or-replicate {A = ℕ} slots (slot_of k s) no_place 0 (slot_lt k s (omega arith))));
+    settled = λ k s place h l. absurd (nothing (slot_of k s) place (slot_lt k s (omega arith)) l);
   }
     where
       slot_lt : (k : ℕ) (s : Sign) → k < most_rows → slot_of k s < slots
       slot_lt k true h = omega arith
       slot_lt k false h = omega arith
+
+      nothing : (at place : ℕ) → at < slots → get_or {A = Option ℕ} (replicate slots None) at None ≡ Some place → ⊥
+      nothing at place h e = let none = get_or-replicate {A = Option ℕ} slots at None None h in absurd (cc)
 
 slot_same : (k j : ℕ) (s z : Sign) → slot_of k s ≡ slot_of j z → (k ≡ j) × (s ≡ z)
 slot_same k j true true e = (omega arith, refl)
@@ -109,18 +112,6 @@ slot_same k j true false e = absurd (omega arith)
 slot_same k j false true e = absurd (omega arith)
 
 module _ {b : Bytes} {w : Written} {k : ℕ} (A : PutAsks b w k) (s : Sign) where
-  -- the place is known
-  pub known-case : {place : ℕ} → place ≡ get_or w.memo (slot_of k s) 0 → place < no_place → PutGives b w k s w (Ok place)
-  known-case {place} e h =
-      let known : put (table_of b) s k (rows_of w) ≡ stands (rows_of w) (get_or w.memo (slot_of k s) 0) =
-      A.remembered.settled k s A.row (omega arith) (rows_of w) (begins-refl (rows_of w)) in
-      record {
-        memo_size = A.remembered.size;
-        size = A.held.size;
-        gives = record { held = A.held; rows = ap (λ (p : Normalize.Put). p.rows) (sym known); at = e ∙ ap (λ (p : Normalize.Put). p.at) (sym known) };
-        still = A.remembered;
-      }
-
   -- the row is put, and its place is remembered
   module _ {w' : Written} {place : ℕ} (G : PutGives b w k s w' (Ok place)) where
     now-settled : Settled b s k (rows_of w') place
@@ -135,24 +126,27 @@ module _ {b : Bytes} {w : Written} {k : ℕ} (A : PutAsks b w k) (s : Sign) wher
         inside true = omega (arith, G.memo_size, A.row, (draft-parted A.draft).few_rows)
         inside false = omega (arith, G.memo_size, A.row, (draft-parted A.draft).few_rows)
 
-    settled-all : (j : ℕ) (z : Sign) → j < row_count b → get_or (set w'.memo (slot_of k s) place) (slot_of j z) 0 < no_place
-        → Settled b z j (rows_of w') (get_or (set w'.memo (slot_of k s) place) (slot_of j z) 0)
-    settled-all j z h l = elim (ℕ_discrete (slot_of j z) (slot_of k s)) [
+    settled-all : (j : ℕ) (z : Sign) (p : ℕ) → j < row_count b → get_or (set w'.memo (slot_of k s) (Some place)) (slot_of j z) None ≡ Some p
+        → Settled b z j (rows_of w') p
+    settled-all j z p h l = elim (ℕ_discrete (slot_of j z) (slot_of k s)) [
       | yes e ↦
           let (row, sign) = slot_same j k z s e in
-          rw (e, get_or-set_same w'.memo (slot_of k s) place 0 slot-inside, row, sign) now-settled
+          let here : get_or (set w'.memo (slot_of k s) (Some place)) (slot_of j z) None ≡ Some place =
+          rw e (get_or-set_same w'.memo (slot_of k s) (Some place) None slot-inside) in
+          let same : place ≡ p = cc in
+          rw (row, sign, ← same) now-settled
       | no d ↦
-          let other : get_or (set w'.memo (slot_of k s) place) (slot_of j z) 0 ≡ get_or w'.memo (slot_of j z) 0 =
-          get_or-set_other w'.memo (slot_of k s) (slot_of j z) place 0 d in
-          rw other (G.still.settled j z h (omega arith))
+          let other : get_or (set w'.memo (slot_of k s) (Some place)) (slot_of j z) None ≡ get_or w'.memo (slot_of j z) None =
+          get_or-set_other w'.memo (slot_of k s) (slot_of j z) (Some place) None d in
+          G.still.settled j z p h (sym other ∙ l)
     ]
 
-    pub new-case : PutGives b w k s (record { words = w'.words; count = w'.count; memo = set w'.memo (slot_of k s) place }) (Ok place)
+    pub new-case : PutGives b w k s (record { words = w'.words; count = w'.count; memo = set w'.memo (slot_of k s) (Some place) }) (Ok place)
     new-case = record {
-      memo_size = length-set w'.memo (slot_of k s) place ∙ G.memo_size;
+      memo_size = length-set w'.memo (slot_of k s) (Some place) ∙ G.memo_size;
       size = G.size;
       gives = record { held = G.gives.held; rows = G.gives.rows; at = G.gives.at };
-      still = record { size = length-set w'.memo (slot_of k s) place ∙ G.memo_size; settled = settled-all };
+      still = record { size = length-set w'.memo (slot_of k s) (Some place) ∙ G.memo_size; settled = settled-all };
     }
 
 -- ---- a row that is not remembered

@@ -67,9 +67,5 @@ form_of kind role left right s =
 abbrev pub slots : ℕ
 slots = 2 * most_rows
 
--- what stands there before a place is known
-abbrev pub no_place : ℕ
-no_place = 255
-
 abbrev pub slot_of : ℕ → Sign → ℕ
 slot_of k s = cond s (2 * k) (2 * k + 1)

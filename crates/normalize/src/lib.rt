@@ -28,9 +28,6 @@ enum Shape {
 // Places that are remembered: two for each row of a draft.
 const SLOTS: usize = 2 * MOST_ROWS;
 
-// No place yet.
-const NO_PLACE: u8 = 255;
-
 // The kind that is written for a row of a kind, or for its opposite.
 fn written_kind(kind: u8, sign: bool) -> u8
     ensures { result ≡ written_kind kind sign }
@@ -96,12 +93,14 @@ fn slot(k: usize, sign: bool) -> usize
 #[derive(Clone, Copy)]
 pub struct TooLarge;
 
-// What is written so far: rows as words, so many at the start; and for each row of the draft, and for its opposite, which place it has got.
+// What is written so far: rows as words, as the definitions have them, so many at the start; and for each row of the draft, and for its opposite,
+// which place it has got.
+// The draft is no field: it is only read, and each method would have to promise that it stays.
 #[derive(Clone, Copy)]
 pub struct Written {
     pub words: [u32; MOST_ROWS],
     pub count: usize,
-    pub memo: [u8; SLOTS],
+    pub memo: [Option<u8>; SLOTS],
 }
 
 impl Written {
@@ -166,12 +165,11 @@ impl Written {
         ensures { PutGives draft.now self.old k sign self.new result }
     {
         let at = slot(k, sign);
-        let known = self.memo[at];
-        if known < NO_PLACE {
-            return Ok(known);
+        if let Some(place) = self.memo[at] {
+            return Ok(place);
         }
         let place = self.put_new(draft, k, sign)?;
-        self.memo[at] = place;
+        self.memo[at] = Some(place);
         Ok(place)
     }
 
@@ -206,7 +204,7 @@ impl Written {
         let mut written = Written {
             words: [0; MOST_ROWS],
             count: 0,
-            memo: [NO_PLACE; SLOTS],
+            memo: [None; SLOTS],
         };
         if some_inclusion(draft) {
             for k in 0..rows {

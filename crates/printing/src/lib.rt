@@ -169,7 +169,7 @@ impl<'a> Text<'a> {
         }
     }
 
-    // Writes the lines of the first `count` links.
+    // Writes the lines of the first `count` links. One function for this and `element_lines` would take the line's method as a closure, and be longer.
     fn link_lines(&mut self, links: &[u8], count: u32)
         requires { Countable self.old.at (35 * count) }
         ensures { Writes (35 * count) (Printed.link_lines links.now count) self.old self.new }
