@@ -191,10 +191,10 @@ module _ {ws : List ℕ} {w : Work} {c : Counts} {s : Sizes} {d x : ℕ} {w' : W
 
 -- both, by what the searches for the row and for the child answered
 pub row-turn : {ws : List ℕ} {w : Work} {c : Counts} {s : Sizes} {d x : ℕ} {w' : Work} {s' : Sizes} {k i : ℕ} (T : RowTurn ws w c s d x w' s' k i)
-    {at : ℕ} {v : Exist} → at ≡ node_size * x → NextExist (table_of ws) (set_of w'.nodes at) k (Some v) → {index y : ℕ}
+    {at : ℕ} (v : Exist) → at ≡ node_size * x → NextExist (table_of ws) (set_of w'.nodes at) k (Some v) → {index y : ℕ}
     → Answer w' c x i (Some (index, y))
     → Child T v.row v.role index y
-row-turn T p N M = row-child (row_next T p N) M
+row-turn T v p N M = row-child (row_next T p N) M
 
 -- ---- the child met
 

@@ -17,8 +17,9 @@ returns-in-Err c =
     let refused = reads-refused draft_kinds (wanted_rows c.args.draft.now) c.args.draft.now _ (ap numbered (sym c.in-Err.is) ∙ c.read.ensures) in
     converts-promise (numbers_as (refused-converts c.args.draft.now _ refused) (c.refused.ensures ∙ ap refused_numbers c.number.ensures))
 
-pub returns-in-Ok : goal.returns-in-Ok
-returns-in-Ok c = converts-promise (given-is c.convert_accepted.ensures c.in-Ok.is)
+pub returns-in-Ok-convert_accepted : goal.returns-in-Ok-convert_accepted
+returns-in-Ok-convert_accepted c = converts-promise (given-is c.convert_accepted.ensures c.in-Ok-convert_accepted.is)
 
-pub returns-in-Err : goal.returns-in-Err
-returns-in-Err c = converts-promise (numbers_as (given-is c.convert_accepted.ensures c.in-Err.is) c.refused-in-Err.ensures)
+pub returns-in-Err-convert_accepted : goal.returns-in-Err-convert_accepted
+returns-in-Err-convert_accepted c =
+    converts-promise (numbers_as (given-is c.convert_accepted.ensures c.in-Err-convert_accepted.is) c.refused-in-Err-convert_accepted.ensures)

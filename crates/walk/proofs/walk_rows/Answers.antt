@@ -24,20 +24,20 @@ pub overflow_add-next_row : goal.overflow_add-next_row
 overflow_add-next_row c = omega (arith, row_count_lem (row_next c.loop-exist.invariant c.node_set-set.ensures c.in-Some.ensures))
 
 pub overflow_add-from : goal.overflow_add-from
-overflow_add-from c = omega (arith, row-index (row-turn c.loop-exist.invariant c.node_set-set.ensures c.in-Some.ensures c.in-Some-next_child.ensures))
+overflow_add-from c = omega (arith, row-index (row-turn c.loop-exist.invariant _ c.node_set-set.ensures c.in-Some.ensures c.in-Some-next_child.ensures))
 
 pub descend-y-requires : goal.descend-y-requires
-descend-y-requires c = row-asks (row-turn c.loop-exist.invariant c.node_set-set.ensures c.in-Some.ensures c.in-Some-next_child.ensures)
+descend-y-requires c = row-asks (row-turn c.loop-exist.invariant _ c.node_set-set.ensures c.in-Some.ensures c.in-Some-next_child.ensures)
 
 pub meet-sizes-requires : goal.meet-sizes-requires
-meet-sizes-requires c = row-meets (row-turn c.loop-exist.invariant c.node_set-set.ensures c.in-Some.ensures c.in-Some-next_child.ensures) c.descend-y.ensures
+meet-sizes-requires c = row-meets (row-turn c.loop-exist.invariant _ c.node_set-set.ensures c.in-Some.ensures c.in-Some-next_child.ensures) c.descend-y.ensures
 
 pub loop-exist-smaller : goal.loop-exist-smaller
-loop-exist-smaller c = row-less (row-turn c.loop-exist.invariant c.node_set-set.ensures c.in-Some.ensures c.in-Some-next_child.ensures)
+loop-exist-smaller c = row-less (row-turn c.loop-exist.invariant _ c.node_set-set.ensures c.in-Some.ensures c.in-Some-next_child.ensures)
 
 pub loop-exist-preserved : goal.loop-exist-preserved
 loop-exist-preserved c =
-    row-met (row-turn c.loop-exist.invariant c.node_set-set.ensures c.in-Some.ensures c.in-Some-next_child.ensures) c.descend-y.ensures c.meet-sizes.ensures
+    row-met (row-turn c.loop-exist.invariant _ c.node_set-set.ensures c.in-Some.ensures c.in-Some-next_child.ensures) c.descend-y.ensures c.meet-sizes.ensures
 
 pub returns : goal.returns
 returns c = row-none c.loop-exist.invariant c.node_set-set.ensures (rw c.in_default.is at c.next_exist.ensures)
