@@ -44,7 +44,8 @@ pub struct Page {
 // "Refusal 17 .. is given if the area is shorter than the square".
 const TABLE_SHORT: u32 = 17;
 
-// "1 if an a that isn't a b cannot exist, 0 if it can, 2 if the work areas didn't suffice".
+// "1 if an a that isn't a b cannot exist, 0 if it can, 2 if the work areas didn't suffice". Numbers, as the one above: C reads them, in the table and in
+// `Page`. In the library they are a `Said`.
 const UNDER: u8 = 1;
 
 const NOT_UNDER: u8 = 0;
@@ -93,7 +94,7 @@ fn fill_row(
     }
 }
 
-// The table, "row after row".
+// The table, "row after row". Each row from its start on, and no chunks: there may be no column, and a chunk has at least one byte.
 pub fn fill(
     problem: &mut [u64],
     positives: &[u8],

@@ -49,7 +49,7 @@ pub fn ask_wanted(
     say(problem, nodes, edges, alternatives)
 }
 
-// The same with these rows as the rules, and no others.
+// The same with these rows as the rules, and no others. The two differ in the one call of the decoder's.
 pub fn ask_rules(
     problem: &mut [u64],
     rules: &[u8],

@@ -29,7 +29,8 @@ pub struct LinkMark {
     pub to: u16,
 }
 
-// 0, or one more than the number of the element that stands for state y.
+// 0, or one more than the number of the element that stands for state y: the number that the 2 bytes hold, which `number_in` is, and no Option.
+// Not one function with `load_state`, nor the stores below: each is one call at a place of its own, and its promise names its mark.
 #[tactic(auto, unfolding(crate::specs::Marks::number_in))]
 pub fn load_number(nodes: &[u8], y: usize) -> u16
     requires { Fits node_size nodes.now y }
