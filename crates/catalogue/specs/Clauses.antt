@@ -45,8 +45,8 @@ names_below t a = select (has_both t) (range 0 a)
 pub record Lists (t : Table) (names : List ℕ) (l : Listed) : Type 0 where
   pub names-are : l.names ≡ from_list names
   pub few : length names ≤ 64
-  pub positives-are : l.positives.items ≡ map (positive t) names
-  pub negatives-are : l.negatives.items ≡ map (negative t) names
+  pub positives-are : l.positives ≡ map (positive t) names
+  pub negatives-are : l.negatives ≡ map (negative t) names
 
 -- what is asked to list one name more, or to pass it over: all names below it are listed, and these are its rows
 pub record NameAsks (t : Table) (a : ℕ) (p n : Option ℕ) (l : Listed) : Type 0 where
@@ -58,8 +58,8 @@ pub record NameAsks (t : Table) (a : ℕ) (p n : Option ℕ) (l : Listed) : Type
 -- there is place for it
 pub record NameFits (a : ℕ) (l : Listed) : Type 0 where
   pub below : a < 64
-  pub positives : length l.positives.items < 64
-  pub negatives : length l.negatives.items < 64
+  pub positives : length l.positives < 64
+  pub negatives : length l.negatives < 64
 
 -- ---- an entry
 

@@ -16,7 +16,7 @@ use Rattle.catalogue.specs.Clauses.{Lists, ran_entry, FillAsks, FillGives}
 use Rattle.catalogue.specs.declared.Listed.{Listed}
 
 -- these rows are those of the listed names
-module _ {t : Table} {l : Listed} (L : Lists t (names t) l) {ps ns : List ℕ} (hp : ps ≡ l.positives.items) (hn : ns ≡ l.negatives.items) where
+module _ {t : Table} {l : Listed} (L : Lists t (names t) l) {ps ns : List ℕ} (hp : ps ≡ l.positives) (hn : ns ≡ l.negatives) where
   positives-named : ps ≡ map (positive t) (names t)
   positives-named = hp ∙ L.positives-are
 
@@ -42,15 +42,15 @@ module _ {t : Table} {l : Listed} (L : Lists t (names t) l) {ps ns : List ℕ} (
   negatives-length = ap length negatives-named ∙ length-map (names t) (negative t)
 
 -- how many there are
-pub positives-count : {t : Table} {l : Listed} → Lists t (names t) l → length l.positives.items ≡ length (names t)
+pub positives-count : {t : Table} {l : Listed} → Lists t (names t) l → length l.positives ≡ length (names t)
 positives-count L = positives-length L refl refl
 
-module _ (ws : List ℕ) {l : Listed} (L : Lists (table_of ws) (names (table_of ws)) l) {ps ns : List ℕ} (hp : ps ≡ l.positives.items)
-    (hn : ns ≡ l.negatives.items) where
+module _ (ws : List ℕ) {l : Listed} (L : Lists (table_of ws) (names (table_of ws)) l) {ps ns : List ℕ} (hp : ps ≡ l.positives)
+    (hn : ns ≡ l.negatives) where
   abbrev t : Table
   t = table_of ws
 
-  pub listed-fill : Decoded ws → {m : ℕ} {table : List ℕ} → m ≡ length l.positives.items → m * m ≤ length table → FillAsks ws ps ns table
+  pub listed-fill : Decoded ws → {m : ℕ} {table : List ℕ} → m ≡ length l.positives → m * m ≤ length table → FillAsks ws ps ns table
   listed-fill ok hm h = record {
     decoded = ok;
     positive = positives-serve L hp hn;

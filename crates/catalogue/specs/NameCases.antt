@@ -174,7 +174,7 @@ module _ (t : Table) (a : ℕ) where
   below_out e = below_next ∙ ap (λ (l : List ℕ). names_below t a ++ l) (select-out (has_both t) a [] e) ∙ append-nil (names_below t a)
 
 -- no name is below 0
-pub lists-none : (t : Table) (l : Listed) → l.names ≡ 0 → l.positives.items ≡ [] → l.negatives.items ≡ [] → Lists t (names_below t 0) l
+pub lists-none : (t : Table) (l : Listed) → l.names ≡ 0 → l.positives ≡ [] → l.negatives ≡ [] → Lists t (names_below t 0) l
 unfolding range select from_list
 lists-none t l e p n = record { names-are = e; few = omega arith; positives-are = p; negatives-are = n }
 
@@ -215,7 +215,7 @@ module _ {t : Table} {a : ℕ} {p n : Option ℕ} {l : Listed} (A : NameAsks t a
 
   -- with both it is listed
   pub name-listed : {x y : ℕ} → option_zip p n ≡ Some (x, y) → {l' : Listed} → l'.names ≡ insert a l.names
-      → l'.positives.items ≡ l.positives.items ++ x ∷ [] → l'.negatives.items ≡ l.negatives.items ++ y ∷ []
+      → l'.positives ≡ l.positives ++ x ∷ [] → l'.negatives ≡ l.negatives ++ y ∷ []
       → Lists t (names_below t (a + 1)) l'
   name-listed {x} {y} e {l'} bits ps ns =
       let (ep, en) = zip-some p n e in

@@ -90,7 +90,7 @@ module _ {b : Bytes} {l : Layout} (L : Laid rule_kinds b l) {ws : List ℕ} (F :
 
   module _ {k : Listed} (G : Lists (table_of ws) (names (table_of ws)) k) where
     -- the names of the words are the file's
-    count-is : length k.positives.items ≡ length (names t)
+    count-is : length k.positives ≡ length (names t)
     count-is = positives-count G ∙ ap (λ (u : Table). length (names u)) table_is
 
     names-are : k.names ≡ from_list (names t)
@@ -110,7 +110,7 @@ module _ {b : Bytes} {l : Layout} (L : Laid rule_kinds b l) {ws : List ℕ} (F :
       answer-by x e = catalogue-accepted b room (length before.table) L.file L.reads ∙ ap answer_if e
 
       -- so many are counted
-      module _ {m : ℕ} (hm : m ≡ length k.positives.items) where
+      module _ {m : ℕ} (hm : m ≡ length k.positives) where
         square : length (names t) * length (names t) ≡ m * m
         square = ap (λ (n : ℕ). n * n) (sym (hm ∙ count-is))
 
@@ -126,7 +126,7 @@ module _ {b : Bytes} {l : Layout} (L : Laid rule_kinds b l) {ws : List ℕ} (F :
 
         -- the runs filled the table, and then the work areas were cleared, each of which kept its length until then
         pub page-filled : {r : CatalogueNumbers} → r ≡ record { refusal = 0; count = m; names = k.names } → m * m ≤ length before.table
-            → {ps ns : List ℕ} → ps ≡ k.positives.items → ns ≡ k.negatives.items
+            → {ps ns : List ℕ} → ps ≡ k.positives → ns ≡ k.negatives
             → {ws' table' : List ℕ} → FillGives ws (capacity room) ps ns before.table ws' table'
             → {n e a : Bytes} {n₁ e₁ a₁ : ℕ} → n ≡ replicate n₁ 0 → n₁ ≡ length before.nodes → e ≡ replicate e₁ 0
             → e₁ ≡ length before.edges

@@ -12,7 +12,6 @@ ghost use Rattle.subsumption.specs.Catalogue.{areas_of, refusal_alone};
 ghost use Rattle.subsumption.specs.Promise.{CataloguePromise};
 ghost use Rattle.catalogue.specs.Clauses.{EntryAsks, EntryGives, RowAsks, RowGives, FillAsks, FillGives, numbers_of, Answered};
 
-use arrayvec::ArrayVec;
 use decoder::decode_file;
 use decoding::RULE_KINDS;
 use engine::asking::{Said, ask_wanted};
@@ -20,16 +19,19 @@ use names::listed;
 use problem::layout::WORDS;
 use reader::{Layout, read, wanted_of};
 use records::clear;
+use rows::Rows;
 
 pub mod names;
+
+pub mod rows;
 
 // The names with both a kind 1 and a kind 2 row: name n as bit n, and their rows in the order of names. Two vectors, and not one of pairs, since
 // the table is filled from the rows of its lines and those of its columns, which need not be as many (`fill`).
 #[derive(Drop)]
 pub struct Listed {
     pub names: u64,
-    pub positives: ArrayVec<u8, 64>,
-    pub negatives: ArrayVec<u8, 64>,
+    pub positives: Rows,
+    pub negatives: Rows,
 }
 
 // The answer: a refusal, or 0 if the table is filled; how many names are listed, and which, name n as bit n: both 0 with a refusal.

@@ -9,12 +9,12 @@ ghost use Rattle.subsumption.specs.Names.{names};
 ghost use Rattle.catalogue.specs.Clauses.{PlacesFrom, names_below, Lists, NameAsks, NameFits};
 
 use crate::Listed;
-use arrayvec::ArrayVec;
+use crate::rows::Rows;
 use decoding::kinds::{ATOMIC, NEGATED};
 use problem::{kind_at, left_at, row_count};
 
 // "name 0 to 63"
-const NAMES: usize = 64;
+pub const NAMES: usize = 64;
 
 // A row is put down for its name, if it is of the kind.
 fn put_place(problem: &[u64], kind: u8, k: usize, places: &mut [Option<u8>])
@@ -67,8 +67,8 @@ pub fn listed(problem: &[u64]) -> Listed
     let negatives = places(problem, NEGATED);
     let mut list = Listed {
         names: 0,
-        positives: ArrayVec::new(),
-        negatives: ArrayVec::new(),
+        positives: Rows::new(),
+        negatives: Rows::new(),
     };
     for name in 0..NAMES {
         list_name(&mut list, name, positives[name], negatives[name]);
