@@ -143,7 +143,7 @@ pub fn decode_file(file: &[u8], layout: Layout, wanted: &[u8], out: &mut [u64])
     decode(rows, rules, wanted, out);
 }
 
-// The rows of a list are wanted, and no others.
+// The rows of a list are wanted, and no others. Not one function with `impose`: each is one call, and promises something else of the problem.
 pub fn want(problem: &mut [u64], rows: &[u8])
     requires { Decoded problem.old × AllServe (table_of problem.old) rows.now }
     ensures { Poses (with_wanted (from_list rows.now) (problem_of problem.old)) problem.new }
