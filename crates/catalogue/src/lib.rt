@@ -22,7 +22,6 @@ use records::clear;
 use rows::Rows;
 
 pub mod names;
-
 pub mod rows;
 
 // The names with both a kind 1 and a kind 2 row: name n as bit n, and their rows in the order of names. Two vectors, and not one of pairs, since
@@ -191,13 +190,6 @@ pub fn classify(
 {
     match read(file, RULE_KINDS) {
         Err(refusal) => refused(refusal.number() as u32),
-        Ok(layout) => classify_accepted(
-            file,
-            layout,
-            nodes,
-            edges,
-            alternatives,
-            table,
-        ),
+        Ok(layout) => classify_accepted(file, layout, nodes, edges, alternatives, table),
     }
 }

@@ -77,7 +77,17 @@ fn put_successors(
         k = exist.row + 1;
         let mut kit = [0u8; SET_BYTES];
         successor(problem, nodes, set, exist.role, exist.argument, &mut kit, 0);
-        cur = put(problem, nodes, edges, alternatives, cur, x, x, exist.role, &kit)?;
+        cur = put(
+            problem,
+            nodes,
+            edges,
+            alternatives,
+            cur,
+            x,
+            x,
+            exist.role,
+            &kit,
+        )?;
     }
     Ok(cur)
 }
