@@ -175,7 +175,12 @@ fn repeated(file: &[u8], k: usize) -> bool
     requires { Parted file.now × (k < Format.row_count file.now) }
     ensures { result ≡ Format.repeated file.now k }
 {
-    (0..k).any(|j| same_row(file, k, j))
+    for j in 0..k {
+        if same_row(file, k, j) {
+            return true;
+        }
+    }
+    false
 }
 
 // Whether some row is malformed: check 5.
