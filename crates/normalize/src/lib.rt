@@ -207,7 +207,8 @@ impl Written {
         }
     }
 
-    // Writes the inclusions of a draft of so many rows, in their order, and no other row. Most drafts have none.
+    // Writes the inclusions of a draft of so many rows, in their order, and no other row. Most drafts have none. In place:
+    // a `Written` that is answered is copied.
     pub fn keep_inclusions(&mut self, draft: &[u8], rows: usize)
         requires { KeepAsks draft.now rows self.old }
         ensures { KeepGives draft.now self.old self.new }

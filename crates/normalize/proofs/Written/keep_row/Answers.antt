@@ -22,8 +22,8 @@ bounds-self-n c = omega (arith, kept-room c.requires.0 c.requires.1, c.requires.
 pub returns-then-row_byte-eq-INCLUSION : goal.returns-then-row_byte-eq-INCLUSION
 returns-then-row_byte-eq-INCLUSION c = (
   kept_row c.requires.0 c.requires.1 c.row_byte.ensures c.if-row_byte-eq-INCLUSION.true c.row_byte-then-row_byte-eq-INCLUSION.ensures
-  c.row_byte-then-row_byte-eq-INCLUSION-2.ensures (search rules) (search rules)
-  c.row_word.ensures,
+      c.row_byte-then-row_byte-eq-INCLUSION-2.ensures (search rules) (search rules)
+      c.row_word.ensures,
   refl,
 )
 
