@@ -170,12 +170,18 @@ fn same_row(file: &[u8], j: usize, k: usize) -> bool
                 & (row_byte(file, j, 3) == row_byte(file, k, 3))))
 }
 
-// Whether a lower row has the four bytes of row k.
+// Whether a lower row has the four bytes of row k. As an `any` over the lower rows each of them took eight instructions in place of five, which a file of
+// 64 rows pays two thousand times.
 fn repeated(file: &[u8], k: usize) -> bool
     requires { Parted file.now × (k < Format.row_count file.now) }
     ensures { result ≡ Format.repeated file.now k }
 {
-    (0..k).any(|j| same_row(file, k, j))
+    for j in 0..k {
+        if same_row(file, k, j) {
+            return true;
+        }
+    }
+    false
 }
 
 // Whether some row is malformed: check 5.

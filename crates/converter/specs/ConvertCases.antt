@@ -35,7 +35,7 @@ use Rattle.normalize.specs.Words.{row_in}
 use Rattle.normalize.specs.WordLaws.{own-parts, length-rows_in, concept_at-rows_in}
 use Rattle.normalize.specs.Shapes.{table_of}
 use Rattle.normalize.specs.ShapeLaws.{draft-parted, draft-ordered, draft-rows}
-use Rattle.normalize.specs.Clauses.{Draft, rows_of, ListAsks, ListGives, KeepAsks, KeepGives}
+use Rattle.normalize.specs.Clauses.{Draft, rows_of, ListAsks, ListGives, nothing_written, KeepAsks, KeepGives}
 use Rattle.normalize.specs.PutCases.{remembers-none}
 use Rattle.normalize.specs.declared.Written.{Written}
 use Rattle.normalize.specs.declared.TooLarge.{TooLarge}
@@ -84,17 +84,17 @@ module _ {b : Bytes} {l : Layout} (L : Laid draft_kinds b l) where
   abbrev kit_places : PutList
   kit_places = put_list (table_of b) (wanted_rows b) rule_places.rows
 
-  pub inclusions-asks : KeepAsks b l.rows
-  inclusions-asks = record { draft = laid-draft; rows = ap (λ (x : Layout). x.rows) (laid-placed L).layout }
+  pub inclusions-asks : {w : Written} → w ≡ nothing_written → KeepAsks b l.rows w
+  inclusions-asks e = record { draft = laid-draft; rows = ap (λ (x : Layout). x.rows) (laid-placed L).layout; size = ap (λ (x : Written). length x.words) e }
 
-  module _ {list : List ℕ} (is-rules : list ≡ rules b) {w₀ : Written} (I : KeepGives b w₀) (places : List ℕ) (room : length places ≡ most_rules) where
+  module _ {list : List ℕ} (is-rules : list ≡ rules b) {w w₀ : Written} (at-first : w ≡ nothing_written) (I : KeepGives b w w₀) (places : List ℕ) (room : length places ≡ most_rules) where
     pub rules-asks : ListAsks b list w₀ places
     rules-asks = record {
       draft = laid-draft;
       listed = λ k m. omega (arith, laid-admitted.well_formed.rule_rows k (subst (λ (ks : List ℕ). Memᴰ k ks) is-rules m), draft-rows laid-draft);
       idle = λ k m. laid-admitted.well_formed.serving k (as_rule (subst (λ (ks : List ℕ). Memᴰ k ks) is-rules m));
       held = I.held;
-      remembered = rw I.nothing_put (remembers-none (rows_of w₀) (draft-parted laid-draft).few_rows);
+      remembered = rw (I.memo_is, at-first) (remembers-none (rows_of w₀) (draft-parted laid-draft).few_rows);
       room = omega (arith, ap length is-rules, laid-admitted.few_rules);
     }
 

@@ -69,7 +69,8 @@ fn convert_accepted(draft: &[u8], layout: Layout, area: &mut [u8]) -> Result<u32
 {
     let mut rules = [0u8; MOST_RULES];
     let mut wanted = [0u8; 1];
-    let mut written = Written::keep_inclusions(draft, layout.rows);
+    let mut written = Written::new();
+    written.keep_inclusions(draft, layout.rows);
     written.put_list(draft, rules_of(draft, layout), &mut rules)?;
     written.put_list(draft, wanted_of(draft), &mut wanted)?;
     finish(draft, layout, &written, &rules, wanted[0], area)

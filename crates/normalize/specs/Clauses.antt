@@ -107,21 +107,25 @@ pub record ListGives (b list : List ℕ) (w w' : Written) (places places' : List
 
 -- ---- the inclusions
 
-pub record KeepAsks (b : Bytes) (count : ℕ) : Type 0 where
+-- what is written at first
+abbrev pub nothing_written : Written
+nothing_written = record { words = replicate most_rows 0; count = 0; memo = replicate slots None }
+
+pub record KeepAsks (b : Bytes) (count : ℕ) (w : Written) : Type 0 where
   pub draft : Draft b
   pub rows : count ≡ row_count b
+  pub size : length w.words ≡ most_rows
 
--- the words hold those among the first k rows, and no place is remembered
+-- the words hold those among the first k rows
 pub record Kept (b : Bytes) (k : ℕ) (w : Written) : Type 0 where
   pub draft : Draft b
   pub within : k ≤ row_count b
   pub few : w.count ≤ k
   pub held : Held w.words w.count
   pub rows : rows_of w ≡ inclusion_rows (take k (table_of b))
-  pub nothing_put : w.memo ≡ replicate slots None
 
--- the words hold those of the draft, and no place is remembered
-pub record KeepGives (b : Bytes) (w : Written) : Type 0 where
-  pub held : Held w.words w.count
-  pub rows : rows_of w ≡ inclusion_rows (table_of b)
-  pub nothing_put : w.memo ≡ replicate slots None
+-- the words hold those of the draft, and the same places are remembered
+pub record KeepGives (b : Bytes) (w w' : Written) : Type 0 where
+  pub held : Held w'.words w'.count
+  pub rows : rows_of w' ≡ inclusion_rows (table_of b)
+  pub memo_is : w'.memo ≡ w.memo

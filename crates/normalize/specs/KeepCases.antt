@@ -1,7 +1,7 @@
 -- The ways through the functions that write the inclusions of a draft, on plain values.
 --
 -- In order: no row yet; a draft without an inclusion; a row that is an inclusion; a row that is none; all rows.
-use Rattle.std.specs.Prelude.{◌≡◌, refl, Bool, false, not, ℕ, ◌+◌, ◌*◌, ◌≤◌, ◌<◌, T, eqb, length, get_or, set, replicate, None}
+use Rattle.std.specs.Prelude.{◌≡◌, refl, Bool, false, not, ℕ, ◌+◌, ◌*◌, ◌≤◌, ◌<◌, T, eqb, length, get_or, set}
 use Rattle.std.proofs.Math.Path.{sym, ap}
 use Rattle.std.proofs.Common.{◌∙◌, subst, add-one, arith, take-suc, take_all}
 use mathlib.Core.List.{List, [], ◌∷◌, ◌++◌, append-nil, Memᴰ}
@@ -19,28 +19,27 @@ use Rattle.drafts.specs.Normalize.{inclusion_rows}
 use Rattle.normalize.specs.declared.Written.{Written}
 use Rattle.normalize.specs.Words.{rows_in, Held}
 use Rattle.normalize.specs.WordLaws.{inclusion-row, rows_in-more, held_more}
-use Rattle.normalize.specs.Shapes.{table_of, slots}
+use Rattle.normalize.specs.Shapes.{table_of}
 use Rattle.normalize.specs.ShapeLaws.{draft-parted, draft-rows, parts_at}
 use Rattle.normalize.specs.Clauses.{KeepAsks, Kept, KeepGives}
 
 -- ---- no row yet
 
--- what is written at first
-abbrev pub none-written : Written
-none-written = record { words = replicate most_rows 0; count = 0; memo = replicate slots None }
+-- with the count at 0
+abbrev emptied : Written → Written
+emptied w = record { words = w.words; count = 0; memo = w.memo }
 
-none-held : Held none-written.words 0
-none-held = record { size = refl; few = omega arith; own = λ i h. absurd (omega (arith, h)) }
+none-held : {ws : List ℕ} → length ws ≡ most_rows → Held ws 0
+none-held e = record { size = e; few = omega arith; own = λ i h. absurd (omega (arith, h)) }
 
-pub kept-none : {b : Bytes} {count : ℕ} → KeepAsks b count → Kept b 0 none-written
+pub kept-none : {b : Bytes} {count : ℕ} {w : Written} → KeepAsks b count w → Kept b 0 (emptied w)
 unfolding rows_in range inclusion_rows select
 kept-none A = record {
   draft = A.draft;
   within = omega arith;
   few = omega arith;
-  held = none-held;
+  held = none-held A.size;
   rows = refl;
-  nothing_put = refl;
 }
 
 -- ---- a draft without an inclusion
@@ -50,11 +49,11 @@ unfolding select
 none-selected f [] n = refl
 none-selected f (x ∷ xs) n = select-out f x xs (as-false (f x) (n x (Memᴰ.head refl))) ∙ none-selected f xs (λ y m. n y (Memᴰ.tail m))
 
-pub kept-without : {b : Bytes} {count : ℕ} → KeepAsks b count → some_inclusion b ≡ false → KeepGives b none-written
+pub kept-without : {b : Bytes} {count : ℕ} {w : Written} → KeepAsks b count w → some_inclusion b ≡ false → KeepGives b w (emptied w)
 unfolding rows_in range inclusion_rows
 kept-without {b} A e = record {
-  held = none-held;
-  nothing_put = refl;
+  held = none-held A.size;
+  memo_is = refl;
   rows = sym (none-selected is_inclusion (table_of b) (λ c m. no_row c (mem-get_or (table_of b) c (atomic 0) m)));
 }
   where
@@ -100,7 +99,6 @@ module _ {b : Bytes} {k : ℕ} {w : Written} (K : Kept b k w) where
           within = omega arith;
           few = omega (arith, K.few);
           held = held_more w.words w.count word K.held (omega (arith, kept-room, K.held.size)) R.own;
-          nothing_put = K.nothing_put;
           rows = rows_in-more w.words w.count word kept-room ∙ rw (R.row, K.rows, next-rows, passes, row);
         }
 
@@ -114,16 +112,15 @@ module _ {b : Bytes} {k : ℕ} {w : Written} (K : Kept b k w) where
           within = omega arith;
           few = omega (arith, K.few);
           held = K.held;
-          nothing_put = K.nothing_put;
           rows = K.rows ∙ sym (next-rows ∙ rw (select-fail is_inclusion (concept_at t k) (from_false _ (by_kind ∙ other)))
               (append-nil (inclusion_rows (take k t))));
         }
 
   -- ---- all rows
 
-  pub kept-all : {count : ℕ} → count ≡ row_count b → count ≤ k → KeepGives b w
-  kept-all e h = record {
+  pub kept-all : {count : ℕ} {w₀ : Written} → count ≡ row_count b → count ≤ k → w.memo ≡ w₀.memo → KeepGives b w₀ w
+  kept-all e h same = record {
     held = K.held;
-    nothing_put = K.nothing_put;
+    memo_is = same;
     rows = K.rows ∙ ap inclusion_rows (take_all k t (omega (arith, draft-rows K.draft)));
   }

@@ -8,7 +8,7 @@ ghost use Rattle.std.specs.Prelude.{◌≡◌, ◌+◌, ◌*◌, ◌≤◌, ◌<
 ghost use Rattle.concepts.specs.Concept.{NoInclusion};
 ghost use Rattle.rulefile.specs.Format.{row_count, most_rows};
 ghost use Rattle.normalize.specs.Shapes.{table_of, written_kind, ShapeAt, slots, slot_of};
-ghost use Rattle.normalize.specs.Clauses.{Draft, ShareAsks, SharesRow, PutAsks, PutGives, ListAsks, ListGives, KeepAsks, Kept, KeepGives};
+ghost use Rattle.normalize.specs.Clauses.{Draft, ShareAsks, SharesRow, PutAsks, PutGives, ListAsks, ListGives, nothing_written, KeepAsks, Kept, KeepGives};
 
 use checks::inclusions::some_inclusion;
 use checks::row_byte;
@@ -104,6 +104,17 @@ pub struct Written {
 }
 
 impl Written {
+    // No row, and no place that is remembered.
+    pub fn new() -> Written
+        ensures { result ≡ nothing_written }
+    {
+        Written {
+            words: [0; MOST_ROWS],
+            count: 0,
+            memo: [None; SLOTS],
+        }
+    }
+
     // The words.
     pub fn rows(&self) -> &[u32]
         requires { self.now.count ≤ length self.now.words }
@@ -187,7 +198,7 @@ impl Written {
     // Writes row k of the draft, if it is an inclusion.
     fn keep_row(&mut self, draft: &[u8], k: usize)
         requires { Kept draft.now k self.old × (k < row_count draft.now) }
-        ensures { Kept draft.now (k + 1) self.new }
+        ensures { Kept draft.now (k + 1) self.new × (self.new.memo ≡ self.old.memo) }
     {
         if row_byte(draft, k, 0) == INCLUSION {
             let n = self.count;
@@ -196,21 +207,17 @@ impl Written {
         }
     }
 
-    // The inclusions of a draft of so many rows, in their order, and nothing else. Most drafts have none.
-    pub fn keep_inclusions(draft: &[u8], rows: usize) -> Written
-        requires { KeepAsks draft.now rows }
-        ensures { KeepGives draft.now result }
+    // Writes the inclusions of a draft of so many rows, in their order, and no other row. Most drafts have none. In place:
+    // a `Written` that is answered is copied.
+    pub fn keep_inclusions(&mut self, draft: &[u8], rows: usize)
+        requires { KeepAsks draft.now rows self.old }
+        ensures { KeepGives draft.now self.old self.new }
     {
-        let mut written = Written {
-            words: [0; MOST_ROWS],
-            count: 0,
-            memo: [None; SLOTS],
-        };
+        self.count = 0;
         if some_inclusion(draft) {
             for k in 0..rows {
-                written.keep_row(draft, k);
+                self.keep_row(draft, k);
             }
         }
-        written
     }
 }

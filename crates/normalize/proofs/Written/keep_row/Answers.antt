@@ -2,6 +2,7 @@
 -- Assumes nothing.
 use native.Mathlib.Omega.{arith}
 use borrow.Author.Rules.{rules}
+use mathlib.Core.Path.{refl}
 use Rattle.normalize.specs.ShapeLaws.{draft-parted}
 use Rattle.normalize.specs.KeepCases.{kept-room, kept_row, kept-other}
 use Rattle.normalize.proofs.Written.keep_row.Goals as goal
@@ -19,10 +20,12 @@ pub bounds-self-n : goal.bounds-self-n
 bounds-self-n c = omega (arith, kept-room c.requires.0 c.requires.1, c.requires.0.held.size)
 
 pub returns-then-row_byte-eq-INCLUSION : goal.returns-then-row_byte-eq-INCLUSION
-returns-then-row_byte-eq-INCLUSION c =
-    kept_row c.requires.0 c.requires.1 c.row_byte.ensures c.if-row_byte-eq-INCLUSION.true c.row_byte-then-row_byte-eq-INCLUSION.ensures
-    c.row_byte-then-row_byte-eq-INCLUSION-2.ensures (search rules) (search rules)
-    c.row_word.ensures
+returns-then-row_byte-eq-INCLUSION c = (
+  kept_row c.requires.0 c.requires.1 c.row_byte.ensures c.if-row_byte-eq-INCLUSION.true c.row_byte-then-row_byte-eq-INCLUSION.ensures
+      c.row_byte-then-row_byte-eq-INCLUSION-2.ensures (search rules) (search rules)
+      c.row_word.ensures,
+  refl,
+)
 
 pub returns-else-row_byte-eq-INCLUSION : goal.returns-else-row_byte-eq-INCLUSION
-returns-else-row_byte-eq-INCLUSION c = kept-other c.requires.0 c.requires.1 c.row_byte.ensures c.if-row_byte-eq-INCLUSION.false
+returns-else-row_byte-eq-INCLUSION c = (kept-other c.requires.0 c.requires.1 c.row_byte.ensures c.if-row_byte-eq-INCLUSION.false, refl)
