@@ -23,13 +23,13 @@ module _ {t : Table} {l : Listed} (L : Lists t (names t) l) {ps ns : List ℕ} (
   negatives-named : ns ≡ map (negative t) (names t)
   negatives-named = hn ∙ L.negatives-are
 
-  positives-serve : AllServe t ps
+  pub positives-serve : AllServe t ps
   positives-serve k m =
       let (a, i, e) = map-mem (positive t) (names t) k (rw positives-named at m) in
       let (h, c) = names-positive t a i in
       rw e (h, rw c tt)
 
-  negatives-serve : AllServe t ns
+  pub negatives-serve : AllServe t ns
   negatives-serve k m =
       let (a, i, e) = map-mem (negative t) (names t) k (rw negatives-named at m) in
       let (h, c) = names-negative t a i in
@@ -44,6 +44,9 @@ module _ {t : Table} {l : Listed} (L : Lists t (names t) l) {ps ns : List ℕ} (
 -- how many there are
 pub positives-count : {t : Table} {l : Listed} → Lists t (names t) l → length l.positives ≡ length (names t)
 positives-count L = positives-length L refl refl
+
+pub negatives-count : {t : Table} {l : Listed} → Lists t (names t) l → length l.negatives ≡ length (names t)
+negatives-count L = negatives-length L refl refl
 
 module _ (ws : List ℕ) {l : Listed} (L : Lists (table_of ws) (names (table_of ws)) l) {ps ns : List ℕ} (hp : ps ≡ l.positives)
     (hn : ns ≡ l.negatives) where

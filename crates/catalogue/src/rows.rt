@@ -50,6 +50,6 @@ impl Rows {
     pub fn len(&self) -> usize
         ensures { result ≡ length self.now }
     {
-        self.count
+        self.as_slice().len()
     }
 }

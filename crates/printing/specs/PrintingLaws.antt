@@ -34,7 +34,7 @@ module _ {most : ℕ} {text out : Bytes} {at : ℕ} {out' : Bytes} {next : ℕ} 
   wrote-size = ap length w.stored ∙ length-sets out at text
 
   -- the same text by another name
-  wrote_as : {text' : Bytes} {most' : ℕ} → text ≡ text' → most ≤ most' → Wrote most' text' out at out' next
+  pub wrote_as : {text' : Bytes} {most' : ℕ} → text ≡ text' → most ≤ most' → Wrote most' text' out at out' next
   wrote_as e h = record {
     stored = w.stored ∙ ap (sets out at) e;
     after = w.after ∙ ap (λ (b : Bytes). at + length b) e;
