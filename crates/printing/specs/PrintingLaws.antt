@@ -29,7 +29,23 @@ sets-append : (out : Bytes) (at : ℕ) (xs ys : Bytes) → sets out at (xs ++ ys
 sets-append out at [] ys = ap (λ (k : ℕ). sets out k ys) (omega arith)
 sets-append out at (x ∷ xs) ys = sets-append (set out at x) (suc at) xs ys ∙ ap (λ (k : ℕ). sets (sets (set out at x) (suc at) xs) k ys) (omega arith)
 
+-- nothing written yet
+pub wrote_nothing : (out : Bytes) (at : ℕ) → Wrote 0 [] out at out at
+wrote_nothing out at = record { stored = refl; after = omega arith; bounded = omega arith }
+
 module _ {most : ℕ} {text out : Bytes} {at : ℕ} {out' : Bytes} {next : ℕ} (w : Wrote most text out at out' next) where
+  -- one piece right after another
+  pub wrote_then : {more : ℕ} {text' out'' : Bytes} {next' : ℕ} → Wrote more text' out' next out'' next'
+      → Wrote (most + more) (text ++ text') out at out'' next'
+  wrote_then {more} {text'} {out''} {next'} v = record {
+    stored =
+        v.stored ∙ ap (λ (b : Bytes). sets b next text') w.stored
+        ∙ ap (λ (k : ℕ). sets (sets out at text) k text') w.after
+        ∙ sym (sets-append out at text text');
+    after = simp length-append (omega (arith, w.after, v.after));
+    bounded = simp length-append (omega (arith, w.bounded, v.bounded));
+  }
+
   pub wrote-size : length out' ≡ length out
   wrote-size = ap length w.stored ∙ length-sets out at text
 
@@ -41,24 +57,13 @@ module _ {most : ℕ} {text out : Bytes} {at : ℕ} {out' : Bytes} {next : ℕ} 
     bounded = omega (arith, w.bounded, ap length e);
   }
 
--- nothing written yet
+-- the same of a text
 pub writes_nothing : (t : Text) → Writes 0 [] t t
-writes_nothing t = record { wrote = record { stored = refl; after = omega arith; bounded = omega arith }; same_reference = refl }
+writes_nothing t = record { wrote = wrote_nothing t.out.now t.at; same_reference = refl }
 
 module _ {most : ℕ} {text : Bytes} {t t₁ : Text} (w : Writes most text t t₁) where
-  -- one piece right after another
   pub writes_then : {more : ℕ} {text' : Bytes} {t₂ : Text} → Writes more text' t₁ t₂ → Writes (most + more) (text ++ text') t t₂
-  writes_then {more} {text'} {t₂} v = record {
-    wrote = record {
-      stored =
-          v.wrote.stored ∙ ap (λ (b : Bytes). sets b t₁.at text') w.wrote.stored
-          ∙ ap (λ (k : ℕ). sets (sets t.out.now t.at text) k text') w.wrote.after
-          ∙ sym (sets-append t.out.now t.at text text');
-      after = simp length-append (omega (arith, w.wrote.after, v.wrote.after));
-      bounded = simp length-append (omega (arith, w.wrote.bounded, v.wrote.bounded));
-    };
-    same_reference = v.same_reference ∙ w.same_reference;
-  }
+  writes_then v = record { wrote = wrote_then w.wrote v.wrote; same_reference = v.same_reference ∙ w.same_reference }
 
   pub writes_as : {text' : Bytes} {most' : ℕ} → text ≡ text' → most ≤ most' → Writes most' text' t t₁
   writes_as e h = record { wrote = wrote_as w.wrote e h; same_reference = w.same_reference }
