@@ -2,7 +2,7 @@
 --
 -- In order: answers by their names; a draft that passed the checks; its inclusions, its rules and its wanted row, put one after the other; too many rows;
 -- the file's bytes; a file that does not fit, or does; the call.
-use Rattle.std.specs.Prelude.{◌≡◌, true, false, ◌||◌, ℕ, ◌+◌, ◌*◌, ◌≤◌, ◌<◌, ltb, Result, Ok, Err, IsErr}
+use Rattle.std.specs.Prelude.{◌≡◌, true, false, ◌||◌, ℕ, ◌+◌, ◌*◌, ◌≤◌, ◌<◌, ltb, replicate, None, Result, Ok, Err, IsErr}
 use Rattle.std.proofs.Math.Path.{refl, ap}
 use Rattle.std.proofs.Common.{sym, ◌∙◌, subst, length-take-le}
 use Rattle.std.proofs.lemmas.List.{get_or-take}
@@ -33,9 +33,9 @@ use Rattle.drafts.specs.Promise.{ConversionPromise}
 use Rattle.drafts.proofs.Kept.{conversion-refused, conversion-accepted, promise-kept}
 use Rattle.normalize.specs.Words.{row_in}
 use Rattle.normalize.specs.WordLaws.{own-parts, length-rows_in, concept_at-rows_in}
-use Rattle.normalize.specs.Shapes.{table_of}
+use Rattle.normalize.specs.Shapes.{table_of, slots}
 use Rattle.normalize.specs.ShapeLaws.{draft-parted, draft-ordered, draft-rows}
-use Rattle.normalize.specs.Clauses.{Draft, rows_of, ListAsks, ListGives, nothing_written, KeepAsks, KeepGives}
+use Rattle.normalize.specs.Clauses.{Draft, rows_of, ListAsks, ListGives, KeepAsks, KeepGives}
 use Rattle.normalize.specs.PutCases.{remembers-none}
 use Rattle.normalize.specs.declared.Written.{Written}
 use Rattle.normalize.specs.declared.TooLarge.{TooLarge}
@@ -84,12 +84,14 @@ module _ {b : Bytes} {l : Layout} (L : Laid draft_kinds b l) where
   abbrev kit_places : PutList
   kit_places = put_list (table_of b) (wanted_rows b) rule_places.rows
 
-  pub inclusions-asks : {w : Written} → w ≡ nothing_written → KeepAsks b l.rows w
-  inclusions-asks e = record { draft = laid-draft; rows = ap (λ (x : Layout). x.rows) (laid-placed L).layout; size = ap (λ (x : Written). length x.words) e }
+  pub inclusions-asks : (w : Written) → length w.words ≡ most_rows → KeepAsks b l.rows w
+  inclusions-asks w words = record { draft = laid-draft; rows = ap (λ (x : Layout). x.rows) (laid-placed L).layout; size = words }
 
-  module _ {list : List ℕ} (is-rules : list ≡ rules b) {w w₀ : Written} (at-first : w ≡ nothing_written) (I : KeepGives b w w₀) (places : List ℕ) (room : length places ≡ most_rules) where
-    pub rules-asks : ListAsks b list w₀ places
-    rules-asks = record {
+  module _ {list : List ℕ} (is-rules : list ≡ rules b) {w w₀ : Written} (I : KeepGives b w w₀) (places : List ℕ)
+      (room : length places ≡ most_rules) where
+    -- no place is remembered yet
+    pub rules-asks : w.memo ≡ replicate slots None → ListAsks b list w₀ places
+    rules-asks at-first = record {
       draft = laid-draft;
       listed = λ k m. omega (arith, laid-admitted.well_formed.rule_rows k (subst (λ (ks : List ℕ). Memᴰ k ks) is-rules m), draft-rows laid-draft);
       idle = λ k m. laid-admitted.well_formed.serving k (as_rule (subst (λ (ks : List ℕ). Memᴰ k ks) is-rules m));

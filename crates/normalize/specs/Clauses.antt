@@ -1,7 +1,7 @@
 -- What the functions that put rows ask and give. Laws are in PutCases and ListCases.
 --
 -- In order: a draft; places that are remembered; what is written; a row that is shared; a row with all that it needs; a list of rows; the inclusions.
-use Rattle.std.specs.Prelude.{◌≡◌, ℕ, ◌≤◌, ◌<◌, length, get_or, take, replicate, Option, None, Some, Result, Ok, Err}
+use Rattle.std.specs.Prelude.{◌≡◌, ℕ, ◌≤◌, ◌<◌, length, get_or, take, replicate, Option, None, Some, Result, Ok, Err, OnErr}
 use mathlib.Core.List.{List, Memᴰ}
 use Rattle.concepts.specs.Lists.{Bytes}
 use Rattle.concepts.specs.Begins.{Begins}
@@ -104,6 +104,8 @@ pub record ListGives (b list : List ℕ) (w w' : Written) (places places' : List
   pub size : length w'.words ≡ most_rows
   pub place_size : length places' ≡ length places
   pub got : ListGot b (put_list (table_of b) list (rows_of w)) (length list) w' places' r
+  -- after a refusal the count is as it was
+  pub kept : OnErr r (w'.count ≡ w.count)
 
 -- ---- the inclusions
 

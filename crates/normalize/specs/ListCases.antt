@@ -1,7 +1,7 @@
 -- The ways through the loop that puts a list of rows, on plain values.
 --
 -- In order: how far the loop has come (`Course`); its start; the next row; a turn; a turn that finds no place; its end.
-use Rattle.std.specs.Prelude.{◌≡◌, refl, ℕ, suc, ◌+◌, ◌≤◌, ◌<◌, get_or, set, Result, Ok, Err, IsErr}
+use Rattle.std.specs.Prelude.{◌≡◌, refl, ℕ, suc, ◌+◌, ◌≤◌, ◌<◌, get_or, set, Ok, Err}
 use Rattle.std.proofs.Math.Path.{sym, ap}
 use Rattle.std.proofs.Common.{◌∙◌, add-one, arith, length-set, drop-cons, take-suc-set}
 use mathlib.Core.List.{List, [], ◌∷◌, ◌++◌, append-nil, append_assoc}
@@ -84,14 +84,14 @@ module _ {b list : List ℕ} {w₀ : Written} {places₀ : List ℕ} (A : ListAs
               (append_assoc (take i places) (p.at ∷ []) _ ∙ ap (λ (l : List ℕ). take i places ++ l) (sym rest-places) ∙ C.told);
         }
 
-        -- ---- no place
+        -- ---- no place: the count is as it was
 
-        pub course-full : {e : TooLarge} {r : Result (Unit {0}) TooLarge} → PutGives b w k as_is w' (Err e) → IsErr r → ListGives b list w₀ w' places₀ places r
-        course-full {r = Ok u} G q = absurd (cc)
-        course-full {r = Err f} G q =
+        pub course-full : {e f : TooLarge} → PutGives b w k as_is w' (Err e)
+            → ListGives b list w₀ (record { words = w'.words; count = w₀.count; memo = w'.memo }) places₀ places (Err f)
+        course-full G =
             let more = (put_list-grown t (draft-ordered A.draft) (drop (suc i) list) p.rows).more in
             let long : most_rows < length (put_list t (drop (suc i) list) p.rows).rows = omega (arith, G.gives, begins-length p.rows _ more) in
-            record { memo_size = G.memo_size; size = G.size; place_size = C.place_size; got = rw (sym rest-rows ∙ C.rows) at long }
+            record { memo_size = G.memo_size; size = G.size; place_size = C.place_size; got = rw (sym rest-rows ∙ C.rows) at long; kept = refl }
 
     -- ---- the end
 
@@ -112,4 +112,5 @@ module _ {b list : List ℕ} {w₀ : Written} {places₀ : List ℕ} (A : ListAs
                 ap (λ (j : ℕ). take j places) (sym whole) ∙ sym (append-nil (take i places))
                 ∙ ap (λ (ks : List ℕ). take i places ++ (put_list t ks (rows_of w)).places) (sym none) ∙ C.told;
           };
+          kept = tt;
         }

@@ -184,13 +184,20 @@ impl Written {
         Ok(place)
     }
 
-    // Puts the rows of a list, one after the other, and tells the place of each.
+    // Puts the rows of a list, one after the other, and tells the place of each. After a refusal the count is as it was.
     pub fn put_list(&mut self, draft: &[u8], list: &[u8], places: &mut [u8]) -> Result<(), TooLarge>
         requires { ListAsks draft.now list.now self.old places.old }
         ensures { ListGives draft.now list.now self.old self.new places.old places.new result }
     {
+        let count = self.count;
         for (i, k) in list.iter().enumerate() {
-            places[i] = self.put(draft, *k as usize, true)?;
+            match self.put(draft, *k as usize, true) {
+                Ok(place) => places[i] = place,
+                Err(TooLarge) => {
+                    self.count = count;
+                    return Err(TooLarge);
+                }
+            }
         }
         Ok(())
     }

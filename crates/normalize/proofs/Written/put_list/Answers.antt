@@ -5,12 +5,11 @@ use Rattle.normalize.proofs.Written.put_list.Goals as goal
 pub put-requires : goal.put-requires
 put-requires c = course-asks c.requires c.loop-i.invariant c.loop-i-test.true
 
-pub returns-in_err-places : goal.returns-in_err-places
-returns-in_err-places c =
-    course-full c.requires c.loop-i.invariant c.loop-i-test.true (gives_as c.put.ensures c.in_err-places.was) c.from_residual.ensures.0
+pub returns-in-Err : goal.returns-in-Err
+returns-in-Err c = course-full c.requires c.loop-i.invariant c.loop-i-test.true (gives_as c.put.ensures c.in-Err.is)
 
 pub loop-i-preserved : goal.loop-i-preserved
-loop-i-preserved c = course-more c.requires c.loop-i.invariant c.loop-i-test.true (gives_as c.put.ensures c.in_ok-places.was)
+loop-i-preserved c = course-more c.requires c.loop-i.invariant c.loop-i-test.true (gives_as c.put.ensures c.in-Ok.is)
 
 pub returns : goal.returns
 returns c = course-end c.requires c.loop-i.invariant c.loop-i-test.false
