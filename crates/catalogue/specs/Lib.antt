@@ -1,4 +1,6 @@
--- A catalogue: what its functions give (Clauses), the ways through them, and what the listed names give to whoever fills their table.
+-- A catalogue: the places of its rows (RowList), what its functions give (Clauses), the ways through them, and what the listed names give to whoever
+-- fills their table.
+pub mod RowList
 pub mod Clauses
 pub mod NameCases
 pub mod EntryCases

@@ -26,7 +26,7 @@ pub mod rows;
 
 // The names with both a kind 1 and a kind 2 row: name n as bit n, and their rows in the order of names. Two vectors, and not one of pairs, since
 // the table is filled from the rows of its lines and those of its columns, which need not be as many (`fill`).
-#[derive(Drop)]
+#[derive(Clone, Copy)]
 pub struct Listed {
     pub names: u64,
     pub positives: Rows,
