@@ -69,6 +69,17 @@ module _ {up_to : ℕ → Bytes} {count : ℕ} {area : Bytes} {at : ℕ} where
     pub stored-all : count ≤ i → area' ≡ sets area at (up_to count)
     stored-all h = s.here ∙ ap (λ (k : ℕ). sets area at (up_to k)) (omega (arith, s.within))
 
+-- a byte more is copied
+pub stored-byte : (bytes : Bytes) {area area' area'' : Bytes} {at i : ℕ} → Stored (λ k. take k bytes) (length bytes) area at area' i
+    → i < length bytes
+    → area'' ≡ set area' (at + i) (get_or bytes i 0) → Stored (λ k. take k bytes) (length bytes) area at area'' (i + 1)
+stored-byte bytes {i = i} s h next =
+    stored_more s (get_or bytes i 0 ∷ []) h (rw add-one (take-suc bytes i 0 h)) (omega (arith, length-take-le i bytes (omega arith))) next
+
+pub stored-copy : (bytes : Bytes) {area area' : Bytes} {at i : ℕ} → Stored (λ k. take k bytes) (length bytes) area at area' i → length bytes ≤ i
+    → area' ≡ sets area at bytes
+stored-copy bytes {area} {at = at} s h = stored-all s h ∙ ap (sets area at) (take-length bytes)
+
 -- the bytes of the first words
 abbrev pub first_words : List ℕ → ℕ → Bytes
 first_words ws i = words_bytes (take i ws)

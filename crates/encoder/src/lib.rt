@@ -10,12 +10,14 @@ ghost use Rattle.encoder.specs.Encoder.{word_bytes, words_bytes, trailer_bytes, 
 
 use rulefile::ROW;
 
-// Writes some bytes from place `at` on.
+// Writes some bytes from place `at` on. One by one: `copy_from_slice` needs `memmove` of whoever links the archive, and nothing else does.
 fn copy(area: &mut [u8], at: usize, bytes: &[u8])
     requires { at + length bytes.now ≤ length area.old }
     ensures { area.new ≡ sets area.old at bytes.now }
 {
-    area[at..at + bytes.len()].copy_from_slice(bytes);
+    for (i, byte) in bytes.iter().enumerate() {
+        area[at + i] = *byte;
+    }
 }
 
 // Writes the four bytes of a word, low byte first.

@@ -1,9 +1,18 @@
--- `encoder::copy` meets its contract: a part of the area that is written over holds the bytes.
--- Assumes nothing.
-use Rattle.std.proofs.Common.{arith}
-use Rattle.std.proofs.lemmas.Grind.{common_steps}
-use Rattle.std.proofs.lemmas.List.Edits.{sets-eq}
+use Rattle.std.proofs.Common.{refl, arith}
+use Rattle.encoder.specs.EncoderLaws.{stored-none, stored-size, stored-byte, stored-copy}
 use Rattle.encoder.proofs.copy.Goals as goal
 
+pub loop-i-init : goal.loop-i-init
+loop-i-init c = stored-none refl
+
+pub bounds-area-at : goal.bounds-area-at
+bounds-area-at c = omega (arith, stored-size c.loop-i.invariant)
+
+pub loop-i-preserved : goal.loop-i-preserved
+loop-i-preserved c = stored-byte _ c.loop-i.invariant (omega arith) (cc)
+
+pub shape_of-area : goal.shape_of-area
+shape_of-area c = stored-size c.loop-i.invariant
+
 pub returns : goal.returns
-returns c = let e = sets-eq c.args.bytes.now c.args.area.now c.args.at c.requires in grind (arith, common_steps, e, c.copy_from_slice.ensures.after)
+returns c = stored-copy _ c.loop-i.invariant (omega arith)
