@@ -151,15 +151,19 @@ fn classify_accepted(
 {
     let mut words = [0u64; WORDS];
     decode_file(file, layout, wanted_of(file), &mut words);
-    let list = listed(&words);
-    let count = list.positives.len();
+    let Listed {
+        names,
+        positives,
+        negatives,
+    } = listed(&words);
+    let count = positives.len();
     if table.len() < count * count {
         return refused(TABLE_SHORT);
     }
     fill(
         &mut words,
-        list.positives.as_slice(),
-        list.negatives.as_slice(),
+        positives.as_slice(),
+        negatives.as_slice(),
         nodes,
         edges,
         alternatives,
@@ -171,7 +175,7 @@ fn classify_accepted(
     Page {
         refusal: 0,
         count: count as u32,
-        names: list.names,
+        names,
     }
 }
 
