@@ -151,6 +151,7 @@ fn classify_accepted(
 {
     let mut words = [0u64; WORDS];
     decode_file(file, layout, wanted_of(file), &mut words);
+    // taken apart at once: kept as one value it is copied by `memcpy`, which the archive needs nowhere else
     let Listed {
         names,
         positives,

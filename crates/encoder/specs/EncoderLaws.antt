@@ -1,7 +1,7 @@
 -- Laws of Encoder.
 --
 -- In order: the bytes of words (`length-words_bytes`), and of words that are the rows of a table (`words_bytes-table`);
--- pieces stored one after another; a loop over pieces, and over words; the parts of a file (`sets-parts_bytes`).
+-- pieces stored one after another; a loop over pieces, of bytes and of words; the parts of a file (`sets-parts_bytes`).
 use Rattle.std.specs.Prelude.{◌≡◌, refl, List, [], ◌∷◌, ◌++◌, ℕ, suc, ◌+◌, ◌*◌, ◌≤◌, ◌<◌, length, get_or, take, drop, set}
 use Rattle.std.proofs.Common.{sym, ap, ap₂, ◌∙◌, append_assoc, add-one, arith, length-append, take-suc, length-take-le}
 use Rattle.std.proofs.lemmas.List.Edits.{sets, sets-eq}

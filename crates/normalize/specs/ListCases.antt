@@ -86,12 +86,12 @@ module _ {b list : List ℕ} {w₀ : Written} {places₀ : List ℕ} (A : ListAs
 
         -- ---- no place: the count is as it was
 
-        pub course-full : {e f : TooLarge} → PutGives b w k as_is w' (Err e)
-            → ListGives b list w₀ (record { words = w'.words; count = w₀.count; memo = w'.memo }) places₀ places (Err f)
-        course-full G =
+        pub course-full : {e f : TooLarge} {n : ℕ} → PutGives b w k as_is w' (Err e) → n ≡ w₀.count
+            → ListGives b list w₀ (record { words = w'.words; count = n; memo = w'.memo }) places₀ places (Err f)
+        course-full G same =
             let more = (put_list-grown t (draft-ordered A.draft) (drop (suc i) list) p.rows).more in
             let long : most_rows < length (put_list t (drop (suc i) list) p.rows).rows = omega (arith, G.gives, begins-length p.rows _ more) in
-            record { memo_size = G.memo_size; size = G.size; place_size = C.place_size; got = rw (sym rest-rows ∙ C.rows) at long; kept = refl }
+            record { memo_size = G.memo_size; size = G.size; place_size = C.place_size; got = rw (sym rest-rows ∙ C.rows) at long; kept = same }
 
     -- ---- the end
 

@@ -14,7 +14,10 @@ pub decode_file-requires : goal.decode_file-requires
 decode_file-requires c = (own-laid c.requires c.wanted_of.ensures.0, fresh-zeros _ refl)
 
 pub overflow_mul-count : goal.overflow_mul-count
-overflow_mul-count c = let few : c.len-count.result ≤ 64 = omega (arith, positives-count c.listed-names.ensures, c.listed-names.ensures.few, c.len-count.ensures) in omega (arith, mul-le-mul {n₂ = 64} {m₂ = 64} few few)
+overflow_mul-count c =
+    let listed = c.listed-names.ensures in
+    let few : c.len-count.result ≤ 64 = omega (arith, positives-count listed, listed.few, c.len-count.ensures) in
+    omega (arith, mul-le-mul {n₂ = 64} {m₂ = 64} few few)
 
 pub returns-then-table-count : goal.returns-then-table-count
 returns-then-table-count c =
